@@ -21,7 +21,7 @@ use Rattle.py_check_coercions.specs.Values.{coerced}
 use Rattle.py_check_coercions.specs.Rows.{Misfit, unfit, changed_row}
 use Rattle.py_check_calls.specs.declared.callees.Single.{Single}
 use Rattle.py_check_calls.specs.declared.callees.Single.TheVariants as one
-use Rattle.py_check_calls.specs.Callees.{Callee, function, print, input, range, single, method, unknown, voiceless, uncalled, value}
+use Rattle.py_check_calls.specs.Callees.{Callee, function, print, input, range, single, method, voiceless, uncalled, value}
 use Rattle.py_check_calls.specs.Builtins.{gives_value, as_value, unprintable, printed, print_call, input_call, the_only, single_takes, single_made, single_given, single_call}
 use Rattle.py_check_calls.specs.Methods.{item_of, method_row, pop_call, append_given, append_call, value_call, method_call}
 use Rattle.py_check_calls.specs.Calls.{arguments_row, no_keys, positional, refused, function_given, function_call, called}
@@ -271,7 +271,6 @@ module _ (m : TypedModule) (locals : List Variable) (init : Option ℕ) where
   called_sound w known span keyed (method f) (Some a) args k sp h =
       gives_rule (RowSound m locals init (method_row f (item_of (type_of a))) 0 known) (Sound m locals init w known) span (method_call m.classes.classes w span f a) (positional span keyed args) (keyless (RowSound m locals init (method_row f (item_of (type_of a))) 0 known) span keyed args h)
       (λ es q e g. method_sound w known span f a es e (sp a refl) q g)
-  called_sound w known span keyed (unknown place x) p args k sp h = gives_fails (Sound m locals init w known) place _
   called_sound w known span keyed voiceless p args k sp h = gives_silent (Sound m locals init w known)
   called_sound w known span keyed uncalled p args k sp h =
       gives_rule (RowSound m locals init (along []) 0 known) (Sound m locals init w known) span (refused Rattle.py_check_messages.specs.Messages.not_callable) (positional span keyed args) (keyless (RowSound m locals init (along []) 0 known) span keyed args h)
@@ -301,7 +300,6 @@ module _ (m : TypedModule) (locals : List Variable) (init : Option ℕ) where
   row_asked known input p k sp i = refl
   row_asked known range p k sp i = refl
   row_asked known (single f) p k sp i = refl
-  row_asked known (unknown place x) p k sp i = refl
   row_asked known voiceless p k sp i = refl
   row_asked known uncalled p k sp i = refl
   row_asked known value p k sp i = refl

@@ -42,7 +42,7 @@ module _ (C : Context) (V : VarSorts) where
   named_fair known span x (meaning.Global i) = variable_fair span x _ false (var_at V.globals i)
   named_fair known span x meaning.ModuleName = fair_is _
   named_fair known span x meaning.Untyped = fair_silent
-  named_fair known span x meaning.Unknown = fair_fails span (message.not_defined x) (rules.not_defined x)
+  named_fair known span x meaning.Unknown = fair_silent
   named_fair known span x meaning.UntypedClass = fair_fails span (message.not_a_value x) (rules.not_a_value x)
   named_fair known span x (meaning.Function i) = fair_fails span (message.not_a_value x) (rules.not_a_value x)
   named_fair known span x (meaning.Class i) = fair_fails span (message.not_a_value x) (rules.not_a_value x)

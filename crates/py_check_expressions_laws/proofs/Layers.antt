@@ -19,7 +19,7 @@ use Rattle.py_check_operators.specs.Chains.{pairs_faults}
 use Rattle.py_check_operators.specs.Choices.{junction, operand, choice}
 use Rattle.py_check_displays.specs.Displays.{item_sort, items_row, list_display, parts_row, tuple_display}
 use Rattle.py_check_displays.specs.Indexing.{literal, indexing}
-use Rattle.py_check_calls.specs.Callees.{Callee, function, print, input, range, single, method, unknown, voiceless, uncalled, value, callee, has_key, is_variable, name_called}
+use Rattle.py_check_calls.specs.Callees.{Callee, function, print, input, range, single, method, voiceless, uncalled, value, callee, has_key, is_variable, name_called}
 use Rattle.py_check_calls.specs.Builtins.{print_call, input_call, single_call}
 use Rattle.py_check_calls.specs.Methods.{attribute, method_call}
 use Rattle.py_check_calls.specs.Calls.{arguments_row, positional, refused, function_call, called}
@@ -68,7 +68,7 @@ named_own vars known span x (meaning.Local i) = variable_own span x _ (is_in kno
 named_own vars known span x (meaning.Global i) = variable_own span x _ false (var_at vars.globals i)
 named_own vars known span x meaning.ModuleName = ([], refl)
 named_own vars known span x meaning.Untyped = ([], refl)
-named_own vars known span x meaning.Unknown = (message.not_defined x ∷ [], refl)
+named_own vars known span x meaning.Unknown = ([], refl)
 named_own vars known span x (meaning.Function i) = (message.not_a_value x ∷ [], refl)
 named_own vars known span x (meaning.Class i) = (message.not_a_value x ∷ [], refl)
 named_own vars known span x meaning.UntypedClass = (message.not_a_value x ∷ [], refl)
@@ -91,7 +91,6 @@ given_layer classes w span keyed range p es = inl (keyed_own span keyed (refused
 given_layer classes w span keyed (single f) p es = inl (keyed_own span keyed (single_call classes f span) es)
 given_layer classes w span keyed (method m) None es = inr (λ place. refl)
 given_layer classes w span keyed (method m) (Some e) es = inl (keyed_own span keyed (method_call classes w span m e) es)
-given_layer classes w span keyed (unknown there x) p es = inr (λ place. refl)
 given_layer classes w span keyed voiceless p es = inr (λ place. refl)
 given_layer classes w span keyed uncalled p es = inl (keyed_own span keyed (refused message.not_callable) es)
 given_layer classes w span keyed value None es = inr (λ place. refl)
@@ -106,7 +105,6 @@ lacking_same classes w span place keyed range p = refl
 lacking_same classes w span place keyed (single f) p = refl
 lacking_same classes w span place keyed (method m) None = refl
 lacking_same classes w span place keyed (method m) (Some e) = refl
-lacking_same classes w span place keyed (unknown there x) p = refl
 lacking_same classes w span place keyed voiceless p = refl
 lacking_same classes w span place keyed uncalled p = refl
 lacking_same classes w span place keyed value None = refl
@@ -139,7 +137,7 @@ module _ (C : Context) (V : VarSorts) where
   abbrev Silent : Callee → Type 0
   Silent f = (w : Wanted) (span : Span) (keyed : Bool) (args : Option (List TypedExpr)) → (called C.classes w span keyed f None args).said ≡ []
 
-  part_name : (known : List ℕ) (there : Span) (x : List ℕ) (m : Meaning) → ((if not (is_variable m) then silent else named V known there x m).said ≡ []) ⊎ Silent (name_called C there x m)
+  part_name : (known : List ℕ) (there : Span) (x : List ℕ) (m : Meaning) → ((if not (is_variable m) then silent else named V known there x m).said ≡ []) ⊎ Silent (name_called C x m)
   part_name known there x (meaning.Local i) = inr (λ w span keyed args. refl)
   part_name known there x (meaning.Global i) = inr (λ w span keyed args. refl)
   part_name known there x (meaning.Function i) = inl refl

@@ -1,3 +1,4 @@
+pub mod Known
 pub mod Loud
 pub mod Given
 pub mod Inside

@@ -1,4 +1,5 @@
--- What is not typed has said why, where no name is without a type: of the words of typing, and of each kind of expression.
+-- What is not typed has said why, where no name is without a type and each is known: of the words of typing, and of each kind of
+-- expression.
 use Rattle.std.proofs.Common.{◌≡◌, ℕ, suc, Bool, true, false, List, [], ◌∷◌, ◌++◌, map, Option, Some, None, Result, Ok, Err, refl, ap, sym, ◌∙◌, not, if◌then◌else◌, slice_get, ◌⊎◌, inl, inr}
 use Rattle.std.specs.Prelude.{is_none}
 use Rattle.std.specs.Option.{option_map, option_zip}
@@ -9,6 +10,8 @@ use Rattle.py_syntax.specs.Expressions.{ExprTree, ExprNode, at, ExprTrees, no_ex
 use Rattle.py_typed.specs.Classes.{ClassEntry, Signature}
 use Rattle.py_typed.specs.Expressions.{TypedExpr, TypedNode}
 use Rattle.py_typed.specs.Narrowing.{is_in}
+use Rattle.py_binder.specs.Sights.{Sight, reads, node_reads, exprs_reads, comparisons_reads, arguments_reads}
+use Rattle.py_binder.specs.declared.sight.Manner.TheVariants.{Value}
 use Rattle.py_check_context.specs.declared.scope.Meaning.{Meaning}
 use Rattle.py_check_context.specs.declared.scope.Meaning.TheVariants as meaning
 use Rattle.py_check_context.specs.declared.scope.Builtin.{Builtin}
@@ -18,18 +21,20 @@ use Rattle.py_check_context.specs.declared.scope.Imported.TheVariants as importe
 use Rattle.py_check_context.specs.Context.{Context, VarSort, unset, untyped, has, VarSorts, var_at, Wanted, free, test, WantedRow, wanted_in, some_signature}
 use Rattle.py_check_messages.specs.Seen.{Seen, Message, diag, is, silent, fails, both, judged, behind, rule, made, ruled}
 use Rattle.py_check_messages.specs.Rows.{row_then}
+use Rattle.py_check_annotations.specs.Names.{is_unknown, any_unknown}
 use Rattle.py_check_operators.specs.Facts.{facts}
 use Rattle.py_check_operators.specs.Names.{variable, named}
 use Rattle.py_check_operators.specs.Chains.{pairs_faults, all_typed, chain_of}
 use Rattle.py_check_operators.proofs.ChainLemmas.{chain_made}
 use Rattle.py_check_operators.specs.Choices.{operand}
 use Rattle.py_check_displays.specs.Displays.{item_sort, items_row, parts_row}
-use Rattle.py_check_calls.specs.Callees.{Callee, function, print, input, range, single, method, unknown, voiceless, uncalled, value, callee, has_key, is_variable, function_called, builtin_called, import_called, name_called}
+use Rattle.py_check_calls.specs.Callees.{Callee, function, print, input, range, single, method, voiceless, uncalled, value, callee, has_key, is_variable, function_called, builtin_called, import_called, name_called}
 use Rattle.py_check_calls.specs.Calls.{arguments_row, positional, no_keys, refused, called}
 use Rattle.py_check_messages.specs.Messages.{range_outside_for, not_callable}
 use Rattle.py_check_expressions.specs.Typing.{typing, node_typing, items, operands, each_operand, arguments, part, count}
 use Rattle.py_check_expressions.proofs.RowLemmas.{operands_got}
 use Rattle.py_check_expressions_laws.specs.Laws.{is_voiceless, is_untyped, AllHaveTypes}
+use Rattle.py_check_expressions_laws.proofs.Known.{known_left, known_right, known_name}
 
 pub record IsLoud {A : Type 0} (s : Seen A) : Type 0 where
   pub says : s.got ≡ None → s.said ≡ [] → ⊥
@@ -131,7 +136,6 @@ loud_called classes w span keyed range p es h = loud_rule span (refused range_ou
 loud_called classes w span keyed (single f) p es h = loud_rule span _ (positional span keyed (Some es)) (loud_positional span keyed es)
 loud_called classes w span keyed (method m) None es h = absurd (cc)
 loud_called classes w span keyed (method m) (Some e) es h = loud_rule span _ (positional span keyed (Some es)) (loud_positional span keyed es)
-loud_called classes w span keyed (unknown place x) p es h = loud_fails place _
 loud_called classes w span keyed voiceless p es h = absurd (cc)
 loud_called classes w span keyed uncalled p es h = loud_rule span (refused not_callable) (positional span keyed (Some es)) (loud_positional span keyed es)
 loud_called classes w span keyed value None es h = absurd (cc)
@@ -148,7 +152,6 @@ heard_with input e h = refl
 heard_with range e h = refl
 heard_with (single f) e h = refl
 heard_with (method m) e h = refl
-heard_with (unknown place x) e h = refl
 heard_with voiceless e h = absurd (cc)
 heard_with uncalled e h = refl
 heard_with value e h = refl
@@ -173,59 +176,69 @@ import_heard _ = refl
 -- ---- expressions
 
 module _ (C : Context) (V : VarSorts) (all : AllHaveTypes C V) where
-  name_heard : (span : Span) (x : List ℕ) (m : Meaning) → is_voiceless C.signatures m ≡ false → is_mute (name_called C span x m) ≡ false
-  name_heard span x (meaning.Local i) h = refl
-  name_heard span x (meaning.Global i) h = refl
-  name_heard span x meaning.ModuleName h = refl
-  name_heard span x meaning.Untyped h = absurd (cc)
-  name_heard span x meaning.UntypedClass h = absurd (cc)
-  name_heard span x meaning.Unknown h = refl
-  name_heard span x (meaning.Function i) h = function_heard x i (some_signature (slice_get C.signatures i)) h
-  name_heard span x (meaning.Class i) h = refl
-  name_heard span x (meaning.Exception k) h = refl
-  name_heard span x (meaning.Import i) h = import_heard i
-  name_heard span x (meaning.Builtin b) h = builtin_heard b
+  -- each name that is read or bound there is known
+  abbrev AreKnown : List Sight → Type 0
+  AreKnown sights = any_unknown C.meaning sights ≡ false
 
-  loud_named : (known : List ℕ) (span : Span) (x : List ℕ) (m : Meaning) → is_voiceless C.signatures m ≡ false → IsLoud (named V known span x m)
-  loud_named known span x (meaning.Local i) h = loud_variable span x _ (is_in known i) (var_at V.locals i) (all.locals i)
-  loud_named known span x (meaning.Global i) h = loud_variable span x _ false (var_at V.globals i) (all.globals i)
-  loud_named known span x meaning.ModuleName h = loud_is _
-  loud_named known span x meaning.Untyped h = absurd (cc)
-  loud_named known span x meaning.UntypedClass h = absurd (cc)
-  loud_named known span x meaning.Unknown h = loud_fails span _
-  loud_named known span x (meaning.Function i) h = loud_fails span _
-  loud_named known span x (meaning.Class i) h = loud_fails span _
-  loud_named known span x (meaning.Exception k) h = loud_fails span _
-  loud_named known span x (meaning.Import i) h = loud_fails span _
-  loud_named known span x (meaning.Builtin b) h = loud_fails span _
+  in_front : (xs ys : List Sight) → AreKnown (xs ++ ys) → AreKnown xs
+  in_front xs ys h = known_left C.meaning xs ys h
+
+  at_back : (xs ys : List Sight) → AreKnown (xs ++ ys) → AreKnown ys
+  at_back xs ys h = known_right C.meaning xs ys h
+
+  name_heard : (x : List ℕ) (m : Meaning) → is_voiceless C.signatures m ≡ false → is_unknown m ≡ false → is_mute (name_called C x m) ≡ false
+  name_heard x (meaning.Local i) h u = refl
+  name_heard x (meaning.Global i) h u = refl
+  name_heard x meaning.ModuleName h u = refl
+  name_heard x meaning.Untyped h u = absurd (cc)
+  name_heard x meaning.UntypedClass h u = absurd (cc)
+  name_heard x meaning.Unknown h u = absurd (cc)
+  name_heard x (meaning.Function i) h u = function_heard x i (some_signature (slice_get C.signatures i)) h
+  name_heard x (meaning.Class i) h u = refl
+  name_heard x (meaning.Exception k) h u = refl
+  name_heard x (meaning.Import i) h u = import_heard i
+  name_heard x (meaning.Builtin b) h u = builtin_heard b
+
+  loud_named : (known : List ℕ) (span : Span) (x : List ℕ) (m : Meaning) → is_voiceless C.signatures m ≡ false → is_unknown m ≡ false → IsLoud (named V known span x m)
+  loud_named known span x (meaning.Local i) h u = loud_variable span x _ (is_in known i) (var_at V.locals i) (all.locals i)
+  loud_named known span x (meaning.Global i) h u = loud_variable span x _ false (var_at V.globals i) (all.globals i)
+  loud_named known span x meaning.ModuleName h u = loud_is _
+  loud_named known span x meaning.Untyped h u = absurd (cc)
+  loud_named known span x meaning.UntypedClass h u = absurd (cc)
+  loud_named known span x meaning.Unknown h u = absurd (cc)
+  loud_named known span x (meaning.Function i) h u = loud_fails span _
+  loud_named known span x (meaning.Class i) h u = loud_fails span _
+  loud_named known span x (meaning.Exception k) h u = loud_fails span _
+  loud_named known span x (meaning.Import i) h u = loud_fails span _
+  loud_named known span x (meaning.Builtin b) h u = loud_fails span _
 
   -- no callee is one of which nothing is said
-  callee_heard : (f : ExprTree) → is_mute (callee C f) ≡ false
-  callee_heard (at (tree.Name x) span) = name_heard span x (C.meaning x) (all.names x)
-  callee_heard (at (tree.Attr e m) span) = refl
-  callee_heard _ = refl
+  callee_heard : (f : ExprTree) → AreKnown (reads Value f) → is_mute (callee C f) ≡ false
+  callee_heard (at (tree.Name x) span) k = name_heard x (C.meaning x) (all.names x) (known_name C.meaning x span k)
+  callee_heard (at (tree.Attr e m) span) k = refl
+  callee_heard _ k = refl
 
   -- what is typed of a name that is called, or else the name says something by itself
-  name_case : (known : List ℕ) (span : Span) (x : List ℕ) (m : Meaning) → is_voiceless C.signatures m ≡ false → IsLoud (if not (is_variable m) then silent else named V known span x m) ⊎ (is_heard (name_called C span x m) None ≡ true)
-  name_case known span x (meaning.Local i) h = inl (loud_named known span x (meaning.Local i) h)
-  name_case known span x (meaning.Global i) h = inl (loud_named known span x (meaning.Global i) h)
-  name_case known span x meaning.ModuleName h = inr refl
-  name_case known span x meaning.Untyped h = absurd (cc)
-  name_case known span x meaning.UntypedClass h = absurd (cc)
-  name_case known span x meaning.Unknown h = inr refl
-  name_case known span x (meaning.Function i) h = inr (by_function (some_signature (slice_get C.signatures i)) h)
+  name_case : (known : List ℕ) (span : Span) (x : List ℕ) (m : Meaning) → is_voiceless C.signatures m ≡ false → is_unknown m ≡ false → IsLoud (if not (is_variable m) then silent else named V known span x m) ⊎ (is_heard (name_called C x m) None ≡ true)
+  name_case known span x (meaning.Local i) h u = inl (loud_named known span x (meaning.Local i) h u)
+  name_case known span x (meaning.Global i) h u = inl (loud_named known span x (meaning.Global i) h u)
+  name_case known span x meaning.ModuleName h u = inr refl
+  name_case known span x meaning.Untyped h u = absurd (cc)
+  name_case known span x meaning.UntypedClass h u = absurd (cc)
+  name_case known span x meaning.Unknown h u = absurd (cc)
+  name_case known span x (meaning.Function i) h u = inr (by_function (some_signature (slice_get C.signatures i)) h)
     where
       by_function : (s : Option Signature) → is_none s ≡ false → is_heard (function_called x i s) None ≡ true
       by_function None g = absurd (cc)
       by_function (Some s) g = refl
-  name_case known span x (meaning.Class i) h = inr refl
-  name_case known span x (meaning.Exception k) h = inr refl
-  name_case known span x (meaning.Import i) h = inr (by_import i)
+  name_case known span x (meaning.Class i) h u = inr refl
+  name_case known span x (meaning.Exception k) h u = inr refl
+  name_case known span x (meaning.Import i) h u = inr (by_import i)
     where
       by_import : (i : Imported) → is_heard (import_called i) None ≡ true
       by_import imported.I64 = refl
       by_import _ = refl
-  name_case known span x (meaning.Builtin b) h = inr (by_builtin b)
+  name_case known span x (meaning.Builtin b) h u = inr (by_builtin b)
     where
       by_builtin : (b : Builtin) → is_heard (builtin_called b) None ≡ true
       by_builtin builtin.Print = refl
@@ -243,56 +256,57 @@ module _ (C : Context) (V : VarSorts) (all : AllHaveTypes C V) where
 
   mutual
     -- an expression that is not typed has said why
-    pub loud_typing : (w : Wanted) (known : List ℕ) (x : ExprTree) → IsLoud (typing C V w known x)
-    loud_typing w known (at n span) = loud_node w known span n
+    pub loud_typing : (w : Wanted) (known : List ℕ) (x : ExprTree) → AreKnown (reads Value x) → IsLoud (typing C V w known x)
+    loud_typing w known (at n span) k = loud_node w known span n k
 
-    pub loud_node : (w : Wanted) (known : List ℕ) (span : Span) (n : ExprNode) → IsLoud (node_typing C V w known span n)
-    loud_node w known span (tree.Int n) = loud_is _
-    loud_node w known span (tree.Str n) = loud_is _
-    loud_node w known span tree.True = loud_is _
-    loud_node w known span tree.False = loud_is _
-    loud_node w known span tree.Nothing = loud_is _
-    loud_node w known span (tree.Name x) = loud_named known span x (C.meaning x) (all.names x)
-    loud_node w known span (tree.Neg e) = loud_rule span _ (typing C V free known e) (loud_typing free known e)
-    loud_node w known span (tree.Plus e) = loud_rule span _ (typing C V free known e) (loud_typing free known e)
-    loud_node w known span (tree.Not e) = loud_made _ (typing C V test known e) (loud_typing test known e)
-    loud_node w known span (tree.Bin o a b) = loud_rule span _ (both (typing C V free known a) (typing C V free known b)) (loud_both (typing C V free known a) (typing C V free known b) (loud_typing free known a) (loud_typing free known b))
-    loud_node w known span (tree.Compare e cs) =
-        loud_chain C.classes span (typing C V free known e) (operands C V known cs) (each_operand C V known cs) (operands_got C V known cs) (loud_typing free known e) (loud_operands known cs)
-    loud_node w known span (tree.And a b) =
-        loud_rule span _ (both (typing C V (operand w) known a) (typing C V (operand w) (facts C true a ++ known) b)) (loud_both (typing C V (operand w) known a) (typing C V (operand w) (facts C true a ++ known) b) (loud_typing (operand w) known a) (loud_typing (operand w) (facts C true a ++ known) b))
-    loud_node w known span (tree.Or a b) =
-        loud_rule span _ (both (typing C V (operand w) known a) (typing C V (operand w) (facts C false a ++ known) b)) (loud_both (typing C V (operand w) known a) (typing C V (operand w) (facts C false a ++ known) b) (loud_typing (operand w) known a) (loud_typing (operand w) (facts C false a ++ known) b))
-    loud_node w known span (tree.Cond a t b) =
+    pub loud_node : (w : Wanted) (known : List ℕ) (span : Span) (n : ExprNode) → AreKnown (node_reads Value n span) → IsLoud (node_typing C V w known span n)
+    loud_node w known span (tree.Int n) k = loud_is _
+    loud_node w known span (tree.Str n) k = loud_is _
+    loud_node w known span tree.True k = loud_is _
+    loud_node w known span tree.False k = loud_is _
+    loud_node w known span tree.Nothing k = loud_is _
+    loud_node w known span (tree.Name x) k = loud_named known span x (C.meaning x) (all.names x) (known_name C.meaning x span k)
+    loud_node w known span (tree.Neg e) k = loud_rule span _ (typing C V free known e) (loud_typing free known e k)
+    loud_node w known span (tree.Plus e) k = loud_rule span _ (typing C V free known e) (loud_typing free known e k)
+    loud_node w known span (tree.Not e) k = loud_made _ (typing C V test known e) (loud_typing test known e k)
+    loud_node w known span (tree.Bin o a b) k = loud_rule span _ (both (typing C V free known a) (typing C V free known b)) (loud_both (typing C V free known a) (typing C V free known b) (loud_typing free known a (in_front (reads Value a) (reads Value b) k)) (loud_typing free known b (at_back (reads Value a) (reads Value b) k)))
+    loud_node w known span (tree.Compare e cs) k =
+        loud_chain C.classes span (typing C V free known e) (operands C V known cs) (each_operand C V known cs) (operands_got C V known cs) (loud_typing free known e (in_front (reads Value e) (comparisons_reads Value cs) k)) (loud_operands known cs (at_back (reads Value e) (comparisons_reads Value cs) k))
+    loud_node w known span (tree.And a b) k =
+        loud_rule span _ (both (typing C V (operand w) known a) (typing C V (operand w) (facts C true a ++ known) b)) (loud_both (typing C V (operand w) known a) (typing C V (operand w) (facts C true a ++ known) b) (loud_typing (operand w) known a (in_front (reads Value a) (reads Value b) k)) (loud_typing (operand w) (facts C true a ++ known) b (at_back (reads Value a) (reads Value b) k)))
+    loud_node w known span (tree.Or a b) k =
+        loud_rule span _ (both (typing C V (operand w) known a) (typing C V (operand w) (facts C false a ++ known) b)) (loud_both (typing C V (operand w) known a) (typing C V (operand w) (facts C false a ++ known) b) (loud_typing (operand w) known a (in_front (reads Value a) (reads Value b) k)) (loud_typing (operand w) (facts C false a ++ known) b (at_back (reads Value a) (reads Value b) k)))
+    loud_node w known span (tree.Cond a t b) k =
         let sa = typing C V free (facts C true t ++ known) a in
         let st = typing C V test known t in
         let sb = typing C V free (facts C false t ++ known) b in
-        loud_rule span _ (both (both sa st) sb) (loud_both (both sa st) sb (loud_both sa st (loud_typing free (facts C true t ++ known) a) (loud_typing test known t)) (loud_typing free (facts C false t ++ known) b))
-    loud_node w known span (tree.ListOf es) = loud_rule span _ (items C V (items_row (item_sort w)) 0 known es) (loud_items (items_row (item_sort w)) 0 known es)
-    loud_node w known span (tree.TupleOf es) = loud_rule span _ (items C V (parts_row w (count es)) 0 known es) (loud_items (parts_row w (count es)) 0 known es)
-    loud_node w known span (tree.Index e i) = loud_rule span _ (both (typing C V free known e) (typing C V free known i)) (loud_both (typing C V free known e) (typing C V free known i) (loud_typing free known e) (loud_typing free known i))
-    loud_node w known span (tree.Call f args) =
-        loud_either (part C V known f) (λ p. behind (arguments C V (arguments_row (callee C f) p) 0 known args) (called C.classes w span (has_key args) (callee C f) p)) (callee_case w span known f args (λ row. loud_arguments row 0 known args))
-        (λ e. call_loud w span known f (Some e) args (heard_with (callee C f) e (callee_heard f)) (loud_arguments (arguments_row (callee C f) (Some e)) 0 known args))
-    loud_node w known span (tree.Attr e a) = loud_rule span _ (typing C V free known e) (loud_typing free known e)
-    loud_node w known span (tree.DictOf es) = loud_fails span _
+        let behind_a = at_back (reads Value a) (reads Value t ++ reads Value b) k in
+        loud_rule span _ (both (both sa st) sb) (loud_both (both sa st) sb (loud_both sa st (loud_typing free (facts C true t ++ known) a (in_front (reads Value a) (reads Value t ++ reads Value b) k)) (loud_typing test known t (in_front (reads Value t) (reads Value b) behind_a))) (loud_typing free (facts C false t ++ known) b (at_back (reads Value t) (reads Value b) behind_a)))
+    loud_node w known span (tree.ListOf es) k = loud_rule span _ (items C V (items_row (item_sort w)) 0 known es) (loud_items (items_row (item_sort w)) 0 known es k)
+    loud_node w known span (tree.TupleOf es) k = loud_rule span _ (items C V (parts_row w (count es)) 0 known es) (loud_items (parts_row w (count es)) 0 known es k)
+    loud_node w known span (tree.Index e i) k = loud_rule span _ (both (typing C V free known e) (typing C V free known i)) (loud_both (typing C V free known e) (typing C V free known i) (loud_typing free known e (in_front (reads Value e) (reads Value i) k)) (loud_typing free known i (at_back (reads Value e) (reads Value i) k)))
+    loud_node w known span (tree.Call f args) k =
+        loud_either (part C V known f) (λ p. behind (arguments C V (arguments_row (callee C f) p) 0 known args) (called C.classes w span (has_key args) (callee C f) p)) (callee_case w span known f args (in_front (reads Value f) (arguments_reads Value args) k) (λ row. loud_arguments row 0 known args (at_back (reads Value f) (arguments_reads Value args) k)))
+        (λ e. call_loud w span known f (Some e) args (heard_with (callee C f) e (callee_heard f (in_front (reads Value f) (arguments_reads Value args) k))) (loud_arguments (arguments_row (callee C f) (Some e)) 0 known args (at_back (reads Value f) (arguments_reads Value args) k)))
+    loud_node w known span (tree.Attr e a) k = loud_rule span _ (typing C V free known e) (loud_typing free known e k)
+    loud_node w known span (tree.DictOf es) k = loud_fails span _
 
-    pub loud_items : (row : WantedRow) (i : ℕ) (known : List ℕ) (es : ExprTrees) → IsLoud (items C V row i known es)
-    loud_items row i known no_exprs = loud_is []
-    loud_items row i known (expr_then e more) = loud_row (typing C V (wanted_in row i) known e) (items C V row (suc i) known more) (loud_typing (wanted_in row i) known e) (loud_items row (suc i) known more)
+    pub loud_items : (row : WantedRow) (i : ℕ) (known : List ℕ) (es : ExprTrees) → AreKnown (exprs_reads Value es) → IsLoud (items C V row i known es)
+    loud_items row i known no_exprs u = loud_is []
+    loud_items row i known (expr_then e more) u = loud_row (typing C V (wanted_in row i) known e) (items C V row (suc i) known more) (loud_typing (wanted_in row i) known e (in_front (reads Value e) (exprs_reads Value more) u)) (loud_items row (suc i) known more (at_back (reads Value e) (exprs_reads Value more) u))
 
-    pub loud_operands : (known : List ℕ) (cs : Comparisons) → IsLoud (operands C V known cs)
-    loud_operands known no_comparisons = loud_is []
-    loud_operands known (comparison_then o e more) =
-        loud_row (made (λ t. (o, t)) (typing C V free known e)) (operands C V known more) (loud_made (λ t. (o, t)) (typing C V free known e) (loud_typing free known e)) (loud_operands known more)
+    pub loud_operands : (known : List ℕ) (cs : Comparisons) → AreKnown (comparisons_reads Value cs) → IsLoud (operands C V known cs)
+    loud_operands known no_comparisons u = loud_is []
+    loud_operands known (comparison_then o e more) u =
+        loud_row (made (λ t. (o, t)) (typing C V free known e)) (operands C V known more) (loud_made (λ t. (o, t)) (typing C V free known e) (loud_typing free known e (in_front (reads Value e) (comparisons_reads Value more) u))) (loud_operands known more (at_back (reads Value e) (comparisons_reads Value more) u))
 
-    pub loud_arguments : (row : WantedRow) (i : ℕ) (known : List ℕ) (args : Arguments) → IsLoud (arguments C V row i known args)
-    loud_arguments row i known no_arguments = loud_is []
-    loud_arguments row i known (argument_then e more) = loud_row (typing C V (wanted_in row i) known e) (arguments C V row (suc i) known more) (loud_typing (wanted_in row i) known e) (loud_arguments row (suc i) known more)
-    loud_arguments row i known (keyed_then k e more) = loud_row (typing C V (wanted_in row i) known e) (arguments C V row (suc i) known more) (loud_typing (wanted_in row i) known e) (loud_arguments row (suc i) known more)
+    pub loud_arguments : (row : WantedRow) (i : ℕ) (known : List ℕ) (args : Arguments) → AreKnown (arguments_reads Value args) → IsLoud (arguments C V row i known args)
+    loud_arguments row i known no_arguments u = loud_is []
+    loud_arguments row i known (argument_then e more) u = loud_row (typing C V (wanted_in row i) known e) (arguments C V row (suc i) known more) (loud_typing (wanted_in row i) known e (in_front (reads Value e) (arguments_reads Value more) u)) (loud_arguments row (suc i) known more (at_back (reads Value e) (arguments_reads Value more) u))
+    loud_arguments row i known (keyed_then k e more) u = loud_row (typing C V (wanted_in row i) known e) (arguments C V row (suc i) known more) (loud_typing (wanted_in row i) known e (in_front (reads Value e) (arguments_reads Value more) u)) (loud_arguments row (suc i) known more (at_back (reads Value e) (arguments_reads Value more) u))
 
     -- either what is typed of a callee has said why it is not, or the call does
-    callee_case : (w : Wanted) (span : Span) (known : List ℕ) (f : ExprTree) (args : Arguments) → ((row : WantedRow) → IsLoud (arguments C V row 0 known args)) → IsLoud (part C V known f) ⊎ IsLoud (behind (arguments C V (arguments_row (callee C f) None) 0 known args) (called C.classes w span (has_key args) (callee C f) None))
-    callee_case w span known (at (tree.Name x) place) args l = on_right (name_case known place x (C.meaning x) (all.names x)) (λ h. call_loud w span known (at (tree.Name x) place) None args h (l (arguments_row (callee C (at (tree.Name x) place)) None)))
-    callee_case w span known (at (tree.Attr e m) place) args l = inl (loud_typing free known e)
-    callee_case w span known (at n place) args l = inl (loud_node free known place n)
+    callee_case : (w : Wanted) (span : Span) (known : List ℕ) (f : ExprTree) (args : Arguments) → AreKnown (reads Value f) → ((row : WantedRow) → IsLoud (arguments C V row 0 known args)) → IsLoud (part C V known f) ⊎ IsLoud (behind (arguments C V (arguments_row (callee C f) None) 0 known args) (called C.classes w span (has_key args) (callee C f) None))
+    callee_case w span known (at (tree.Name x) place) args u l = on_right (name_case known place x (C.meaning x) (all.names x) (known_name C.meaning x place u)) (λ h. call_loud w span known (at (tree.Name x) place) None args h (l (arguments_row (callee C (at (tree.Name x) place)) None)))
+    callee_case w span known (at (tree.Attr e m) place) args u l = inl (loud_typing free known e u)
+    callee_case w span known (at n place) args u l = inl (loud_node free known place n u)

@@ -27,7 +27,7 @@ use Rattle.py_check_displays.specs.Displays.{list_of, item_fault, common, joined
 use Rattle.py_check_displays.specs.Indexing.{Literal, keyed_by, item_at, part_at, parts_of, part_made, part_of, is_tuple, indexing}
 use Rattle.py_check_displays.specs.Indexing as indexes
 use Rattle.py_check_calls.specs.declared.callees.Single.{Single}
-use Rattle.py_check_calls.specs.Callees.{Callee, function, print, input, range, single, method, unknown, voiceless, uncalled, value}
+use Rattle.py_check_calls.specs.Callees.{Callee, function, print, input, range, single, method, voiceless, uncalled, value}
 use Rattle.py_check_calls.specs.Builtins.{gives_value, as_value, unprintable, printed, print_call, input_call, the_only, single_name, single_takes, single_asks, single_made, single_given, single_call}
 use Rattle.py_check_calls.specs.Methods.{item_of, is_list_method, attribute, pop_call, append_given, append_call, list_call, value_call, method_call}
 use Rattle.py_check_calls.specs.Calls.{no_keys, positional, refused, call_made, function_given, function_call, called}
@@ -184,7 +184,6 @@ called_fair cs w span keyed range p args = fair_rule span (refused message.range
 called_fair cs w span keyed (single f) p args = fair_rule span (single_call cs f span) (positional span keyed args) (positional_fair span keyed args) (λ es. single_right cs f span (the_only es))
 called_fair cs w span keyed (method m) p args =
     fair_part (λ e. rule span (method_call cs w span m e) (positional span keyed args)) (λ e. fair_rule span (method_call cs w span m e) (positional span keyed args) (positional_fair span keyed args) (λ es. method_right cs w span m e es)) p
-called_fair cs w span keyed (unknown place x) p args = fair_fails place (message.not_defined x) (rules.not_defined x)
 called_fair cs w span keyed voiceless p args = fair_silent
 called_fair cs w span keyed uncalled p args = fair_rule span (refused message.not_callable) (positional span keyed args) (positional_fair span keyed args) (λ es. rules.not_callable)
 called_fair cs w span keyed value p args =

@@ -5,14 +5,13 @@ use Rattle.std.specs.Str.{bytes_eq}
 use Rattle.py_syntax.specs.declared.token.Span.{Span}
 use Rattle.py_syntax_diagnostics.specs.declared.diagnostic.Diag.{Diag}
 use Rattle.py_check_messages.specs.Seen.{Message, diag}
-use Rattle.py_check_messages.specs.Messages.{not_defined, not_a_value, no_type_yet, unsupported_operand, unsupported_operands, only_for_none, no_common_type, wrong_item, empty_display, no_common_item, no_common_entry, invalid_tuple, no_attribute, not_indexable, tuple_index, invalid_index, keyword_argument, not_callable, range_outside_for, wrong_number, wrong_argument, gives_nothing, invalid_type, no_target, cannot_assign, already_defined, index_target, cannot_unpack, needs_annotation, wrong_assignment, only_entries, not_iterable, no_exception, return_outside, return_expected, no_return_expected, wrong_return, outside_loop, invalid_global, outside_import, duplicate_parameter, missing_annotation, too_many_names, missing_return}
+use Rattle.py_check_messages.specs.Messages.{not_a_value, no_type_yet, unsupported_operand, unsupported_operands, only_for_none, no_common_type, wrong_item, empty_display, no_common_item, no_common_entry, invalid_tuple, no_attribute, not_indexable, tuple_index, invalid_index, keyword_argument, not_callable, range_outside_for, wrong_number, wrong_argument, gives_nothing, invalid_type, no_target, cannot_assign, already_defined, index_target, cannot_unpack, needs_annotation, wrong_assignment, only_entries, not_iterable, no_exception, return_outside, return_expected, no_return_expected, wrong_return, outside_loop, invalid_global, outside_import, duplicate_parameter, missing_annotation, too_many_names, missing_return}
 use Rattle.py_check_expressions_laws.specs.Placeholders.{placeholders, is_placeholder}
 use Rattle.py_check_expressions_laws.proofs.Ruled as rules
 use Rattle.py_check_expressions_laws.proofs.Ruled.{IsRule, OfRule, of_rule, AllOfRules}
 
 rule_text : (m : Message) → IsRule m → list_any (λ p. bytes_eq m.text p.text) placeholders ≡ false
-unfolding not_defined not_a_value no_type_yet unsupported_operand unsupported_operands only_for_none no_common_type wrong_item empty_display no_common_item no_common_entry invalid_tuple no_attribute not_indexable tuple_index invalid_index keyword_argument not_callable range_outside_for wrong_number wrong_argument gives_nothing invalid_type no_target cannot_assign already_defined index_target cannot_unpack needs_annotation wrong_assignment only_entries not_iterable no_exception return_outside return_expected no_return_expected wrong_return outside_loop invalid_global outside_import duplicate_parameter missing_annotation too_many_names missing_return
-rule_text _ (rules.not_defined x) = refl
+unfolding not_a_value no_type_yet unsupported_operand unsupported_operands only_for_none no_common_type wrong_item empty_display no_common_item no_common_entry invalid_tuple no_attribute not_indexable tuple_index invalid_index keyword_argument not_callable range_outside_for wrong_number wrong_argument gives_nothing invalid_type no_target cannot_assign already_defined index_target cannot_unpack needs_annotation wrong_assignment only_entries not_iterable no_exception return_outside return_expected no_return_expected wrong_return outside_loop invalid_global outside_import duplicate_parameter missing_annotation too_many_names missing_return
 rule_text _ (rules.not_a_value x) = refl
 rule_text _ (rules.no_type_yet x) = refl
 rule_text _ (rules.unsupported_operand cs sign s) = refl

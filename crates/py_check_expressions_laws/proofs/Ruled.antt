@@ -16,7 +16,6 @@ use Rattle.py_check_operators.specs.Chains.{pairs_faults, chain_of}
 -- ---- the texts of rules
 
 pub data IsRule : Message → Type 0 where
-  not_defined : (x : List ℕ) → IsRule (message.not_defined x)
   not_a_value : (x : List ℕ) → IsRule (message.not_a_value x)
   no_type_yet : (x : List ℕ) → IsRule (message.no_type_yet x)
   unsupported_operand : (cs : List ClassEntry) (sign : List ℕ) (s : Sort) → IsRule (message.unsupported_operand cs sign s)

@@ -99,7 +99,7 @@ module _ (means : List ℕ → Meaning) (signatures : List (Option Signature)) (
     named_sound w known span x meaning.ModuleName =
         gives_is (S w known) (typed (node.Str (codes "__main__")) sort.Str span) (value_sound m locals init w known (typed (node.Str (codes "__main__")) sort.Str span) (λ others wi. stands_made m locals init false others (node.Str (codes "__main__")) sort.Str span refl (and_from (is_utf8 (codes "__main__")) true module_name_text refl) refl refl refl))
     named_sound w known span x meaning.Untyped = gives_silent (S w known)
-    named_sound w known span x meaning.Unknown = gives_fails (S w known) span _
+    named_sound w known span x meaning.Unknown = gives_silent (S w known)
     named_sound w known span x (meaning.Function i) = gives_fails (S w known) span _
     named_sound w known span x (meaning.Class i) = gives_fails (S w known) span _
     named_sound w known span x meaning.UntypedClass = gives_fails (S w known) span _
@@ -126,21 +126,21 @@ module _ (means : List ℕ → Meaning) (signatures : List (Option Signature)) (
     function_known x i None h = tt
     function_known x i (Some s) h = h s refl
 
-    name_known : (span : Span) (x : List ℕ) (n : Meaning) → means x ≡ n → CalleeKnown m locals init (name_called here span x n)
-    name_known span x (meaning.Function i) e = function_known x i (some_signature (slice_get signatures i)) (λ s q. D.functions_are x i s e q)
-    name_known span x (meaning.Builtin b) e = builtin_known b
-    name_known span x (meaning.Import i) e = import_known i
-    name_known span x (meaning.Local i) e = tt
-    name_known span x (meaning.Global i) e = tt
-    name_known span x meaning.ModuleName e = tt
-    name_known span x meaning.Untyped e = tt
-    name_known span x meaning.UntypedClass e = tt
-    name_known span x meaning.Unknown e = tt
-    name_known span x (meaning.Class i) e = tt
-    name_known span x (meaning.Exception k) e = tt
+    name_known : (x : List ℕ) (n : Meaning) → means x ≡ n → CalleeKnown m locals init (name_called here x n)
+    name_known x (meaning.Function i) e = function_known x i (some_signature (slice_get signatures i)) (λ s q. D.functions_are x i s e q)
+    name_known x (meaning.Builtin b) e = builtin_known b
+    name_known x (meaning.Import i) e = import_known i
+    name_known x (meaning.Local i) e = tt
+    name_known x (meaning.Global i) e = tt
+    name_known x meaning.ModuleName e = tt
+    name_known x meaning.Untyped e = tt
+    name_known x meaning.UntypedClass e = tt
+    name_known x meaning.Unknown e = tt
+    name_known x (meaning.Class i) e = tt
+    name_known x (meaning.Exception k) e = tt
 
     callee_known : (f : ExprTree) → CalleeKnown m locals init (callee here f)
-    callee_known (at (tree.Name x) span) = name_known span x (means x) refl
+    callee_known (at (tree.Name x) span) = name_known x (means x) refl
     callee_known (at (tree.Attr e a) span) = tt
     callee_known _ = tt
 

@@ -4,11 +4,14 @@ use Rattle.py_syntax.specs.declared.token.Span.{Span}
 use Rattle.py_syntax.specs.Expressions as tree
 use Rattle.py_syntax.specs.Expressions.{ExprTree, ExprNode}
 use Rattle.py_syntax_diagnostics.specs.declared.diagnostic.Diag.{Diag}
+use Rattle.py_binder.specs.Sights.{reads}
+use Rattle.py_binder.specs.declared.sight.Manner.TheVariants.{Value}
 use Rattle.py_typed.specs.Classes.{Signature}
 use Rattle.py_check_context.specs.declared.scope.Meaning.{Meaning}
 use Rattle.py_check_context.specs.declared.scope.Meaning.TheVariants as meaning
 use Rattle.py_check_context.specs.Context.{Context, VarSort, untyped, VarSorts, var_at, Wanted, some_signature}
 use Rattle.py_check_messages.specs.Seen.{Message, diag}
+use Rattle.py_check_annotations.specs.Names.{any_unknown}
 use Rattle.py_check_expressions.specs.Typing.{typing, node_typing}
 
 -- ---- names without a type
@@ -30,10 +33,10 @@ pub record AllHaveTypes (c : Context) (vars : VarSorts) : Type 0 where
   pub locals : (i : ℕ) → is_untyped (var_at vars.locals i) ≡ false
   pub globals : (i : ℕ) → is_untyped (var_at vars.globals i) ≡ false
 
--- then an expression that is not typed has said something
+-- then an expression in which each name that is read is known, and which is not typed, has said something
 abbrev pub UntypedIsLoud : Type 0
 UntypedIsLoud =
-    (c : Context) (vars : VarSorts) → AllHaveTypes c vars → (w : Wanted) (known : List ℕ) (e : ExprTree) → (typing c vars w known e).got ≡ None → (typing c vars w known e).said ≢ []
+    (c : Context) (vars : VarSorts) → AllHaveTypes c vars → (w : Wanted) (known : List ℕ) (e : ExprTree) → any_unknown c.meaning (reads Value e) ≡ false → (typing c vars w known e).got ≡ None → (typing c vars w known e).said ≢ []
 
 -- ---- one place
 

@@ -4,7 +4,8 @@ ghost use Rattle.py_check_expressions_laws.specs.Laws.{OwnOrOfParts, UntypedIsLo
 ghost use Rattle.py_check_expressions_laws.specs.Placeholders.{NoFormNoPlaceholder};
 ghost use Rattle.py_check_expressions_laws.specs.WellTyped.{TypedTellsAsMuch, TypedIsWellTyped};
 
-/// Where no name in reach is without a type, an expression that has none has said why: some diagnostic stands in it.
+/// Where no name in reach is without a type and each name that is read is known, an expression that has none has said why: some
+/// diagnostic stands in it.
 pub fn what_is_not_typed_has_said_why()
     ensures { UntypedIsLoud }
 {}
