@@ -1,15 +1,13 @@
 //! What a module's definitions are and what is wrong with them by themselves, and where the types of variables begin.
 //!
-//! `specs/Definitions.antt` has what is said of definitions and imports, `specs/Globals.antt` the same of `global` statements;
-//! `specs/Starts.antt` and `specs/Variables.antt` the types of variables where a module or a function begins and in the typed
-//! tree. A module's tree and its scopes come in; what goes out are its definitions and functions, the types that are known of
+//! `specs/Definitions.antt` has what is said of definitions and imports, `specs/Starts.antt` and `specs/Variables.antt` the types of
+//! variables where a module or a function begins and in the typed tree. A module's tree and its scopes come in; what goes out are its definitions and functions, the types that are known of
 //! variables before any statement, and diagnostics put behind those that there are.
 #![tactic(auto)]
 
 mod definitions;
 mod environments;
 mod functions;
-mod globals;
 mod outlines;
 mod starts;
 mod variables;
@@ -17,7 +15,6 @@ mod variables;
 pub use definitions::{add_definition_faults, add_inner_faults};
 pub use environments::{Environment, no_classes};
 pub use functions::{Function, functions_of, signatures_of};
-pub use globals::add_global_faults;
 pub use outlines::{Outlined, add_header_faults, definitions_of};
 pub use starts::{own_types, start_types};
 pub use variables::{numbers_of, param_numbers, type_or_none, typed_variables};
