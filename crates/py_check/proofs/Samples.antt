@@ -1,12 +1,14 @@
 -- Small modules and all that is wrong with them.
 use Rattle.std.proofs.Common.{◌≡◌, refl, ℕ, List, [], ◌∷◌, codes, pos}
 use Rattle.py_syntax.specs.declared.token.Span.{Span}
+use Rattle.py_syntax.specs.declared.expression.CmpOp.TheVariants as op
 use Rattle.py_syntax.specs.Expressions as e
 use Rattle.py_syntax.specs.Expressions.{ExprTree}
 use Rattle.py_syntax.specs.Statements as s
 use Rattle.py_syntax.specs.Statements.{StmtTree, suite_of}
+use Rattle.py_typed.specs.Sorts as sort
 use Rattle.py_check_messages.specs.Seen.{diag}
-use Rattle.py_check_messages.specs.Messages.{not_defined}
+use Rattle.py_check_messages.specs.Messages.{not_defined, unsupported_operands}
 use Rattle.py_check.specs.Module.{diagnostics}
 
 abbrev on : ℕ → Span
@@ -28,3 +30,12 @@ right = refl
 -- print(y)
 unknown_name : diagnostics (suite_of (printing 1 (name 1 (codes "y")) ∷ [])) ≡ diag (on 1) (not_defined (codes "y")) ∷ []
 unknown_name = refl
+
+-- print(y < 1 < "a"): a pair that breaks its rule stands at the chain, in front of the name at the same place
+pair_and_name : diagnostics (suite_of (printing 1 (e.at (e.Compare (name 1 (codes "y")) (e.comparison_then op.Lt (e.at (e.Int (pos 1)) (on 2)) (e.comparison_then op.Lt (e.at (e.Str (codes "a")) (on 2)) e.no_comparisons))) (on 1)) ∷ []))
+    ≡ diag (on 1) (unsupported_operands [] (codes "<") sort.Int sort.Str) ∷ diag (on 1) (not_defined (codes "y")) ∷ []
+pair_and_name = refl
+
+-- global y, where y is no variable
+no_variable : diagnostics (suite_of (s.at (s.Global (codes "y" ∷ [])) (on 1) ∷ [])) ≡ diag (on 1) (not_defined (codes "y")) ∷ []
+no_variable = refl

@@ -1,5 +1,5 @@
 -- The parts of a module, put together.
-use Rattle.std.proofs.Common.{◌≡◌, ◌∙◌, ℕ, List, [], ◌∷◌, ◌++◌, map, filter, length, Option, Result, Ok, Err, refl, ap, sym, Bor}
+use Rattle.std.proofs.Common.{◌≡◌, ◌∙◌, ℕ, List, [], ◌∷◌, ◌++◌, map, length, Option, Result, Ok, Err, refl, ap, sym, Bor}
 use Rattle.std.proofs.Math.Path.{fun_ext}
 use Rattle.std.proofs.lemmas.List.{append_assoc, length-map}
 use Rattle.std.specs.List.{flat_map}
@@ -11,6 +11,7 @@ use Rattle.py_syntax_diagnostics.specs.declared.diagnostic.Diag.{Diag}
 use Rattle.py_binder.specs.declared.scope.Scope.{Scope}
 use Rattle.py_binder.specs.declared.scope.Scopes.{Scopes}
 use Rattle.py_binder.specs.Scope.{Roles, module_scope, module_role, function_scope, functions}
+use Rattle.py_binder.specs.Faults.{faults}
 use Rattle.py_syntax_diagnostics.specs.Order.{by_place}
 use Rattle.py_typed.specs.declared.checked.Checked.{Checked}
 use Rattle.py_typed.specs.Classes.{ClassEntry, Signature}
@@ -24,7 +25,6 @@ use Rattle.py_check_signatures.specs.Headers.{header, header_said, signature_of}
 use Rattle.py_check.specs.declared.checking.CheckError.{CheckError}
 use Rattle.py_check.specs.declared.checking.CheckError.TheVariants as reason
 use Rattle.py_check_definitions.specs.Definitions.{Headed, headed, headed_functions, inner_definitions_said, headers_said}
-use Rattle.py_check_definitions.specs.Globals.{global_said, all_globals, is_refusal, globals_said}
 use Rattle.py_check_definitions.specs.Views.{headed_all, said_along}
 use Rattle.py_check.specs.Module.{Environment, environment, context_by, context_in, statements_said, typed_parts, said, diagnostics, typed}
 use Rattle.py_check_definitions.specs.Views.{meanings_by, headers_said_by}
@@ -60,15 +60,14 @@ environment_at k fs signatures classes signed none =
 
 -- ---- lists that are told one behind the other
 
-three_told : (d0 d1 d2 d3 a b c e a2 b2 g2 : List Diag) → d1 ≡ d0 ++ a → d2 ≡ d1 ++ b → d3 ≡ (d2 ++ c) ++ e → a ≡ a2 → b ≡ b2 → c ++ e ≡ g2 → d3 ≡ d0 ++ ((a2 ++ b2) ++ g2)
-three_told d0 d1 d2 d3 a b c e a2 b2 g2 first second third x y z =
+three_told : (d0 d1 d2 d3 a b c a2 b2 c2 : List Diag) → d1 ≡ d0 ++ a → d2 ≡ d1 ++ b → d3 ≡ d2 ++ c → a ≡ a2 → b ≡ b2 → c ≡ c2 → d3 ≡ d0 ++ ((a2 ++ b2) ++ c2)
+three_told d0 d1 d2 d3 a b c a2 b2 c2 first second third x y z =
     third
-    ∙ append_assoc d2 c e
     ∙ ap (λ l. d2 ++ l) z
-    ∙ ap (λ l. l ++ g2) (second ∙ ap (λ l. l ++ b) first ∙ append_assoc d0 a b)
-    ∙ append_assoc d0 (a ++ b) g2
-    ∙ ap (λ l. d0 ++ ((l ++ b) ++ g2)) x
-    ∙ ap (λ l. d0 ++ ((a2 ++ l) ++ g2)) y
+    ∙ ap (λ l. l ++ c2) (second ∙ ap (λ l. l ++ b) first ∙ append_assoc d0 a b)
+    ∙ append_assoc d0 (a ++ b) c2
+    ∙ ap (λ l. d0 ++ ((l ++ b) ++ c2)) x
+    ∙ ap (λ l. d0 ++ ((a2 ++ l) ++ c2)) y
 
 -- ---- what is known of a module's names
 
@@ -110,13 +109,6 @@ module _ (m : Suite) (s : Scopes) (bound : IsBound m s) (k : ModuleNames) (found
       ∙ ap (λ (l : List Headed). environment_with (said_in m) (variables (module_scope m)) (map (λ g. signature_of g.header) l)) whole
       ∙ ap (environment_with (said_in m) (variables (module_scope m))) (signatures_with (module_role m) (module_meaning m) (functions m))
 
-  -- what is said of `global` statements
-  pub same_globals : (trees : List FuncTree) → trees ≡ functions m → flat_map (global_said k.variables.keys) (all_globals m trees) ++ filter is_refusal s.faults ≡ globals_said m
-  same_globals trees held =
-      ap (λ (v : List (List ℕ)). flat_map (global_said v) (all_globals m trees) ++ filter is_refusal s.faults) same_names
-      ∙ ap (λ (l : List FuncTree). flat_map (global_said (variables (module_scope m))) (all_globals m l) ++ filter is_refusal s.faults) held
-      ∙ ap (λ (l : List Diag). flat_map (global_said (variables (module_scope m))) (all_globals m (functions m)) ++ filter is_refusal l) bound.faults
-
   -- what is said of statements
   pub same_statements : (fs : List Headed) → fs ≡ headed_functions m → statements_said (environment_by k fs) s.top fs m ≡ statements_said (environment m) (module_scope m) (headed_functions m) m
   same_statements fs whole =
@@ -132,11 +124,11 @@ module _ (m : Suite) (s : Scopes) (bound : IsBound m s) (k : ModuleNames) (found
       ∙ ap (λ (l : List Headed). typed_parts (environment m) (module_scope m) l m) whole
 
   -- ALL THAT IS SAID
-  pub all_told : (trees : List FuncTree) → trees ≡ functions m → (fs : List Headed) → fs ≡ headed_all (meanings_by k s.top) trees s.funcs → (ds : List StmtTree) → ds ≡ suite_definitions m → (d0 d1 d2 d3 : List Diag) → d1 ≡ d0 ++ headers_said_by (meanings_by k s.top) trees fs ds → d2 ≡ d1 ++ statements_said (environment_by k fs) s.top fs m → d3 ≡ (d2 ++ flat_map (global_said k.variables.keys) (all_globals m trees)) ++ filter is_refusal s.faults → d3 ≡ d0 ++ said m
+  pub all_told : (trees : List FuncTree) → trees ≡ functions m → (fs : List Headed) → fs ≡ headed_all (meanings_by k s.top) trees s.funcs → (ds : List StmtTree) → ds ≡ suite_definitions m → (d0 d1 d2 d3 : List Diag) → d1 ≡ d0 ++ headers_said_by (meanings_by k s.top) trees fs ds → d2 ≡ d1 ++ statements_said (environment_by k fs) s.top fs m → d3 ≡ d2 ++ s.faults → d3 ≡ d0 ++ said m
   all_told trees held fs with_headers ds defined d0 d1 d2 d3 first second third =
       let whole : fs ≡ headed_functions m = same_functions trees held fs with_headers in
-      three_told d0 d1 d2 d3 _ _ _ _ (headers_said m) (statements_said (environment m) (module_scope m) (headed_functions m) m) (globals_said m) first second third
-      (same_headers trees held fs whole ds defined) (same_statements fs whole) (same_globals trees held)
+      three_told d0 d1 d2 d3 _ _ _ (headers_said m) (statements_said (environment m) (module_scope m) (headed_functions m) m) (faults m) first second third
+      (same_headers trees held fs whole ds defined) (same_statements fs whole) bound.faults
 
 -- as many scopes as functions
 pub one_to_one : (m : Suite) (s : Scopes) → IsBound m s → (found : List (Bor Func)) → func_trees found ≡ functions m → length found ≡ length s.funcs

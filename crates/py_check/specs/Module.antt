@@ -11,6 +11,7 @@ use Rattle.py_syntax.specs.Statements.{Suite}
 use Rattle.py_syntax_diagnostics.specs.declared.diagnostic.Diag.{Diag}
 use Rattle.py_binder.specs.declared.scope.Scope.{Scope}
 use Rattle.py_binder.specs.Scope.{param_names, module_scope}
+use Rattle.py_binder.specs.Faults.{faults}
 use Rattle.py_syntax_diagnostics.specs.Order.{by_place}
 use Rattle.py_typed.specs.Sorts as sort
 use Rattle.py_typed.specs.Sorts.{Sort}
@@ -27,7 +28,6 @@ use Rattle.py_check_values.specs.Returns.{ReturnSort}
 use Rattle.py_check_places.specs.Places.{Known}
 use Rattle.py_check_statements.specs.Bodies.{block, block_after}
 use Rattle.py_check_definitions.specs.Definitions.{Headed, headed_functions, signatures, headers_said}
-use Rattle.py_check_definitions.specs.Globals.{globals_said}
 use Rattle.py_check_definitions.specs.Starts.{start_sort, own_sort}
 use Rattle.py_check_definitions.specs.Variables.{typed_variables, numbers_from}
 
@@ -161,11 +161,12 @@ module _ (m : Suite) where
   abbrev pub environment : Environment
   environment = record { said = said_in m; variables = variables (module_scope m); signatures = signatures m; classes = [] }
 
-  -- all that is said, in the order of the walk
+  -- all that is said: what typing says, in the order of its walk, and then the faults of names, which binding finds and of which
+  -- typing says nothing
   abbrev pub said : List Diag
-  said = headers_said m ++ statements_said environment (module_scope m) (headed_functions m) m ++ globals_said m
+  said = headers_said m ++ statements_said environment (module_scope m) (headed_functions m) m ++ faults m
 
-  -- THE DIAGNOSTICS of a module, by their places
+  -- THE DIAGNOSTICS of a module, by their places; at one place the fault of a name comes last, since nothing stands in a name
   abbrev pub diagnostics : List Diag
   diagnostics = by_place said
 

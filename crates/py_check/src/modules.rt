@@ -1,28 +1,26 @@
 //! A module with its own statements and its functions.
-ghost use Rattle.std.specs.Prelude.{◌≡◌, ◌++◌, map, filter, IfOk};
-ghost use Rattle.std.specs.List.{flat_map};
+ghost use Rattle.std.specs.Prelude.{◌≡◌, ◌++◌, map, IfOk};
 ghost use Rattle.std.specs.Option.{option_map};
 ghost use Rattle.py_syntax.specs.Statements.{body_tree};
 ghost use Rattle.py_typed.specs.Classes.{signature};
 ghost use Rattle.py_typed.specs.Statements.{typed_func, typed_module, typed_stmt};
-ghost use Rattle.py_check_names.specs.Walked.{func_trees};
 ghost use Rattle.py_check_context.specs.Context.{context, var_sort};
 ghost use Rattle.py_check_messages.specs.Seen.{Tells};
 ghost use Rattle.py_check_signatures.specs.Headers as headers;
 ghost use Rattle.py_check_places.specs.Views.{known_at};
-ghost use Rattle.py_check_definitions.specs.Globals as global_rules;
 ghost use Rattle.py_check_definitions.specs.Views.{headed_of};
 ghost use Rattle.py_check.specs.Outcome.{IsBound};
 ghost use Rattle.py_check.specs.Module as spec;
 ghost use Rattle.py_check.specs.Parts as views;
 
 use crate::bodies::{statements_or_none, typed_functions};
+use crate::found::add_found;
 use indexmap::IndexSet;
 use py_binder::{Scope, Scopes};
 use py_check_context::{VarType, Variables};
 use py_check_definitions::{
-    Environment, Function, Outlined, add_global_faults, add_header_faults, definitions_of,
-    no_classes, signatures_of, start_types, typed_variables,
+    Environment, Function, add_header_faults, definitions_of, no_classes, signatures_of,
+    start_types, typed_variables,
 };
 use py_check_names::{ModuleNames, names_in};
 use py_check_places::Place;
@@ -42,8 +40,8 @@ struct Own {
     place: Place,
 }
 
-/// The typed tree of a module of these scopes; and adds all that is wrong with it, in the order of the walk. The tree is of use only
-/// where nothing is.
+/// The typed tree of a module of these scopes; and adds all that is wrong with it, in the order of the walk, and then what binding
+/// found. The tree is of use only where nothing is.
 pub(crate) fn typed_module(
     alloc: Global,
     body: &[Stmt],
@@ -56,30 +54,31 @@ pub(crate) fn typed_module(
 {
     let found = definitions_of(alloc, body, &scopes.top)?;
     let functions = add_header_faults(alloc, &found, scopes, faults)?;
-    typed_with(alloc, &found, functions.as_slice(), scopes, body, faults)
+    typed_with(
+        alloc,
+        &found.known,
+        functions.as_slice(),
+        scopes,
+        body,
+        faults,
+    )
 }
 
-/// The same where these are its definitions and its functions with their headers, of which all that is wrong is told before.
-fn typed_with<'a>(
+/// The same where this is known of its names and these are its functions with their headers, of which all that is wrong is told
+/// before.
+fn typed_with(
     alloc: Global,
-    found: &Outlined<'a>,
+    known: &ModuleNames,
     functions: &[Function<'_>],
     scopes: &Scopes,
-    body: &'a [Stmt],
+    body: &[Stmt],
     faults: &mut Many<Diag>,
 ) -> Result<Checked, Memory>
-    ensures typed { IfOk result (λ c. typed_module c ≡ spec.typed_parts (views.environment_by found.now.known (map headed_of functions.now)) scopes.now.top (map headed_of functions.now) (body_tree body.now)) }
-    ensures told { IfOk result (λ c. faults.new ≡ faults.old ++ spec.statements_said (views.environment_by found.now.known (map headed_of functions.now)) scopes.now.top (map headed_of functions.now) (body_tree body.now) ++ flat_map (global_rules.global_said found.now.known.variables.keys) (global_rules.all_globals (body_tree body.now) (func_trees found.now.functions.items)) ++ filter global_rules.is_refusal scopes.now.faults) }
+    ensures typed { IfOk result (λ c. typed_module c ≡ spec.typed_parts (views.environment_by known.now (map headed_of functions.now)) scopes.now.top (map headed_of functions.now) (body_tree body.now)) }
+    ensures told { IfOk result (λ c. faults.new ≡ faults.old ++ spec.statements_said (views.environment_by known.now (map headed_of functions.now)) scopes.now.top (map headed_of functions.now) (body_tree body.now) ++ scopes.now.faults) }
 {
-    let typed = typed_parts(alloc, &found.known, functions, &scopes.top, body, faults)?;
-    add_global_faults(
-        alloc,
-        &found.known.variables,
-        body,
-        found.functions.as_slice(),
-        scopes.faults.as_slice(),
-        faults,
-    )?;
+    let typed = typed_parts(alloc, known, functions, &scopes.top, body, faults)?;
+    add_found(scopes.faults.as_slice(), faults)?;
     Ok(typed)
 }
 

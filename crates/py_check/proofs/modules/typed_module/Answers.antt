@@ -1,5 +1,4 @@
-use Rattle.std.proofs.Common.{◌≡◌, ◌++◌, ◌∙◌, List, map, filter, IfOk, refl, ap, subst}
-use Rattle.std.specs.List.{flat_map}
+use Rattle.std.proofs.Common.{◌≡◌, ◌++◌, ◌∙◌, List, map, IfOk, refl, ap, subst}
 use Rattle.py_syntax.specs.Statements.{body_tree}
 use Rattle.py_syntax_diagnostics.specs.declared.diagnostic.Diag.{Diag}
 use Rattle.py_typed.specs.Statements.{TypedModule, typed_module}
@@ -7,7 +6,6 @@ use Rattle.py_check_names.specs.Walked.{trees, func_trees}
 use Rattle.py_check_definitions.specs.declared.functions.Function.{Function}
 use Rattle.py_check_definitions.specs.Views.{headed_of}
 use Rattle.py_check_definitions.specs.Definitions.{headed_functions}
-use Rattle.py_check_definitions.specs.Globals.{global_said, all_globals, is_refusal}
 use Rattle.py_check.specs.Module.{typed_parts, statements_said}
 use Rattle.py_check.specs.Parts.{environment_by}
 use Rattle.py_check.proofs.WholeLemmas.{one_to_one, same_functions, same_tree, all_told}
@@ -37,7 +35,7 @@ returns-clause-told c =
     let l = c.in_ok-functions.functions.items in
     let d1 = c.add_header_faults.new.faults in
     let after : List Function → List Diag = λ k. d1 ++ statements_said (environment_by o.known (map headed_of k)) s.top (map headed_of k) m in
-    let all : List Function → List Diag = λ k. (after k ++ flat_map (global_said o.known.variables.keys) (all_globals m (func_trees o.functions.items))) ++ filter is_refusal s.faults in
+    let all : List Function → List Diag = λ k. after k ++ s.faults in
     let P : List Diag → Type 0 = λ x. IfOk c.typed_with.result (λ t. c.typed_with.new.faults ≡ x) in
     subst P
     (ap all c.as_slice.ensures.value
