@@ -196,7 +196,7 @@ module _ (is_identifier : List ℕ → Bool) (m : Suite) (nothing : said m ≡ [
       let one = body c e.variables sorts hf in
       let next = sorts_behind e sorts hf in
       let more = bodies_said e next (map (headed roles meant) fs) in
-      let b = body_typed e sorts hf (voices m nothing f) (inner_typed m nothing f) a.here.types before (none_before one.said more h) in
+      let b = body_typed e sorts hf (voices m nothing f) (inner_typed m nothing f) (whole.inner_known m nothing f a.here.names) a.here.types before (none_before one.said more h) in
       let ts = some_of one.got b.typed in
       let k = follows_block c (function_start c e.variables sorts hf) f.body in
       let none = suite_none f.body (none_before (inner_definitions_said f) (flat_map inner_definitions_said fs) pure) in

@@ -10,6 +10,7 @@ use Rattle.std.specs.Option.{option_map, option_zip}
 use Rattle.std.specs.Str.{bytes_eq}
 use Rattle.py_syntax.specs.Expressions.{ExprTree}
 use Rattle.py_syntax.specs.Statements.{Suite, FuncTree}
+use Rattle.py_binder.specs.declared.sight.Home.TheVariants.{InModule}
 use Rattle.py_binder.specs.Sights.{module_sights, body_sights}
 use Rattle.py_binder.specs.Scope.{all_there, seen_there, Roles, param_names, module_role, function_role, module_scope, functions}
 use Rattle.py_typed.specs.Sorts as sort
@@ -352,7 +353,7 @@ module _ (m : Suite) (nothing : said m ≡ []) where
       let one = body (context_in e hf.inside) e.variables sorts hf in
       let next = sorts_behind e sorts hf in
       let more = bodies_said e next (map (headed roles meant) fs) in
-      let b = body_typed e sorts hf (voices f) (inner_typed f) a.here.types before (none_before one.said more h) in
+      let b = body_typed e sorts hf (voices f) (inner_typed f) (whole.inner_known m nothing f a.here.names) a.here.types before (none_before one.said more h) in
       let ts = some_of one.got b.typed in
       let k = follows_block (context_in e hf.inside) (function_start (context_in e hf.inside) e.variables sorts hf) f.body in
       let s = function_stands f sorts q gv gh (λ i t g. final i t (behind_keeps roles meant e fs next i t g)) a.here.types (and_left (is_suite_written f.body) (list_all (λ f. is_suite_written f.body) fs) written)
@@ -419,7 +420,7 @@ module _ (m : Suite) (nothing : said m ≡ []) where
   top_stands : is_suite_written m ≡ true → TopStands
   top_stands written =
       let one = own_statements (whole.top m nothing) e.variables m in
-      let g = quiet_got one (loud_block (whole.top m nothing) (whole.top_voiced m nothing) ret.outside refl false top_first (whole.start_all m nothing) m) (whole.own_quiet m nothing) in
+      let g = quiet_got one (loud_block (whole.top m nothing) (whole.top_voiced m nothing) ret.outside refl InModule false top_first (whole.start_all m nothing) m (whole.top_known m nothing)) (whole.own_quiet m nothing) in
       let s = rows_stand meant ret.outside top_first m [] None (vary.top_scope m nothing) top_marked top_values top_declared tt refl written (λ z. absurd (not_there z)) g.0 g.1 in
       record { typed = ap (λ o. suite_typed tree [] None None [] false false (statements_of o)) g.1 ∙ s.typed; values = s.values.globals }
     where

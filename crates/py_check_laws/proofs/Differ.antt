@@ -23,11 +23,13 @@ use Rattle.py_check_definitions.specs.Definitions.{names_given, definition_said,
 use Rattle.py_check.specs.Module.{said, diagnostics}
 use Rattle.py_check_definitions.proofs.HeldLemmas.{functions_defined}
 use Rattle.py_check_expressions_laws.proofs.Types.{clash}
+use Rattle.py_check_expressions_laws.proofs.Known.{known_left, known_right}
 use Rattle.py_check_expressions_laws.proofs.Loud.{none_before, none_behind}
 use Rattle.py_check_laws.proofs.NameRows.{same_text, text_is_itself, sights_differ, differ_filter}
 use Rattle.py_check_laws.proofs.Sights.{roles_given, suite_gives}
 use Rattle.py_check_laws.proofs.Meant.{is_right, scope_names, given_no_variable}
 use Rattle.py_check_laws.proofs.Owned.{filtered}
+use Rattle.py_check_laws.proofs.KnownParts.{AreKnown, annotation_reads}
 use Rattle.py_check_laws.proofs.Signed.{fresh_function}
 use Rattle.py_check_laws.proofs.Modules as whole
 use Rattle.py_check_laws.proofs.Modules.{nothing_placed}
@@ -72,23 +74,23 @@ one_more earlier name names h r = record {
     by x (inr p) = (not_in earlier (name ∷ []) x (r.new x p)).0
 
 module _ (roles : Roles) (meanings : List ℕ → Meaning) (all : (x : List ℕ) → is_untyped (meanings x) ≡ false) where
-  fresh_step : (earlier : List (List ℕ)) (x : StmtTree) (fs : List FuncTree) → definition_said roles meanings earlier x ≡ [] → flat_map (header_said meanings) (held_by x ++ fs) ≡ [] → (flat_map (header_said meanings) fs ≡ [] → Fresh (earlier ++ names_given x) (function_names fs)) → Fresh earlier (function_names (held_by x ++ fs))
-  fresh_step earlier (s.at (s.Def name params ret body marks) span) fs h k next =
+  fresh_step : (earlier : List (List ℕ)) (x : StmtTree) (fs : List FuncTree) → definition_said roles meanings earlier x ≡ [] → AreKnown meanings (flat_map annotation_reads (held_by x ++ fs)) → flat_map (header_said meanings) (held_by x ++ fs) ≡ [] → (AreKnown meanings (flat_map annotation_reads fs) → flat_map (header_said meanings) fs ≡ [] → Fresh (earlier ++ names_given x) (function_names fs)) → Fresh earlier (function_names (held_by x ++ fs))
+  fresh_step earlier (s.at (s.Def name params ret body marks) span) fs h u k next =
       let f : FuncTree = record { name = name; params = params; ret = ret; body = body; marks = marks } in
-      let new = fresh_function meanings all roles f (span, is_new earlier name, h) (none_before (header_said meanings f) (flat_map (header_said meanings) fs) k) in
-      one_more earlier name (function_names fs) (not_so (contains earlier name) (and_left (not (contains earlier name)) (not (is_builtin_name name)) new)) (next (none_behind (header_said meanings f) (flat_map (header_said meanings) fs) k))
-  fresh_step earlier (s.at (s.ClassDef name bases body marks) span) fs h k next = absurd (cc)
-  fresh_step earlier x fs h k next = let r = next k in record { differ = r.differ; new = λ y q. (not_in earlier (names_given x) y (r.new y q)).0 }
+      let new = fresh_function meanings all roles f (span, is_new earlier name, h) (known_left meanings (annotation_reads f) (flat_map annotation_reads fs) u) (none_before (header_said meanings f) (flat_map (header_said meanings) fs) k) in
+      one_more earlier name (function_names fs) (not_so (contains earlier name) (and_left (not (contains earlier name)) (not (is_builtin_name name)) new)) (next (known_right meanings (annotation_reads f) (flat_map annotation_reads fs) u) (none_behind (header_said meanings f) (flat_map (header_said meanings) fs) k))
+  fresh_step earlier (s.at (s.ClassDef name bases body marks) span) fs h u k next = absurd (cc)
+  fresh_step earlier x fs h u k next = let r = next u k in record { differ = r.differ; new = λ y q. (not_in earlier (names_given x) y (r.new y q)).0 }
 
   -- THE NAMES of functions differ
-  pub all_fresh : (earlier : List (List ℕ)) (ds : List StmtTree) → definitions_said roles meanings earlier ds ≡ [] → flat_map (header_said meanings) (flat_map held_by ds) ≡ [] → Fresh earlier (function_names (flat_map held_by ds))
-  all_fresh earlier [] h k = record { differ = refl; new = λ x q. absurd (never q) }
+  pub all_fresh : (earlier : List (List ℕ)) (ds : List StmtTree) → definitions_said roles meanings earlier ds ≡ [] → AreKnown meanings (flat_map annotation_reads (flat_map held_by ds)) → flat_map (header_said meanings) (flat_map held_by ds) ≡ [] → Fresh earlier (function_names (flat_map held_by ds))
+  all_fresh earlier [] h u k = record { differ = refl; new = λ x q. absurd (never q) }
     where
       never : false ≡ true → ⊥
       never q = cc
-  all_fresh earlier (x ∷ ds) h k =
+  all_fresh earlier (x ∷ ds) h u k =
       let rest = definitions_said roles meanings (earlier ++ names_given x) ds in
-      fresh_step earlier x (flat_map held_by ds) (none_before (definition_said roles meanings earlier x) rest h) k (λ q. all_fresh (earlier ++ names_given x) ds (none_behind (definition_said roles meanings earlier x) rest h) q)
+      fresh_step earlier x (flat_map held_by ds) (none_before (definition_said roles meanings earlier x) rest h) u k (λ v q. all_fresh (earlier ++ names_given x) ds (none_behind (definition_said roles meanings earlier x) rest h) v q)
 
 -- ---- what is said of functions
 
@@ -133,7 +135,7 @@ module _ (m : Suite) (nothing : said m ≡ []) where
   headers_quiet = ap (flat_map (header_said (module_meaning m))) (sym (functions_defined m)) ∙ whole.annotations_quiet m nothing
 
   fresh_names : Fresh [] (function_names (flat_map held_by ds))
-  fresh_names = all_fresh (module_role m) (module_meaning m) (whole.typed_names m nothing) [] ds (whole.definitions m nothing) headers_quiet
+  fresh_names = all_fresh (module_role m) (module_meaning m) (whole.typed_names m nothing) [] ds (whole.definitions m nothing) (whole.definitions_known m nothing) headers_quiet
 
   pub variables_differ : all_differ outer ≡ true
   variables_differ = ap all_differ (scope_names is_variable (module_role m) sights) ∙ differ_filter (λ y. is_variable (module_role m y)) (first_sights sights) (sights_differ sights)

@@ -1,6 +1,9 @@
 mod Given
 mod Kept
 mod Assigned
+mod KnownParts
+mod Faultless
+mod KnownMarks
 mod Annotated
 mod Whole
 mod Names

@@ -33,7 +33,7 @@ use Rattle.py_check_coercions.specs.Rows.{changed_row}
 use Rattle.py_check_displays.specs.Indexing.{Literal, literal, indexing, is_tuple, part_of, part_made, part_at, parts_of, keyed_by, item_of, item_at}
 use Rattle.py_check_calls.specs.declared.callees.Single.{Single}
 use Rattle.py_check_calls.specs.declared.callees.Single.TheVariants as one
-use Rattle.py_check_calls.specs.Callees.{Callee, function, print, input, range, single, method, unknown, voiceless, uncalled, value, callee, has_key}
+use Rattle.py_check_calls.specs.Callees.{Callee, function, print, input, range, single, method, voiceless, uncalled, value, callee, has_key}
 use Rattle.py_check_calls.specs.Builtins.{as_value, gives_value, unprintable, printed, the_only, single_takes, single_made, single_given, single_call, print_call, input_call}
 use Rattle.py_check_calls.specs.Methods.{attribute, is_list_method, pop_call, append_given, append_call, value_call, method_call, item_of as item_sort_of}
 use Rattle.py_check_calls.specs.Calls.{arguments_row, call_made, function_given, function_call, positional, refused, called}
@@ -187,7 +187,6 @@ module _ (classes : List ClassEntry) where
       gives_rule AllLiteral IsPlain span (single_call classes f span) (positional span keyed args) (given_args span keyed args h) (λ es q e g. single_plain f span (the_only es) e (λ x r. only_literal es x q r) g)
   called_plain w span keyed (method f) None args h = gives_silent IsPlain
   called_plain w span keyed (method f) (Some a) args h = gives_rule AllLiteral IsPlain span (method_call classes w span f a) (positional span keyed args) (given_args span keyed args h) (λ es q e g. method_plain w span f a es e g)
-  called_plain w span keyed (unknown place x) p args h = gives_fails IsPlain place _
   called_plain w span keyed voiceless p args h = gives_silent IsPlain
   called_plain w span keyed uncalled p args h = gives_rule AllLiteral IsPlain span (refused Rattle.py_check_messages.specs.Messages.not_callable) (positional span keyed args) (given_args span keyed args h) (λ es q e g. absurd (refused_never _ es e g))
   called_plain w span keyed value None args h = gives_silent IsPlain
@@ -284,6 +283,7 @@ module _ (C : Context) (V : VarSorts) where
   named_plain known span x (meaning.Global i) = variable_plain span x (node.Global i) false (var_at V.globals i) (λ t. record { flag = refl; none = refl })
   named_plain known span x meaning.ModuleName = gives_is IsPlain _ (record { flag = refl; none = refl })
   named_plain known span x meaning.Untyped = gives_silent IsPlain
+  named_plain known span x meaning.Unknown = gives_silent IsPlain
   named_plain known span x _ = gives_fails IsPlain span _
 
   plain_all : (e : ExprTree) (s : Seen TypedExpr) → is_true e ≡ false → is_none_tree e ≡ false → Gives s IsPlain → Gives s (IsHead e)

@@ -1,5 +1,5 @@
 -- The type of an annotation is one that a variable may have, where no name means a class.
-use Rattle.std.proofs.Common.{◌≡◌, ℕ, Bool, true, false, ◌&&◌, List, [], ◌∷◌, length, nat_lt, Option, Some, None, refl, ap, sym, ◌∙◌, subst, if◌then◌else◌}
+use Rattle.std.proofs.Common.{◌≡◌, ℕ, Bool, true, false, ◌&&◌, ◌||◌, List, [], ◌∷◌, length, nat_lt, Option, Some, None, refl, ap, sym, ◌∙◌, subst, if◌then◌else◌}
 use Rattle.std.proofs.lemmas.Bool.{and_from, or_right}
 use Rattle.std.proofs.lemmas.Option.{same_Some}
 use Rattle.std.specs.List.{list_all}
@@ -45,14 +45,13 @@ module _ (classes : ℕ) where
   plain_valued n (meaning.Exception c) h t q = same_value (sort.Exc c) t q refl
   plain_valued n _ h t q = absurd (cc)
 
-  named_valued : (n : ℕ) (m : Meaning) → is_heard n m ≡ true → (x : List ℕ) (span : Span) (t : Sort) → (named m x span).got ≡ Some t → IsValue t
-  named_valued n m h x span t q = by (is_unknown m) (is_untyped m) (plain_type m) refl q
+  named_valued : (n : ℕ) (m : Meaning) → is_heard n m ≡ true → (span : Span) (t : Sort) → (named m span).got ≡ Some t → IsValue t
+  named_valued n m h span t q = by (is_unknown m || is_untyped m) (plain_type m) refl q
     where
-      by : (a b : Bool) (o : Option Sort) → plain_type m ≡ o → (if a then fails span (message.not_defined x) else (if b then silent else valid span o)).got ≡ Some t → IsValue t
-      by true b o p r = absurd (cc)
-      by false true o p r = absurd (cc)
-      by false false None p r = absurd (cc)
-      by false false (Some s) p r = plain_valued n m h t (p ∙ r)
+      by : (b : Bool) (o : Option Sort) → plain_type m ≡ o → (if b then silent else valid span o).got ≡ Some t → IsValue t
+      by true o p r = absurd (cc)
+      by false None p r = absurd (cc)
+      by false (Some s) p r = plain_valued n m h t (p ∙ r)
 
   optional_valued : (t : Sort) → IsValue t → IsValue (optional t)
   optional_valued (sort.Optional u) h = h
@@ -108,7 +107,7 @@ module _ (classes : ℕ) where
   module _ (meanings : List ℕ → Meaning) (n : ℕ) (heard : (x : List ℕ) → is_heard n (meanings x) ≡ true) where
     quoted_valued : (o : Option (List ℕ)) (span : Span) (t : Sort) → (quoted meanings o span).got ≡ Some t → IsValue t
     quoted_valued None span t q = absurd (cc)
-    quoted_valued (Some x) span t q = named_valued n (meanings x) (heard x) x span t q
+    quoted_valued (Some x) span t q = named_valued n (meanings x) (heard x) span t q
 
     formed_valued : (o : Option Former) (b : Bool) (whole : ExprTree) (span : Span) (parts : Seen (List Sort)) → ((ts : List Sort) → parts.got ≡ Some ts → list_all (is_value_type classes) ts ≡ true) → (t : Sort) → (formed meanings (form_or o b) whole span parts).got ≡ Some t → IsValue t
     formed_valued (Some f) b whole span parts h t q =
@@ -147,7 +146,7 @@ module _ (classes : ℕ) where
       mark_valued (e.at node span) t q = node_valued node span t q
 
       node_valued : (node : ExprNode) (span : Span) (t : Sort) → (annotation meanings (e.at node span)).got ≡ Some t → IsValue t
-      node_valued (e.Name x) span t q = named_valued n (meanings x) (heard x) x span t q
+      node_valued (e.Name x) span t q = named_valued n (meanings x) (heard x) span t q
       node_valued (e.Str text) span t q = quoted_valued (name_in_quotes text) span t q
       node_valued (e.Bin op a b) span t q =
           bar_valued (is_or_none op b) (is_or_none op a) (made optional (annotation meanings a)) (made optional (annotation meanings b)) (no_type meanings (e.at (e.Bin op a b) span) span) t (made_valued a (mark_valued a) t) (made_valued b (mark_valued b) t) refl q

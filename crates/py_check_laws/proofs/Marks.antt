@@ -19,7 +19,7 @@ use Rattle.py_check_flow.specs.Closed.{is_closed}
 use Rattle.py_check_messages.specs.Seen.{Seen, both, made, ruled}
 use Rattle.py_check_messages.specs.Rows.{row_then}
 use Rattle.py_check_annotations.specs.Annotations.{annotation}
-use Rattle.py_check_annotations.specs.Names.{is_untyped}
+use Rattle.py_check_annotations.specs.Names.{is_untyped, has_unknown}
 use Rattle.py_check_values.specs.Returns.{ReturnSort}
 use Rattle.py_check_places.specs.Places.{Known, where_test, entering, Way, setting_out, behind_arm}
 use Rattle.py_check_targets.specs.Targets.{name_aim, seen_aim, declared, given}
@@ -32,6 +32,7 @@ use Rattle.py_check_expressions_laws.specs.Laws as law
 use Rattle.py_check_expressions_laws.proofs.Loud.{none_before, none_behind}
 use Rattle.py_check_laws.proofs.Whole.{quiet_got}
 use Rattle.py_check_laws.proofs.Annotated.{loud_annotation}
+use Rattle.py_check_laws.proofs.KnownMarks.{marks_lost, mark_known}
 use Rattle.py_check_laws.proofs.Shapes.{definition_shape}
 
 module _ (meanings : List ℕ → Meaning) where
@@ -75,17 +76,17 @@ module _ (meanings : List ℕ → Meaning) where
       by false r next = next r
 
   module _ (all : (x : List ℕ) → is_untyped (meanings x) ≡ false) where
-    mark_typed : (mark : ExprTree) → (annotation meanings mark).said ≡ [] → law.is_untyped (given_sort (annotation meanings mark).got) ≡ false
-    mark_typed mark h = let g = quiet_got (annotation meanings mark) (loud_annotation meanings all mark) h in ap (λ o. law.is_untyped (given_sort o)) g.1
+    mark_typed : (mark : ExprTree) → has_unknown meanings mark ≡ false → (annotation meanings mark).said ≡ [] → law.is_untyped (given_sort (annotation meanings mark).got) ≡ false
+    mark_typed mark k h = let g = quiet_got (annotation meanings mark) (loud_annotation meanings all mark k) h in ap (λ o. law.is_untyped (given_sort o)) g.1
 
-    -- NO VARIABLE is without a type from the start, where the annotations say nothing
-    pub start_typed : (bs : List Binding) → marks_said bs ≡ [] → (x : List ℕ) → law.is_untyped (start_sort meanings bs x) ≡ false
-    start_typed bs h x = by (first_mark bs x) refl
+    -- NO VARIABLE is without a type from the start, where the annotations say nothing and each name in them is known
+    pub start_typed : (bs : List Binding) → marks_lost meanings bs ≡ false → marks_said bs ≡ [] → (x : List ℕ) → law.is_untyped (start_sort meanings bs x) ≡ false
+    start_typed bs k h x = by (first_mark bs x) refl
       where
         by : (o : Option (Option ExprTree)) → first_mark bs x ≡ o → law.is_untyped (by_mark meanings o) ≡ false
         by None q = refl
         by (Some None) q = refl
-        by (Some (Some mark)) q = mark_typed mark (mark_of bs h x mark q)
+        by (Some (Some mark)) q = mark_typed mark (mark_known meanings bs k x mark q) (mark_of bs h x mark q)
 
 -- ---- statements
 

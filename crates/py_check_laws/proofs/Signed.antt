@@ -8,7 +8,10 @@ use Rattle.py_syntax.specs.declared.token.Span.{Span}
 use Rattle.py_syntax.specs.Expressions.{ExprTree}
 use Rattle.py_syntax.specs.Statements as s
 use Rattle.py_syntax.specs.Statements.{StmtTree, Suite, FuncTree}
+use Rattle.py_binder.specs.declared.sight.Manner.TheVariants.{Annotation}
+use Rattle.py_binder.specs.Sights.{maybe_reads, params_reads}
 use Rattle.py_binder.specs.Scope.{Roles, param_names}
+use Rattle.py_binder.specs.Faults.{function_faults}
 use Rattle.py_typed.specs.Sorts.{Sort}
 use Rattle.py_typed.specs.Classes.{Signature}
 use Rattle.py_typed.proofs.FitLemmas.{and_left, and_right}
@@ -23,9 +26,11 @@ use Rattle.py_check_signatures.specs.Headers.{HeaderSorts, has_type, marked, ret
 use Rattle.py_check_signatures.specs.Definitions.{own_count, repeated, are_marked, all_marked, body_fault, def_fault, no_marks, told, is_new, is_builtin_name, gives_value}
 use Rattle.py_check_definitions.specs.Definitions.{headed, marks_said, function_said, import_said, names_given, definition_said, definitions_said}
 use Rattle.py_check_expressions_laws.specs.Laws.{is_voiceless}
+use Rattle.py_check_expressions_laws.proofs.Known.{known_left, known_right}
 use Rattle.py_check_expressions_laws.proofs.Loud.{none_before, none_behind}
 use Rattle.py_check_laws.proofs.Given.{some_is}
 use Rattle.py_check_laws.proofs.Whole.{quiet_got}
+use Rattle.py_check_laws.proofs.KnownParts.{AreKnown, annotation_reads}
 use Rattle.py_check_laws.proofs.Annotated.{loud_annotation, loud_return}
 use Rattle.py_check_laws.proofs.Meant.{is_heard, is_right}
 
@@ -141,18 +146,19 @@ pub signed : (h : HeaderSorts) → HasTypes h → is_some (signature_of h) ≡ t
 signed h t = ap is_some (signed_by (all_of h.params) h.ret (all_there h.params t.params) t.ret).1
 
 module _ (meanings : List ℕ → Meaning) (all : (x : List ℕ) → is_untyped (meanings x) ≡ false) where
-  mark_typed : (o : Option ExprTree) → (marked meanings o).said ≡ [] → has_type o (marked meanings o).got ≡ true
-  mark_typed None h = refl
-  mark_typed (Some mark) h = let g = quiet_got (annotation meanings mark) (loud_annotation meanings all mark) h in some_is (annotation meanings mark).got g.0 g.1
+  mark_typed : (o : Option ExprTree) → AreKnown meanings (maybe_reads Annotation o) → (marked meanings o).said ≡ [] → has_type o (marked meanings o).got ≡ true
+  mark_typed None k h = refl
+  mark_typed (Some mark) k h = let g = quiet_got (annotation meanings mark) (loud_annotation meanings all mark k) h in some_is (annotation meanings mark).got g.0 g.1
 
-  result_typed : (o : Option ExprTree) → (returned meanings o).said ≡ [] → has_type o (returned meanings o).got ≡ true
-  result_typed None h = refl
-  result_typed (Some mark) h = let g = quiet_got (return_annotation meanings mark) (loud_return meanings all mark) h in some_is (return_annotation meanings mark).got g.0 g.1
+  result_typed : (o : Option ExprTree) → AreKnown meanings (maybe_reads Annotation o) → (returned meanings o).said ≡ [] → has_type o (returned meanings o).got ≡ true
+  result_typed None k h = refl
+  result_typed (Some mark) k h = let g = quiet_got (return_annotation meanings mark) (loud_return meanings all mark k) h in some_is (return_annotation meanings mark).got g.0 g.1
 
-  params_have : (ps : List (List ℕ × Option ExprTree)) → params_said meanings ps ≡ [] → params_typed meanings ps ≡ true
-  params_have [] h = refl
-  params_have (p ∷ ps) h =
-      and_from (has_type p.1 (marked meanings p.1).got) (params_typed meanings ps) (mark_typed p.1 (none_before (marked meanings p.1).said (params_said meanings ps) h)) (params_have ps (none_behind (marked meanings p.1).said (params_said meanings ps) h))
+  params_have : (ps : List (List ℕ × Option ExprTree)) → AreKnown meanings (params_reads ps) → params_said meanings ps ≡ [] → params_typed meanings ps ≡ true
+  params_have [] k h = refl
+  params_have (p ∷ ps) k h =
+      and_from (has_type p.1 (marked meanings p.1).got) (params_typed meanings ps) (mark_typed p.1 (known_left meanings (maybe_reads Annotation p.1) (params_reads ps) k) (none_before (marked meanings p.1).said (params_said meanings ps) h))
+      (params_have ps (known_right meanings (maybe_reads Annotation p.1) (params_reads ps) k) (none_behind (marked meanings p.1).said (params_said meanings ps) h))
 
   mark_some : (o : Option ExprTree) (t : Option Sort) → is_some o ≡ true → has_type o t ≡ true → is_some t ≡ true
   mark_some None t h g = absurd (cc)
@@ -165,31 +171,33 @@ module _ (meanings : List ℕ → Meaning) (all : (x : List ℕ) → is_untyped 
       (mark_some p.1 (marked meanings p.1).got (and_left (is_some p.1) (are_marked ps) h) (and_left (has_type p.1 (marked meanings p.1).got) (params_typed meanings ps) g))
       (params_some ps (and_right (is_some p.1) (are_marked ps) h) (and_right (has_type p.1 (marked meanings p.1).got) (params_typed meanings ps) g))
 
-  -- a function of which nothing is said, in its annotations and else
+  -- a function of which nothing is said, in its annotations and else, and with the names of which nothing is wrong
   pub record IsSigned (roles : Roles) (f : FuncTree) : Type 0 where
     pub sound : IsSound (own_count (headed roles meanings f).inside) f (header meanings f).ret
+    pub names : function_faults roles f ≡ []
     pub types : HasTypes (header meanings f)
 
-  faultless : (roles : Roles) (f : FuncTree) (q : QuietFunction roles meanings f) → header_said meanings f ≡ [] → def_fault q.1 (own_count (headed roles meanings f).inside) f (header meanings f).ret ≡ None
-  faultless roles f q h =
-      let ps = params_have f.params (none_before (params_said meanings f.params) (returned meanings f.ret).said h) in
-      let rs = result_typed f.ret (none_behind (params_said meanings f.params) (returned meanings f.ret).said h) in
+  faultless : (roles : Roles) (f : FuncTree) (q : QuietFunction roles meanings f) → AreKnown meanings (annotation_reads f) → header_said meanings f ≡ [] → def_fault q.1 (own_count (headed roles meanings f).inside) f (header meanings f).ret ≡ None
+  faultless roles f q k h =
+      let ps = params_have f.params (known_left meanings (params_reads f.params) (maybe_reads Annotation f.ret) k) (none_before (params_said meanings f.params) (returned meanings f.ret).said h) in
+      let rs = result_typed f.ret (known_right meanings (params_reads f.params) (maybe_reads Annotation f.ret) k) (none_behind (params_said meanings f.params) (returned meanings f.ret).said h) in
       (fault_none q.0 f.name (def_fault q.1 (own_count (headed roles meanings f).inside) f (header meanings f).ret) (header meanings f).typed f.marks (and_from (params_typed meanings f.params) (has_type f.ret (returned meanings f.ret).got) ps rs) q.2).0
 
   -- its name is new
-  pub fresh_function : (roles : Roles) (f : FuncTree) (q : QuietFunction roles meanings f) → header_said meanings f ≡ [] → q.1 ≡ true
-  fresh_function roles f q h =
+  pub fresh_function : (roles : Roles) (f : FuncTree) (q : QuietFunction roles meanings f) → AreKnown meanings (annotation_reads f) → header_said meanings f ≡ [] → q.1 ≡ true
+  fresh_function roles f q k h =
       (fault_parts q.1 (Rattle.py_check_messages.specs.Messages.already_defined f.name) (option_map Rattle.py_check_messages.specs.Messages.duplicate_parameter (repeated [] (param_names f)))
-      (option_map Rattle.py_check_messages.specs.Messages.cannot_assign (Rattle.std.specs.Prelude.find is_builtin_name (param_names f))) (body_fault (own_count (headed roles meanings f).inside) f (header meanings f).ret) (faultless roles f q h)).0
+      (option_map Rattle.py_check_messages.specs.Messages.cannot_assign (Rattle.std.specs.Prelude.find is_builtin_name (param_names f))) (body_fault (own_count (headed roles meanings f).inside) f (header meanings f).ret) (faultless roles f q k h)).0
 
-  one_signed : (roles : Roles) (f : FuncTree) → QuietFunction roles meanings f → header_said meanings f ≡ [] → IsSigned roles f
-  one_signed roles f q h =
-      let ps = params_have f.params (none_before (params_said meanings f.params) (returned meanings f.ret).said h) in
-      let rs = result_typed f.ret (none_behind (params_said meanings f.params) (returned meanings f.ret).said h) in
-      let n = fault_none q.0 f.name (def_fault q.1 (own_count (headed roles meanings f).inside) f (header meanings f).ret) (header meanings f).typed f.marks (and_from (params_typed meanings f.params) (has_type f.ret (returned meanings f.ret).got) ps rs) q.2 in
-      let d = sound_is q.1 (own_count (headed roles meanings f).inside) f (header meanings f).ret n.0 in
+  one_signed : (roles : Roles) (f : FuncTree) → QuietFunction roles meanings f → AreKnown meanings (annotation_reads f) → function_faults roles f ≡ [] → header_said meanings f ≡ [] → IsSigned roles f
+  one_signed roles f q k n h =
+      let ps = params_have f.params (known_left meanings (params_reads f.params) (maybe_reads Annotation f.ret) k) (none_before (params_said meanings f.params) (returned meanings f.ret).said h) in
+      let rs = result_typed f.ret (known_right meanings (params_reads f.params) (maybe_reads Annotation f.ret) k) (none_behind (params_said meanings f.params) (returned meanings f.ret).said h) in
+      let g = fault_none q.0 f.name (def_fault q.1 (own_count (headed roles meanings f).inside) f (header meanings f).ret) (header meanings f).typed f.marks (and_from (params_typed meanings f.params) (has_type f.ret (returned meanings f.ret).got) ps rs) q.2 in
+      let d = sound_is q.1 (own_count (headed roles meanings f).inside) f (header meanings f).ret g.0 in
       record {
         sound = d;
+        names = n;
         types = record { params = params_some f.params (and_left (are_marked f.params) (is_some f.ret) d.marks) ps; ret = mark_some f.ret (returned meanings f.ret).got (and_right (are_marked f.params) (is_some f.ret) d.marks) rs };
       }
 
@@ -201,10 +209,15 @@ module _ (meanings : List ℕ → Meaning) (all : (x : List ℕ) → is_untyped 
   AllSigned roles [] = Unit {0}
   AllSigned roles (f ∷ fs) = SignedThen roles f (AllSigned roles fs)
 
-  pub all_signed : (roles : Roles) (fs : List FuncTree) → AllQuiet roles meanings fs → flat_map (header_said meanings) fs ≡ [] → AllSigned roles fs
-  all_signed roles [] q h = tt
-  all_signed roles (f ∷ fs) q h =
-      record { here = one_signed roles f q.here (none_before (header_said meanings f) (flat_map (header_said meanings) fs) h); rest = all_signed roles fs q.rest (none_behind (header_said meanings f) (flat_map (header_said meanings) fs) h) }
+  pub all_signed : (roles : Roles) (fs : List FuncTree) → AllQuiet roles meanings fs → AreKnown meanings (flat_map annotation_reads fs) → flat_map (function_faults roles) fs ≡ [] → flat_map (header_said meanings) fs ≡ [] → AllSigned roles fs
+  all_signed roles [] q k n h = tt
+  all_signed roles (f ∷ fs) q k n h =
+      let more = flat_map annotation_reads fs in
+      let names = flat_map (function_faults roles) fs in
+      record {
+        here = one_signed roles f q.here (known_left meanings (annotation_reads f) more k) (none_before (function_faults roles f) names n) (none_before (header_said meanings f) (flat_map (header_said meanings) fs) h);
+        rest = all_signed roles fs q.rest (known_right meanings (annotation_reads f) more k) (none_behind (function_faults roles f) names n) (none_behind (header_said meanings f) (flat_map (header_said meanings) fs) h);
+      }
 
   pub signatures_there : (roles : Roles) (fs : List FuncTree) → AllSigned roles fs → list_all (λ o. is_some o) (map (λ f. signature_of (header meanings f)) fs) ≡ true
   signatures_there roles [] a = refl

@@ -9,6 +9,7 @@ use Rattle.py_syntax.specs.Expressions.{ExprTree}
 use Rattle.py_syntax.specs.Statements.{Suite, FuncTree}
 use Rattle.py_binder.specs.declared.sight.Home.TheVariants.{InModule, InFunction}
 use Rattle.py_binder.specs.Sights.{module_sights, body_sights}
+use Rattle.py_binder.specs.Faults.{function_faults}
 use Rattle.py_binder.specs.Scope.{contains, all_there, bound_there, seen_there, Roles, is_variable, param_names, module_role, function_role, first_sights, module_scope}
 use Rattle.py_typed.specs.Sorts.{Sort}
 use Rattle.py_check_context.specs.declared.scope.Meaning.{Meaning}
@@ -37,6 +38,7 @@ use Rattle.py_check_laws.proofs.NameRows.{sights_differ, differ_filter, number_a
 use Rattle.py_check_laws.proofs.Owned.{there, filtered, filter_none, global_by, bound_closed, param_or_bound, param_found, own_means, scope_is}
 use Rattle.py_check_laws.proofs.Meant.{Fine, function_fine, scope_names, seen_means, module_bound, module_own}
 use Rattle.py_check_laws.proofs.Signed.{HasTypes, AllSigned}
+use Rattle.py_check_laws.proofs.KnownParts.{AreKnown}
 use Rattle.py_check_laws.proofs.Whole.{quiet_block}
 use Rattle.py_check_laws.proofs.Signed.{voiced, heard_typed}
 use Rattle.py_check_laws.proofs.Modules as whole
@@ -79,7 +81,7 @@ kept_has xs ys k i h = ap has_type (k.stays i (set_by (var_at xs i) h)) ∙ h
 -- ---- functions
 
 module _ (e : Environment) (roles : Roles) (meanings : List ℕ → Meaning) (all : (x : List ℕ) → is_untyped (meanings x) ≡ false) (names : (f : FuncTree) → Voiced (context_in e (headed roles meanings f).inside)) (inner : (f : FuncTree) (x : List ℕ) → is_untyped ((context_in e (headed roles meanings f).inside).meaning x) ≡ false)
-    (n : ℕ) (fine : Fine e.said e.variables n roles) (others : (x : List ℕ) → is_own (roles x) ≡ false) where
+    (known : (f : FuncTree) → function_faults roles f ≡ [] → AreKnown (context_in e (headed roles meanings f).inside).meaning (body_sights f)) (n : ℕ) (fine : Fine e.said e.variables n roles) (others : (x : List ℕ) → is_own (roles x) ≡ false) where
   module _ (f : FuncTree) (sorts : List VarSort) where
     abbrev hd : Headed
     hd = headed roles meanings f
@@ -146,7 +148,7 @@ module _ (e : Environment) (roles : Roles) (meanings : List ℕ → Meaning) (al
       let next = sorts_behind e sorts hf in
       let more = bodies_said e next (map (headed roles meanings) fs) in
       let quiet = none_before one.said more h in
-      let b = body_typed e sorts hf (names f) (inner f) a.here.types before quiet in
+      let b = body_typed e sorts hf (names f) (inner f) (known f a.here.names) a.here.types before quiet in
       let stays = follows f sorts in
       let rest = functions_have next (stays.globals.size ∙ q) b.behind fs a.rest (none_behind one.said more h) in
       record {
@@ -188,7 +190,7 @@ module _ (m : Suite) (nothing : said m ≡ []) where
   top_fixed = suite_fixed here ret.outside false first top_scope m (whole.own_quiet m nothing)
 
   pub top_typed : (i : ℕ) → law.is_untyped (var_at last.types.globals i) ≡ false
-  top_typed = (quiet_block here (whole.top_voiced m nothing) ret.outside refl false first (whole.start_all m nothing) m (whole.own_quiet m nothing)).globals
+  top_typed = (quiet_block here (whole.top_voiced m nothing) ret.outside refl InModule false first (whole.start_all m nothing) m (whole.top_known m nothing) (whole.own_quiet m nothing)).globals
 
   pub top_size : length last.types.globals ≡ length e.variables
   top_size = (follows_block here first m).globals.size ∙ length-map e.variables (start_sort (module_meaning m) (suite_bindings m))
@@ -212,7 +214,7 @@ module _ (m : Suite) (nothing : said m ≡ []) where
   pub variables_typed : are_variables_typed m ≡ true
   variables_typed =
       let sorts = last.types.globals in
-      let all = functions_have e roles (module_meaning m) (whole.typed_names m nothing) (λ f x. voiced (signatures m) (whole.signs m nothing) ((whole.inside m nothing f).meaning x) (whole.inner_heard m nothing f x)) (λ f x. heard_typed size ((whole.inside m nothing f).meaning x) (whole.inner_heard m nothing f x)) size (whole.fine m nothing)
+      let all = functions_have e roles (module_meaning m) (whole.typed_names m nothing) (λ f x. voiced (signatures m) (whole.signs m nothing) ((whole.inside m nothing f).meaning x) (whole.inner_heard m nothing f x)) (λ f x. heard_typed size ((whole.inside m nothing f).meaning x) (whole.inner_heard m nothing f x)) (whole.inner_known m nothing) size (whole.fine m nothing)
       (module_own m size (whole.right m nothing) (whole.count m nothing)) sorts top_size top_typed (Rattle.py_binder.specs.Scope.functions m) (whole.all_functions m nothing) (none_behind (own_statements here e.variables m).said (bodies_said e sorts (headed_functions m)) (whole.statements m nothing)) in
       and_from (all_have_types (sorts_behind_all e sorts (headed_functions m)) 0 e.variables) (are_own_typed e sorts (headed_functions m))
       (all_have_by (sorts_behind_all e sorts (headed_functions m)) 0 e.variables (λ j g. all.globals j (global_has j (from_zero j (length e.variables) g)))) all.own

@@ -1,11 +1,14 @@
 -- What holds of the typing of every row of statements.
 use Rattle.std.specs.Prelude.{◌≡◌, ℕ, Bool, true, false, List, [], length, Option, Some, is_some}
 use Rattle.py_syntax.specs.Statements.{Suite}
+use Rattle.py_binder.specs.declared.sight.Home.{Home}
+use Rattle.py_binder.specs.Sights.{suite_sights}
 use Rattle.py_typed.specs.Sorts.{Sort}
 use Rattle.py_typed.specs.Statements.{Variable, TypedModule, TypedStmt, suite_of}
 use Rattle.py_typed.specs.Narrowing.{after_suite}
 use Rattle.py_typed.specs.WellTyped.{is_single, suite_typed}
 use Rattle.py_check_context.specs.Context.{Context}
+use Rattle.py_check_annotations.specs.Names.{any_unknown}
 use Rattle.py_check_names.specs.Outline.{suite_definitions}
 use Rattle.py_check_values.specs.Returns.{ReturnSort, untyped}
 use Rattle.py_check_places.specs.Places.{Known}
@@ -21,12 +24,12 @@ abbrev pub is_judged : ReturnSort → Bool
 is_judged untyped = false
 is_judged r = true
 
--- where no name in reach is without a type, statements of which nothing is said are typed whole, and behind them no name is
--- without a type
+-- where no name in reach is without a type, statements of a module or of a function in which each name that is read or bound is
+-- known, and of which nothing is said, are typed whole, and behind them no name is without a type
 abbrev pub QuietBlockIsTyped : Type 0
 QuietBlockIsTyped =
-    (c : Context) (ret : ReturnSort) (loops : Bool) (k : Known) (body : Suite) → is_judged ret ≡ true → AllHaveTypes c k.types
-    → (block c ret loops k body).said ≡ [] → (is_some (block c ret loops k body).got ≡ true) × AllHaveTypes c (block_after c k body).types
+    (c : Context) (home : Home) (ret : ReturnSort) (loops : Bool) (k : Known) (body : Suite) → is_judged ret ≡ true → AllHaveTypes c k.types
+    → any_unknown c.meaning (suite_sights home body) ≡ false → (block c ret loops k body).said ≡ [] → (is_some (block c ret loops k body).got ≡ true) × AllHaveTypes c (block_after c k body).types
 
 -- ---- what is typed is well typed
 

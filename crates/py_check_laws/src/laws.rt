@@ -2,7 +2,8 @@
 ghost use Rattle.py_check_laws.specs.Modules.{QuietModuleFixesTypes, QuietModuleIsTyped, QuietModuleIsWellTyped, QuietModuleNamesDiffer, QuietModuleStands, QuietModuleTypesVariables};
 ghost use Rattle.py_check_laws.specs.Statements.{QuietBlockIsTyped, TypedBlockIsWellTyped};
 
-/// Where no name in reach is without a type, a block of which nothing is said is typed whole, and no name is without a type behind it.
+/// Where no name in reach is without a type and each name in a block is known, a block of which nothing is said is typed whole, and no
+/// name is without a type behind it.
 pub fn what_is_not_typed_in_a_block_has_said_why()
     ensures { QuietBlockIsTyped }
 {}
