@@ -1,6 +1,7 @@
 -- A closed row of statements does not come to its end, and one without a `break` of the loop around it does not break that loop.
-use Rattle.std.proofs.Common.{◌≡◌, ℕ, zero, suc, Bool, true, false, not, List, Option, refl, sym, subst, ◌⊎◌, inl, inr, ⊎_elim}
-use Rattle.std.specs.Prelude.{◌&&◌, ◌||◌, if◌then◌else◌}
+use Rattle.std.proofs.Common.{◌≡◌, ℕ, zero, suc, Bool, true, false, not, List, Option, refl, sym, subst, ◌⊎◌, ⊎_elim}
+use Rattle.std.proofs.lemmas.Bool.{or_parts, and_parts, or_cases}
+use Rattle.std.specs.Prelude.{if◌then◌else◌}
 use Rattle.value_core.specs.Value.{NoneVal}
 use Rattle.py_syntax.specs.declared.token.Span.{Span}
 use Rattle.py_typed.specs.Sorts.{Sort}
@@ -38,18 +39,6 @@ flow_avoids : (bad seen : Flow → Bool) (r : Outcome Flow) (go : Flow → Does 
 flow_avoids bad seen (Gives f s) go k h = h f s k
 flow_avoids bad seen (Raises v s) go k h = tt
 flow_avoids bad seen (Stops w s) go k h = tt
-
-or_either : (a b : Bool) → (a || b) ≡ true → (a ≡ true) ⊎ (b ≡ true)
-or_either true b e = inl refl
-or_either false b e = inr e
-
-or_neither : (a b : Bool) → (a || b) ≡ false → (a ≡ false) × (b ≡ false)
-or_neither true b e = absurd (cc)
-or_neither false b e = (refl, e)
-
-and_both : (a b : Bool) → (a && b) ≡ true → (a ≡ true) × (b ≡ true)
-and_both true b e = (refl, e)
-and_both false b e = absurd (cc)
 
 not_so : (a : Bool) → not a ≡ true → a ≡ false
 not_so true e = absurd (cc)
@@ -126,7 +115,7 @@ module _ (classes : List ClassEntry) (call : Calls) (globals locals : List Varia
     act_unbroken looping (Do e) suits h s = on_avoids is_break (value_of classes call globals locals e s) (λ _. Gives Goes) (λ a t. refl)
     act_unbroken looping (Assign ts e) suits h s = on_avoids is_break (value_of classes call globals locals e s) _ (λ v t. on_avoids is_break (bind classes call globals locals ts _ v t) (λ _. Gives Goes) (λ a u. refl))
     act_unbroken looping (Aug target op e t) suits h s = on_avoids is_break (update classes call globals locals target (changed classes call globals locals target op e t) s) (λ _. Gives Goes) (λ a u. refl)
-    act_unbroken looping (If arms other) suits h s = let k = or_neither (breaks_arms arms) (breaks_suite other) h in arms_unbroken looping arms (suite classes call globals locals n other) suits.0 k.0 (λ t. suite_unbroken looping other suits.1 k.1 t) s
+    act_unbroken looping (If arms other) suits h s = let k = or_parts (breaks_arms arms) (breaks_suite other) h in arms_unbroken looping arms (suite classes call globals locals n other) suits.0 k.0 (λ t. suite_unbroken looping other suits.1 k.1 t) s
     act_unbroken looping (While test body) suits h s = loop_unbroken {X = ℕ} (λ i. test_of classes call globals locals test) (λ i. suite classes call globals locals n body) (λ i. i) (suc n) 0 s
     act_unbroken looping (Return e) suits h s = on_avoids is_break (value_or classes call globals locals NoneVal e s) (λ v. Gives (Returns v)) (λ v t. refl)
     act_unbroken looping Break suits h s = absurd (cc)
@@ -143,13 +132,13 @@ module _ (classes : List ClassEntry) (call : Calls) (globals locals : List Varia
     suite_unbroken : (looping : Bool) (ts : TypedSuite) → SuiteSuits m vs gives looping ts → breaks_suite ts ≡ false → (s : State) → Avoids is_break (suite classes call globals locals n ts s)
     suite_unbroken looping no_stmts suits e s = refl
     suite_unbroken looping (stmt_then a more) suits e s =
-        let k = or_neither (breaks a) (breaks_suite more) e in
+        let k = or_parts (breaks a) (breaks_suite more) e in
         flow_avoids is_break is_break (statement classes call globals locals n a s) (flow_on (suite classes call globals locals n more)) (stmt_unbroken looping a suits.0 k.0 s) (row_unbroken (suite classes call globals locals n more) (λ u. suite_unbroken looping more suits.1 k.1 u))
 
     arms_unbroken : (looping : Bool) (arms : Arms) (other : Does Flow) → ArmsSuit m vs gives looping arms → breaks_arms arms ≡ false → ((s : State) → Avoids is_break (other s)) → (s : State) → Avoids is_break (first_arm classes call globals locals n arms other s)
     arms_unbroken looping no_arms other suits e rest s = rest s
     arms_unbroken looping (arm_then test body more) other suits e rest s =
-        let k = or_neither (breaks_suite body) (breaks_arms more) e in
+        let k = or_parts (breaks_suite body) (breaks_arms more) e in
         on_avoids is_break (test_of classes call globals locals test s) _ (λ h t. either_avoids is_break h _ _ t (suite_unbroken looping body suits.1 k.0 t) (arms_unbroken looping more other suits.2 k.1 rest t))
 
   while_endless : (test : TypedExpr) (body : TypedSuite) → SuiteSuits m vs gives true body → is_true_literal test ≡ true → breaks_suite body ≡ false → (s : State) → Avoids is_end (act classes call globals locals n (While test body) s)
@@ -163,8 +152,8 @@ module _ (classes : List ClassEntry) (call : Calls) (globals locals : List Varia
     stmt_closed looping (on_line a line) suits e s = act_closed looping a suits e s
 
     act_closed : (looping : Bool) (a : TypedAct) → ActSuits m vs gives looping a → closes_in a ≡ true → (s : State) → Avoids is_end (act classes call globals locals n a s)
-    act_closed looping (If arms other) suits h s = let k = and_both (closed_arms arms) (is_closed other) h in arms_closed looping arms (suite classes call globals locals n other) suits.0 k.0 (λ t. suite_closed looping other suits.1 k.1 t) s
-    act_closed looping (While test body) suits h s = let k = and_both (is_true_literal test) (not (breaks_suite body)) h in while_endless test body suits.1 k.0 (not_so (breaks_suite body) k.1) s
+    act_closed looping (If arms other) suits h s = let k = and_parts (closed_arms arms) (is_closed other) h in arms_closed looping arms (suite classes call globals locals n other) suits.0 k.0 (λ t. suite_closed looping other suits.1 k.1 t) s
+    act_closed looping (While test body) suits h s = let k = and_parts (is_true_literal test) (not (breaks_suite body)) h in while_endless test body suits.1 k.0 (not_so (breaks_suite body) k.1) s
     act_closed looping (Return e) suits h s = on_avoids is_end (value_or classes call globals locals NoneVal e s) (λ v. Gives (Returns v)) (λ v t. refl)
     act_closed looping Break suits h s = refl
     act_closed looping Continue suits h s = refl
@@ -186,10 +175,10 @@ module _ (classes : List ClassEntry) (call : Calls) (globals locals : List Varia
         ⊎_elim
         (λ first. flow_avoids is_end is_end (statement classes call globals locals n a s) (flow_on (suite classes call globals locals n more)) (stmt_closed looping a suits.0 first s) (left_closed (suite classes call globals locals n more)))
         (λ later. on_avoids is_end (statement classes call globals locals n a s) (flow_on (suite classes call globals locals n more)) (row_closed (suite classes call globals locals n more) (λ u. suite_closed looping more suits.1 later u)))
-        (or_either (closes a) (is_closed more) e)
+        (or_cases (closes a) (is_closed more) e)
 
     arms_closed : (looping : Bool) (arms : Arms) (other : Does Flow) → ArmsSuit m vs gives looping arms → closed_arms arms ≡ true → ((s : State) → Avoids is_end (other s)) → (s : State) → Avoids is_end (first_arm classes call globals locals n arms other s)
     arms_closed looping no_arms other suits e rest s = rest s
     arms_closed looping (arm_then test body more) other suits e rest s =
-        let k = and_both (is_closed body) (closed_arms more) e in
+        let k = and_parts (is_closed body) (closed_arms more) e in
         on_avoids is_end (test_of classes call globals locals test s) _ (λ h t. either_avoids is_end h _ _ t (suite_closed looping body suits.1 k.0 t) (arms_closed looping more other suits.2 k.1 rest t))

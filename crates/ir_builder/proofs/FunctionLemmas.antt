@@ -49,13 +49,9 @@ use Rattle.ir_builder.specs.Functions.{end_literal, end_value, heads_of, IsFunct
 use Rattle.ir_builder.proofs.ArgumentLemmas.{sort_of, sorts_size, map_length, HaveFlags, function_works}
 use Rattle.ir_builder.proofs.ClosedLemmas.{Avoids, is_end, suite_closed}
 use Rattle.ir_builder.proofs.EdgeLemmas.{no_edges}
+use Rattle.ir_builder_frames.proofs.GlobalLemmas.{get_map}
 
 -- ---- lists
-
-pub get_map : {A B : Type 0} (f : A → B) (xs : List A) (j : ℕ) (x : A) → slice_get xs j ≡ Some x → slice_get (map f xs) j ≡ Some (f x)
-get_map f [] j x e = let g : None ≡ Some x = e in absurd (cc)
-get_map f (y ∷ xs) zero x e = let g : Some y ≡ Some x = e in let same : y ≡ x = cc in ap (λ z. Some (f z)) same
-get_map f (y ∷ xs) (suc j) x e = get_map f xs j x e
 
 map_map : {A B C : Type 0} (g : B → C) (f : A → B) (xs : List A) → map g (map f xs) ≡ map (λ x. g (f x)) xs
 map_map g f [] = refl

@@ -1,5 +1,6 @@
 -- A whole program does what its module does, is calm, and is built as a program is.
 use Rattle.std.proofs.Common.{◌≡◌, ◌≢◌, ℕ, zero, suc, ◌+◌, ◌-◌, ◌<◌, List, [], ◌∷◌, ◌++◌, length, map, take, get_or, Option, Some, None, ⊎_elim, refl, sym, ap, ◌∙◌, subst, arith, le_refl, add-one, length-append}
+use Rattle.std.proofs.lemmas.List.{map_push}
 use Rattle.std.specs.Prelude.{slice_get, replicate}
 use Rattle.std.specs.List.{list_all}
 use Rattle.std.proofs.Math.Seq.{take-suc}
@@ -33,18 +34,17 @@ use Rattle.ir_builder_frames.specs.Naming.{names_of}
 use Rattle.ir_builder_frames.specs.Placing.{NoEdges}
 use Rattle.ir_builder_frames.specs.Settings.{rtype_of}
 use Rattle.ir_builder_frames.proofs.ComingLemmas.{leads_as, leads_step, leads_trans}
-use Rattle.ir_builder_frames.proofs.GlobalLemmas.{none_have_types}
+use Rattle.ir_builder_frames.proofs.GlobalLemmas.{none_have_types, get_map}
 use Rattle.ir_builder_frames.proofs.KindLemmas.{get_behind}
 use Rattle.ir_builder_statements.specs.Modules.{FunctionSuits, ModuleSuits}
 use Rattle.ir_builder_shapes_laws.specs.Built.{head_of_code, IsBuilt, IsFunction, IsOwn, IsProgram}
-use Rattle.ir_builder_loops_and_jumps.proofs.EmitLemmas.{map_last}
 use Rattle.ir_builder.specs.Functions.{heads_of, IsFunctionOf, AllBuilt, IsBuiltOf}
 use Rattle.ir_builder.specs.Meaning.{module_stop, DoesAsModule}
 use Rattle.ir_builder.specs.Registers.{register_of, variable_registers}
 use Rattle.ir_builder.proofs.CallLemmas.{IsThere, calls_work}
 use Rattle.ir_builder.proofs.ArgumentLemmas.{map_length}
 use Rattle.ir_builder.proofs.EdgeLemmas.{no_edges}
-use Rattle.ir_builder.proofs.FunctionLemmas.{get_map, names_are}
+use Rattle.ir_builder.proofs.FunctionLemmas.{names_are}
 
 -- ---- functions in order
 
@@ -111,7 +111,7 @@ suits_at c xs i f suits same lt is =
 pub built_next : (m : TypedModule) (xs : List TFunc) (i : ℕ) (f : TFunc) (hs hs' : List Func) (h : Func) → i < length xs → f ≡ get_or xs i f → AllBuilt m (map typed_func (take i xs)) hs → IsFunctionOf m (typed_func f) h → hs' ≡ hs ++ h ∷ [] → AllBuilt m (map typed_func (take (i + 1) xs)) hs'
 built_next m xs i f hs hs' h lt is all one e =
     let row : take (i + 1) xs ≡ take i xs ++ f ∷ [] = rw (add-one, take-suc xs i f lt, ← is) refl in
-    let fs : map typed_func (take (i + 1) xs) ≡ map typed_func (take i xs) ++ typed_func f ∷ [] = ap (map typed_func) row ∙ map_last typed_func (take i xs) f in
+    let fs : map typed_func (take (i + 1) xs) ≡ map typed_func (take i xs) ++ typed_func f ∷ [] = ap (map typed_func) row ∙ map_push typed_func (take i xs) f in
     subst (λ l. AllBuilt m l hs') (sym fs) (subst (λ l. AllBuilt m (map typed_func (take i xs) ++ typed_func f ∷ []) l) (sym e) (built_last m (map typed_func (take i xs)) hs (typed_func f) h all one))
 
 -- ---- runs

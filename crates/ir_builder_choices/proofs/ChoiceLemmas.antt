@@ -2,8 +2,8 @@
 use Rattle.std.proofs.Common.{◌≡◌, refl, sym, ◌∙◌, ap, subst, ℕ, ◌+◌, ◌<◌, ◌≤◌, arith, le_refl, Bool, true, false, List, length, Option, Some, None}
 use Rattle.std.specs.Prelude.{if◌then◌else◌}
 use Rattle.value_core.specs.Value.{Value, BoolVal}
-use Rattle.py_typed.specs.Sorts.{Sort}
-use Rattle.source_meaning.specs.State.{State, Gives, Does, on_to, give}
+use Rattle.py_typed.specs.Sorts.{Sort, Bool as BoolSort}
+use Rattle.source_meaning.specs.State.{State, Outcome, Gives, Raises, Stops, Does, ◌>>=◌, on_to, give}
 use Rattle.source_meaning.specs.Operations.{truth_of}
 use Rattle.ir_core.specs.declared.code.RType.{RType}
 use Rattle.ir_core.specs.declared.code.RType.TheVariants.{Int, I64, Bool as BoolType, Ref}
@@ -20,11 +20,14 @@ use Rattle.ir_builder_frames.specs.Settings.{Setting, rtype_of}
 use Rattle.ir_builder_frames.specs.Placing.{HasType, or_other, Has, Within, Placed}
 use Rattle.ir_builder_frames.specs.Coming.{world, running, Leads, Ends}
 use Rattle.ir_builder_frames.specs.Matching.{Matches, SameLocals, HasRoom, IsThrown, CallsWork}
-use Rattle.ir_builder_frames.specs.Computing.{Showing, Shows, Meaning, Arrives, Computes}
+use Rattle.ir_builder_frames.specs.Computing.{Showing, Shows, Meaning, Arrives, Computes, Attempts}
 use Rattle.ir_builder_frames.proofs.HeldLemmas.{extends_refl, extends_trans, has_less, does_at, type_has, type_kept, type_below, within_part, placed_part}
 use Rattle.ir_builder_frames.proofs.ComingLemmas.{leads_step, leads_trans, ends_now, ends_of, ends_from, ends_more, ends_map}
-use Rattle.ir_builder_frames.proofs.MatchLemmas.{same_refl, same_trans, match_here, thrown_from, computes_then}
-use Rattle.ir_builder_comparisons.specs.Comparing.{FindsTruth}
+use Rattle.ir_builder_frames.proofs.MatchLemmas.{same_refl, same_trans, thrown_from, computes_then}
+use Rattle.ir_builder_operations.specs.Operating.{ActsOn}
+use Rattle.ir_builder_operations.specs.Rows.{as_value}
+use Rattle.ir_builder_operations.proofs.ThenLemmas.{attempt_then}
+use Rattle.ir_builder_comparisons.specs.Comparing.{truth_as, FindsTruth}
 use Rattle.ir_builder_choices.specs.Choices.{Opens, Brings, Meets}
 use Rattle.ir_builder_choices.specs.Choosing.{Behind, HasValue, by_truth, ComputesFrom}
 
@@ -127,19 +130,75 @@ from_ends p fn h below x n calls From t go b c r now old s before a keep k at wi
     (λ w s1 d z. thrown_from fn h below x keep (length b.regs) old now w s1 d wide (λ j i lt o. kept j lt) z)
     (k.runs p fn h at n calls now below s a match le holds)
 
--- behind the code that leaves a value in a register
-pub computes_behind : (x : Setting) (u : Sort) (q : ℕ) (t : Sort) (m : Meaning Value) (go : Behind Value) (b0 b1 b2 : Building) (r : ℕ) → HasRoom x b0 → Computes x (Shows u) (rtype_of u) m b0 b1 q → ComputesFrom x (HasValue u q) t go b1 b2 r → Computes x (Shows t) (rtype_of t) (λ n s. on_to (m n s) (go n)) b0 b2 r
-computes_behind x u q t m go b0 b1 b2 r room c k =
+-- ---- behind code that adds to what is known
+
+-- what is known of the first registers stays known
+abbrev pub Stays : {A : Type 0} → (A → Regs → Type 0) → ℕ → Type 0
+Stays {A} From keep = (a : A) (regs now : Regs) → ((j : ℕ) → j < keep → now j ≡ regs j) → From a regs → From a now
+
+pub value_stays : (u : Sort) (q : ℕ) (b : Building) → HasType b q (rtype_of u) → Stays (HasValue u q) (length b.regs)
+value_stays u q b type v regs now kept k = subst (Shows u v) (sym (kept q (type_below b q (rtype_of u) type))) k
+
+-- and a value of a type is in a register beside it
+abbrev pub Beside : {A : Type 0} → (A → Regs → Type 0) → Sort → ℕ → A × Value → Regs → Type 0
+Beside From u q z regs = From z.0 regs × HasValue u q z.1 regs
+
+-- the value of a part
+pub part_from : {A : Type 0} (x : Setting) (From : A → Regs → Type 0) (u : Sort) (q : ℕ) (t : Sort) (m : Meaning Value) (go : Behind (A × Value)) (b0 b1 b2 : Building) (r : ℕ) → HasRoom x b0 → Stays From (length b0.regs) → Computes x (Shows u) (rtype_of u) m b0 b1 q → ComputesFrom x (Beside From u q) t go b1 b2 r → ComputesFrom x From t (λ n a s. on_to (m n s) (λ v. go n (a, v))) b0 b2 r
+part_from x From u q t m go b0 b1 b2 r room stay c k =
     let k01 = c.extends.blocks_grow in
     let l01 = c.extends.regs_grow in
     record {
       extends = extends_trans b0 b1 b2 c.extends k.extends;
       type = k.type;
-      runs = λ p fn h at n calls regs below s match le.
+      runs = λ p fn h at n calls regs below s a match le holds.
           let p1 = placed_part p fn b0 b0 b1 b2 h (le_refl _) k.extends at in
           let p2 = placed_part p fn b0 b1 b2 b2 h k01 (extends_refl b2) at in
-          computes_then p fn h below x n calls (Shows u) (rtype_of u) m b0 b1 q regs s (go n) _ (length b0.regs) regs c p1 room (le_refl _) (λ j i z o. refl) match le
-          (λ now v s1 le1 shows kept same1 match1. from_ends p fn h below x n calls (HasValue u q) t go b1 b2 r now regs s1 s v (length b0.regs) k p2 l01 kept same1 match1 le1 shows);
+          computes_then p fn h below x n calls (Shows u) (rtype_of u) m b0 b1 q regs s (λ v. go n (a, v)) _ (length b0.regs) regs c p1 room (le_refl _) (λ j i z o. refl) match le
+          (λ now v s1 le1 shows kept same1 match1. from_ends p fn h below x n calls (Beside From u q) t go b1 b2 r now regs s1 s (a, v) (length b0.regs) k p2 l01 kept same1 match1 le1 (stay a regs now kept holds, shows));
+    }
+
+-- where nothing was known
+pub computes_behind : (x : Setting) (u : Sort) (q : ℕ) (t : Sort) (m : Meaning Value) (go : Behind Value) (b0 b1 b2 : Building) (r : ℕ) → HasRoom x b0 → Computes x (Shows u) (rtype_of u) m b0 b1 q → ComputesFrom x (HasValue u q) t go b1 b2 r → Computes x (Shows t) (rtype_of t) (λ n s. on_to (m n s) (go n)) b0 b2 r
+computes_behind x u q t m go b0 b1 b2 r room c k =
+    let Nothing : Unit {0} → Regs → Type 0 = λ a regs. Unit {0} in
+    let all = part_from x Nothing u q t m (λ n z. go n z.1) b0 b1 b2 r room (λ a regs now kept h. tt) c (from_by x _ (HasValue u q) t (λ z. z.1) go b1 b2 r (λ z regs h. h.1) k) in
+    record { extends = all.extends; type = all.type; runs = λ p fn h at n calls regs below s match le. all.runs p fn h at n calls regs below s tt match le tt }
+
+-- a truth goes on where it is known
+abbrev with_truth : (Bool → Does Value) → Value → Does Value
+with_truth go (BoolVal h) = go h
+with_truth go v = go false
+
+truth_then : (o : Outcome Bool) (go : Bool → Does Value) → on_to o go ≡ on_to (on_to o (λ h. give (BoolVal h))) (with_truth go)
+truth_then (Gives h s) go = refl
+truth_then (Raises v s) go = refl
+truth_then (Stops w s) go = refl
+
+-- what is known, and the truth of it in a register
+abbrev pub Told : {A : Type 0} → (A → Regs → Type 0) → ℕ → A × Bool → Regs → Type 0
+Told From condition z regs = From z.0 regs × (regs condition ≡ Holds (BoolVal z.1))
+
+-- a truth that is found in what is known
+pub truth_from : {A : Type 0} (x : Setting) (From : A → Regs → Type 0) (truth : A → Does Bool) (t : Sort) (go : Behind (A × Bool)) (acts : Regs → State → Outcome Value → Type 0) (b0 b1 b2 : Building) (condition r : ℕ) → HasRoom x b0 → Stays From (length b0.regs) → ((a : A) (regs : Regs) (s : State) → From a regs → acts regs s (as_value (truth a) s)) → Attempts (Shows BoolSort) b0 b1 condition BoolType acts → ComputesFrom x (Told From condition) t go b1 b2 r → ComputesFrom x From t (λ n a. truth a >>= λ h. go n (a, h)) b0 b2 r
+truth_from x From truth t go acts b0 b1 b2 condition r room stay start made k =
+    let k01 = made.extends.blocks_grow in
+    let l01 = made.extends.regs_grow in
+    record {
+      extends = extends_trans b0 b1 b2 made.extends k.extends;
+      type = k.type;
+      runs = λ p fn h at n calls regs below s a match le holds.
+          let p1 = placed_part p fn b0 b0 b1 b2 h (le_refl _) k.extends at in
+          let p2 = placed_part p fn b0 b1 b2 b2 h k01 (extends_refl b2) at in
+          let f : Bool → Does Value = λ h. go n (a, h) in
+          let R = Arrives (Shows t) fn (length b2.blocks) (length b2.ops) below (length b0.regs) regs x s r in
+          let T = IsThrown fn h below x (length b0.regs) regs in
+          ends_of p s.turns _ _ (on_to (as_value (truth a) s) (with_truth f)) R T (truth_then (truth a s) f)
+          (attempt_then p fn h below x (Shows BoolSort) BoolType acts b0 b1 condition regs s (as_value (truth a) s) (with_truth f) R made p1 room match (start a regs s holds)
+          (λ now z s1 le1 told kept same1 match1.
+          let hv : Bool = told.1.0 in
+          ends_of p s1.turns _ (with_truth f z s1) (f hv s1) R T (ap (λ y. with_truth f y s1) told.1.1)
+          (from_ends p fn h below x n calls (Told From condition) t go b1 b2 r now regs s1 s (a, hv) (length b0.regs) k p2 l01 kept same1 match1 (omega arith) (stay a regs now kept holds, told.0 ∙ ap Holds told.1.1))));
     }
 
 -- ---- the whole
@@ -166,30 +225,10 @@ choice_by x From truth t body other b2 b3 b4 b5 b7 b8 condition target test firs
           (λ z. from_ends p fn h below x n calls (λ y rs. From y rs × (truth y ≡ false)) t other b5 b7 rb regs regs s s a (length b2.regs) arm_b into_b (omega arith) (λ j lt. refl) same match le (holds, z));
     }
 
--- a value and its truth are in registers
-abbrev pub Told : Sort → ℕ → ℕ → Value × Bool → Regs → Type 0
-Told u q condition z regs = HasValue u q z.0 regs × (regs condition ≡ Holds (BoolVal z.1))
-
-truth_then : (v : Value) (h : Bool) (s : State) (go : Bool → Does Value) → truth_of v s ≡ Gives h s → on_to (truth_of v s) go ≡ go h s
-truth_then v h s go e = ap (λ o. on_to o go) e
-
 -- the truth of a value in a register is tested, and each arm goes on with the value
 pub choice_computes : (x : Setting) (u t : Sort) (body other : Behind Value) (b1 b2 b3 b4 b5 b7 b8 : Building) (q condition target test first end second ra rb : ℕ) → HasRoom x b1 → HasType b1 q (rtype_of u) → FindsTruth b1 b2 q condition u → Opens b2 b3 target test first (rtype_of t) → ComputesFrom x (HasValue u q) t body b3 b4 ra → Brings b4 b5 target ra end → second ≡ length b5.blocks → ComputesFrom x (HasValue u q) t other b5 b7 rb → Meets b7 b8 target rb condition test first end second → ComputesFrom x (HasValue u q) t (by_truth body other) b1 b8 target
 choice_computes x u t body other b1 b2 b3 b4 b5 b7 b8 q condition target test first end second ra rb room type_q tests opens arm_a brings here arm_b meets =
-    let k12 = tests.blocks in
-    let l12 = tests.extends.regs_grow in
-    let whole = choice_by x (Told u q condition) (λ z. z.1) t (λ n z. body n z.0) (λ n z. other n z.0) b2 b3 b4 b5 b7 b8 condition target test first end second ra rb tests.type (λ z regs k. k.1) opens
+    truth_from x (HasValue u q) truth_of t (λ n z. if z.1 then body n z.0 else other n z.0) (ActsOn u q truth_as) b1 b2 b8 condition target room (value_stays u q b1 type_q) (λ v regs s k. record { v = v; shows = k; does = refl }) tests
+    (choice_by x (Told (HasValue u q) condition) (λ z. z.1) t (λ n z. body n z.0) (λ n z. other n z.0) b2 b3 b4 b5 b7 b8 condition target test first end second ra rb tests.type (λ z regs k. k.1) opens
     (from_by x _ (HasValue u q) t (λ z. z.0) body b3 b4 ra (λ z regs k. k.0.0) arm_a) brings here
-    (from_by x _ (HasValue u q) t (λ z. z.0) other b5 b7 rb (λ z regs k. k.0.0) arm_b) meets in
-    record {
-      extends = extends_trans b1 b2 b8 tests.extends whole.extends;
-      type = whole.type;
-      runs = λ p fn h at n calls regs below s v match le shows.
-          let p2 = placed_part p fn b1 b2 b8 b8 h (omega arith) (extends_refl b8) at in
-          let tv = tests.runs p fn (has_less p fn b2 b8 whole.extends at.has) regs below s v shows in
-          let match2 = match_here x b1 regs tv.2 s room (λ j lt. tv.5 j (let z = room.top in omega arith)) match in
-          let shows2 : Shows u v (tv.2 q) = subst (Shows u v) (sym (tv.5 q (type_below b1 q (rtype_of u) type_q))) shows in
-          ends_of p s.turns _ _ _ _ _ (truth_then v tv.0 s _ tv.1)
-          (ends_from p s.turns s.turns _ _ _ _ _ (le_refl _) tv.3
-          (from_ends p fn h below x n calls (Told u q condition) t _ b2 b8 target tv.2 regs s s (v, tv.0) (length b1.regs) whole p2 l12 tv.5 (same_refl x regs s match) match2 le (shows2, tv.4)));
-    }
+    (from_by x _ (HasValue u q) t (λ z. z.0) other b5 b7 rb (λ z regs k. k.0.0) arm_b) meets)

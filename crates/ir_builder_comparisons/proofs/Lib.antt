@@ -1,4 +1,2 @@
 pub mod ComparisonLemmas
-pub mod OrderLemmas
-pub mod MeetLemmas
 pub mod TruthLemmas

@@ -1,61 +1,81 @@
 -- A register with the truth of a value in another one.
-use Rattle.std.proofs.Common.{◌≡◌, refl, sym, subst, ap, ◌∙◌, ℕ, true, Some, None}
-use Rattle.value_core.specs.Value.{BoolVal}
+use Rattle.std.proofs.Common.{◌≡◌, refl, sym, subst, ap, ◌∙◌, ℕ, zero, suc, arith, true, false, List, [], Some, None}
+use Rattle.std.proofs.lemmas.Bool.Decides.{nat_tests}
+use Rattle.std.specs.Prelude.{ℤ, pos, negsuc, not}
+use Rattle.value_core.specs.Value.{Value, IntVal, BoolVal, StrVal}
+use Rattle.py_syntax.specs.declared.expression.CmpOp.TheVariants as cmp
 use Rattle.py_typed.specs.Sorts as sort
 use Rattle.py_typed.specs.Sorts.{Sort}
-use Rattle.source_meaning.specs.Operations.{truth_of}
+use Rattle.source_meaning.specs.State.{State, Gives, give}
+use Rattle.source_meaning.specs.Operations.{is_equal}
 use Rattle.ir_core.specs.declared.code.RType.TheVariants as rtype
 use Rattle.ir_core.specs.Registers.{Holds}
 use Rattle.ir_core.specs.Building.{Building}
 use Rattle.ir_builder_frames.specs.Settings.{rtype_of}
 use Rattle.ir_builder_frames.specs.Placing.{HasType}
-use Rattle.ir_builder_frames.specs.Computing.{Makes, OfOne}
-use Rattle.ir_builder_frames.proofs.HeldLemmas.{extends_refl}
-use Rattle.ir_builder_frames.proofs.ComingLemmas.{leads_refl}
-use Rattle.ir_builder_operations.specs.Operating.{is_written}
-use Rattle.ir_builder_comparisons.specs.declared.comparisons.Compared.{Compared}
-use Rattle.ir_builder_comparisons.specs.declared.comparisons.Compared.TheVariants.{Ints, Natives, Texts}
-use Rattle.ir_builder_comparisons.specs.Comparing.{Tells, FindsTruth}
-use Rattle.ir_builder_comparisons.specs.Selecting.{compared_sort, compared_of}
-use Rattle.ir_builder_comparisons.proofs.OrderLemmas.{truth_exists}
+use Rattle.ir_builder_frames.specs.Matching.{HasKind}
+use Rattle.ir_builder_frames.specs.Computing.{Shows, Makes}
+use Rattle.ir_builder_frames.proofs.HeldLemmas.{type_below}
+use Rattle.ir_builder_operations.specs.declared.operation.Compared.{Compared}
+use Rattle.ir_builder_operations.specs.declared.operation.Compared.TheVariants.{Ints, Natives, Texts}
+use Rattle.ir_builder_operations.specs.Operating.{is_written, Acts, ActsOn, ActsOnTwo}
+use Rattle.ir_builder_operations.specs.Rows.{compared_sort, compares}
+use Rattle.ir_builder_operations.proofs.KindLemmas.{by_int, by_i64, by_bool, by_text}
+use Rattle.ir_builder_operations.proofs.PartLemmas.{made_attempts, stays}
+use Rattle.ir_builder_operations.proofs.TextLemmas.{filled_is}
+use Rattle.ir_builder_operations.proofs.ThenLemmas.{attempts_then}
+use Rattle.ir_builder_comparisons.specs.Comparing.{ordered, Compares, truth_as, FindsTruth, false_of, compared_of}
 
-made_finds : (t : Sort) (b c : Building) (r x : ℕ) → is_written t ≡ true → Makes b c r rtype.Bool (OfOne x (Tells t truth_of)) → FindsTruth b c x r t
-made_finds t b c r x w m = record {
-  extends = m.extends;
-  type = m.type;
-  blocks = m.blocks;
-  runs = λ p fn has regs below s v shown.
-      let k = truth_exists t v w shown.1 in
-      let d = m.runs p fn has regs below s (Holds (BoolVal k.0)) record { v = v; is = shown.0; result = BoolVal k.0; fits = record { kind = shown.1; truth = k.0; gives = k.1; is = refl }; gives = refl } in
-      (k.0, k.1 s, d.0, d.1, d.2, d.3);
-}
+-- ---- what differs from the value that is false is true
 
-compared_type : (t : Sort) (c : Compared) → compared_of t ≡ Some c → t ≡ compared_sort c
+above_zero : (n : ℕ) → is_equal (IntVal (pos (suc n))) (IntVal (pos 0)) ≡ false
+above_zero n = grind (arith, nat_tests)
+
+number_truth : (a : ℤ) (s : State) → truth_as (IntVal a) s ≡ compares (ordered cmp.Ne) (IntVal a) (IntVal (pos 0)) s
+number_truth (pos zero) s = refl
+number_truth (pos (suc n)) s = ap (λ b. Gives (BoolVal (not b)) s) (sym (above_zero n))
+number_truth (negsuc n) s = refl
+
+text_truth : (t : List ℕ) (s : State) → truth_as (StrVal t) s ≡ compares (ordered cmp.Ne) (StrVal t) (StrVal []) s
+text_truth t s = ap (λ b. Gives (BoolVal b) s) (sym (filled_is t))
+
+truth_is : (c : Compared) (v : Value) (s : State) → HasKind (compared_sort c) v → truth_as v s ≡ compares (ordered cmp.Ne) v (false_of c) s
+truth_is Ints v s k = by_int (λ v. truth_as v s ≡ compares (ordered cmp.Ne) v (IntVal (pos 0)) s) (λ n e. number_truth n s) v k
+truth_is Natives v s k = by_i64 (λ v. truth_as v s ≡ compares (ordered cmp.Ne) v (IntVal (pos 0)) s) (λ n e. number_truth n s) v k
+truth_is Texts v s k = by_text (λ v. truth_as v s ≡ compares (ordered cmp.Ne) v (StrVal []) s) (λ t. text_truth t s) v k
+
+false_kind : (c : Compared) → HasKind (compared_sort c) (false_of c)
+false_kind Ints = (pos 0, refl, refl)
+false_kind Natives = (pos 0, refl, refl)
+false_kind Texts = ([], refl)
+
+pub compared_finds : (c : Compared) (b0 b1 b2 : Building) (q r x : ℕ) → HasType b0 x (rtype_of (compared_sort c)) → Makes b0 b1 q (rtype_of (compared_sort c)) (λ regs h. h ≡ Holds (false_of c)) → Compares c (ordered cmp.Ne) b1 b2 r x q → FindsTruth b0 b2 x r (compared_sort c)
+compared_finds c b0 b1 b2 q r x type made a =
+    let t = compared_sort c in
+    let low = type_below b0 x (rtype_of t) type in
+    attempts_then (Shows t) (Shows sort.Bool) b0 b1 b2 q r (rtype_of t) rtype.Bool (Acts (give (false_of c))) (ActsOnTwo t t x q (compares (ordered cmp.Ne))) (ActsOn t x truth_as) (made_attempts t (false_of c) b0 b1 q (rtype_of t) (false_kind c) made) a
+    (λ regs s res f. record {
+      mid = Gives (false_of c) s;
+      go = compares (ordered cmp.Ne) f.v;
+      does = f.does ∙ truth_is c f.v s f.shows.1;
+      start = refl;
+      on = λ now w s1 shows kept. record { v = f.v; left = subst (Shows t f.v) (sym (kept x low)) f.shows; w = w; right = shows; does = refl };
+    })
+
+-- ---- by the type
+
+pub compared_type : (t : Sort) (c : Compared) → compared_of t ≡ Some c → t ≡ compared_sort c
 compared_type sort.Int c e = let f : Some Ints ≡ Some c = e in let is : Ints ≡ c = cc in ap compared_sort is
 compared_type sort.I64 c e = let f : Some Natives ≡ Some c = e in let is : Natives ≡ c = cc in ap compared_sort is
 compared_type sort.Str c e = let f : Some Texts ≡ Some c = e in let is : Texts ≡ c = cc in ap compared_sort is
 compared_type t c e = let f : None ≡ Some c = e in absurd (cc)
 
-pub compared_has : (t : Sort) (c : Compared) (b : Building) (x : ℕ) → compared_of t ≡ Some c → HasType b x (rtype_of t) → HasType b x (rtype_of (compared_sort c))
-compared_has t c b x e type = subst (λ u. HasType b x (rtype_of u)) (compared_type t c e) type
-
-pub compared_finds : (t : Sort) (k : Compared) (b c : Building) (r x : ℕ) → is_written t ≡ true → compared_of t ≡ Some k → Makes b c r rtype.Bool (OfOne x (Tells (compared_sort k) truth_of)) → FindsTruth b c x r t
-compared_finds t k b c r x w e m = made_finds t b c r x w (subst (λ u. Makes b c r rtype.Bool (OfOne x (Tells u truth_of))) (sym (compared_type t k e)) m)
-
-bool_type : (t : Sort) → is_written t ≡ true → compared_of t ≡ None → t ≡ sort.Bool
+bool_type : (t : Sort) → is_written t ≡ true → compared_of t ≡ None → sort.Bool ≡ t
 bool_type sort.Bool w e = refl
 bool_type sort.Str w e = absurd (cc)
 bool_type t w e = absurd (cc)
 
-bool_finds : (b : Building) (x : ℕ) → HasType b x rtype.Bool → FindsTruth b b x x sort.Bool
-bool_finds b x type = record {
-  extends = extends_refl b;
-  type = type;
-  blocks = refl;
-  runs = λ p fn has regs below s v shown. (shown.1.0, ap (λ z. truth_of z s) shown.1.1, regs, leads_refl p _, shown.0 ∙ ap Holds shown.1.1, λ j lt. refl);
-}
-
 pub bool_stays : (t : Sort) (b : Building) (x : ℕ) → is_written t ≡ true → compared_of t ≡ None → HasType b x (rtype_of t) → FindsTruth b b x x t
-bool_stays t b x w e type =
-    let is = bool_type t w e in
-    subst (λ u. FindsTruth b b x x u) (sym is) (bool_finds b x (subst (λ u. HasType b x (rtype_of u)) is type))
+bool_stays t b x w e =
+    let P : Sort → Type 0 = λ u. HasType b x (rtype_of u) → FindsTruth b b x x u in
+    subst P (bool_type t w e) (λ type. stays sort.Bool truth_as b x rtype.Bool type (λ v s k. by_bool (λ z. truth_as z s ≡ Gives z s) (λ h. refl) v k))

@@ -1,7 +1,7 @@
 -- An operation on one or two parts does with their values what it is to do, whichever it is.
 use Rattle.std.proofs.Common.{◌≡◌, refl, sym, ap, ◌∙◌, subst, ℕ, true, false, [], ◌∷◌, Option, None}
-use Rattle.std.specs.Prelude.{ℤ, not}
-use Rattle.value_core.specs.Value.{Value, BoolVal, StrVal}
+use Rattle.std.specs.Prelude.{ℤ}
+use Rattle.value_core.specs.Value.{Value, StrVal}
 use Rattle.py_syntax.specs.declared.expression.BinOp.{BinOp}
 use Rattle.py_typed.specs.declared.expression.TExpr.{TExpr}
 use Rattle.py_typed.specs.Sorts as sort
@@ -11,15 +11,14 @@ use Rattle.source_meaning.specs.State.{give, needs}
 use Rattle.source_meaning.specs.Operations.{coerced, arithmetic, negated, joined, letter, length_of, has_text, text_of}
 use Rattle.py_typed.proofs.ExpressionLemmas.{type_at}
 use Rattle.ir_core.specs.declared.code.RType.TheVariants as rtype
-use Rattle.ir_core.specs.Registers.{Holds}
 use Rattle.ir_core.specs.Building.{Building}
 use Rattle.ir_builder_frames.specs.Settings.{rtype_of}
 use Rattle.ir_builder_frames.specs.Matching.{HasKind}
-use Rattle.ir_builder_frames.specs.Computing.{Shows, Makes, Attempts, OfOne}
+use Rattle.ir_builder_frames.specs.Computing.{Shows, Attempts}
 use Rattle.ir_builder_frames.specs.Operands.{ActsOnAll}
 use Rattle.ir_builder_operations.specs.Operating.{ActsOn, ActsOnTwo}
 use Rattle.ir_builder_operations.proofs.KindLemmas.{by_int, by_i64, by_bool, by_text}
-use Rattle.ir_builder_operations.specs.Rows.{of_one, of_two}
+use Rattle.ir_builder_operations.specs.Rows.{of_one, of_two, inverts}
 use Rattle.ir_builder_operations.proofs.ThenLemmas.{attempts_as}
 use Rattle.ir_builder_operations.proofs.PartLemmas.{as_one, as_two}
 use Rattle.ir_builder_expressions.specs.declared.applying.Unary.{Unary}
@@ -29,9 +28,7 @@ use Rattle.ir_builder_expressions.specs.declared.applying.Binary.TheVariants as 
 use Rattle.ir_builder_expressions.specs.Compiled.{is_i64, literal_in}
 use Rattle.ir_builder_expressions.specs.Parts.{is_simple, native_in, sort_by, part_sort}
 use Rattle.ir_builder_expressions.specs.Applying.{unary_goes, binary_goes, UnarySuits, BinarySuits}
-use Rattle.ir_builder_comparisons.specs.Comparing.{FindsTruth, Inverts}
-use Rattle.ir_builder_expressions.proofs.FollowLemmas.{makes_attempt}
-use Rattle.ir_builder_expressions.proofs.TestLemmas.{truth_attempts}
+use Rattle.ir_builder_comparisons.specs.Comparing.{FindsTruth}
 
 -- ---- the type of a part
 
@@ -63,21 +60,6 @@ applies_negated op t u b c r x is a = moved op unary.Negated t t u u b c r x is 
 pub applies_coerced : (op : Unary) (t u : Sort) (b c : Building) (r x : ℕ) → op ≡ unary.Coerced → Attempts (Shows t) b c r (rtype_of t) (ActsOn u x (coerced t)) → Applies op t u b c r x
 applies_coerced op t u b c r x is a = moved op unary.Coerced t t u u b c r x is refl refl a
 
-inverted_attempts : (b c : Building) (r x : ℕ) → Makes b c r rtype.Bool (OfOne x Inverts) → Applies unary.Inverted sort.Bool sort.Bool b c r x
-inverted_attempts b c r x made =
-    makes_attempt (Shows sort.Bool) b c r rtype.Bool (OfOne x Inverts) (ActsOn sort.Bool x (unary_goes unary.Inverted sort.Bool))
-    (λ regs s res f.
-    let k = f.shows.1 in
-    let z : Value = BoolVal (not k.0) in
-    record {
-      value = z;
-      held = Holds z;
-      does = f.does ∙ ap (λ y. unary_goes unary.Inverted sort.Bool y s) k.1;
-      made = record { v = f.v; is = f.shows.0; result = z; fits = (k.0, k.1, refl); gives = refl };
-      shows = (refl, (not k.0, refl));
-    })
-    made
-
 kind_text : (t : Sort) → is_simple t ≡ true → (v : Value) → HasKind t v → has_text v ≡ true
 kind_text sort.Int e = by_int (λ v. has_text v ≡ true) (λ n f. refl)
 kind_text sort.I64 e = by_i64 (λ v. has_text v ≡ true) (λ n f. refl)
@@ -98,15 +80,15 @@ module _ (op : Unary) (t : Sort) (e : TExpr) (b c : Building) (r x : ℕ) where
   suited : (op' : Unary) → op ≡ op' → UnarySuits op t (sort_of e.ty) → UnarySuits op' t (sort_of e.ty)
   suited op' is = subst (λ z. UnarySuits z t (sort_of e.ty)) is
 
-  pub applies_inverted : op ≡ unary.Inverted → UnarySuits op t (sort_of e.ty) → Makes b c r rtype.Bool (OfOne x Inverts) → Whole
-  applies_inverted is suits made =
+  pub applies_inverted : op ≡ unary.Inverted → UnarySuits op t (sort_of e.ty) → Attempts (Shows sort.Bool) b c r rtype.Bool (ActsOnAll (sort.Bool ∷ []) (record { 0 = x } ∷ []) (of_one inverts)) → Whole
+  applies_inverted is suits a =
       let h = suited unary.Inverted is suits in
-      moved op unary.Inverted t sort.Bool (part_sort t (typed_expr e)) sort.Bool b c r x is h.0 (own_sort t sort.Bool e h.0 refl ∙ h.1) (inverted_attempts b c r x made)
+      moved op unary.Inverted t sort.Bool (part_sort t (typed_expr e)) sort.Bool b c r x is h.0 (own_sort t sort.Bool e h.0 refl ∙ h.1) (as_one sort.Bool sort.Bool inverts b c r (record { 0 = x }) a)
 
   pub applies_tested : op ≡ unary.Tested → UnarySuits op t (sort_of e.ty) → FindsTruth b c x r (sort_of e.ty) → Whole
   applies_tested is suits tests =
       let h = suited unary.Tested is suits in
-      moved op unary.Tested t sort.Bool (part_sort t (typed_expr e)) (sort_of e.ty) b c r x is h.0 (own_sort t sort.Bool e h.0 refl) (truth_attempts (sort_of e.ty) b c x r tests)
+      moved op unary.Tested t sort.Bool (part_sort t (typed_expr e)) (sort_of e.ty) b c r x is h.0 (own_sort t sort.Bool e h.0 refl) tests
 
   pub applies_counted : op ≡ unary.Counted → UnarySuits op t (sort_of e.ty) → Attempts (Shows sort.Int) b c r rtype.Int (ActsOnAll (sort.Str ∷ []) (record { 0 = x } ∷ []) (of_one length_of)) → Whole
   applies_counted is suits a =

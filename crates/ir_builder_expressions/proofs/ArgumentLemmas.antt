@@ -1,7 +1,7 @@
 -- Arguments one after another.
 use Rattle.std.proofs.Common.{◌≡◌, refl, sym, ◌∙◌, ap, subst, ℕ, ◌+◌, ◌<◌, ◌≤◌, arith, le_refl, List, [], ◌∷◌, ◌++◌, length, map, Some, take, drop, get_or, add-one}
 use Rattle.std.proofs.Math.Seq.{take-suc}
-use Rattle.std.proofs.lemmas.List.{drop_more, take_all}
+use Rattle.std.proofs.lemmas.List.{drop_more, take_all, map_push}
 use Rattle.value_core.specs.Value.{Value}
 use Rattle.py_typed.specs.declared.expression.TExpr.{TExpr}
 use Rattle.py_typed.specs.Sorts.{Sort}
@@ -15,13 +15,14 @@ use Rattle.ir_core.specs.Building.{Building, Extends}
 use Rattle.ir_builder_frames.specs.Settings.{Setting, rtype_of}
 use Rattle.ir_builder_frames.specs.Matching.{HasRoom, IsThrown}
 use Rattle.ir_builder_frames.specs.Computing.{Shows, ShowAll, HaveTypes, ArrivesAll, ComputesAll}
-use Rattle.ir_builder_frames.proofs.HeldLemmas.{extends_refl, extends_trans, type_kept, type_below, placed_part}
+use Rattle.ir_builder_frames.proofs.HeldLemmas.{extends_refl, extends_trans, type_kept, placed_part}
 use Rattle.ir_builder_frames.proofs.ComingLemmas.{ends_now, ends_of, on_assoc}
 use Rattle.ir_builder_frames.proofs.MatchLemmas.{room_on, same_refl, same_trans, computes_then, computes_all_then}
 use Rattle.ir_builder_expressions.specs.Suiting.{Suits, ArgumentsSuit, SomeSuit}
 use Rattle.ir_builder_expressions.specs.Emitting.{means, means_all, Emits, EmitsAll}
 use Rattle.ir_builder_expressions.specs.Walking.{Walks}
 use Rattle.ir_builder_expressions.proofs.WalkingLemmas.{walks_refl, walks_trans}
+use Rattle.ir_builder_operations.proofs.PartLemmas.{show_kept}
 
 snoc_means : (x : Setting) (n : ℕ) (es : List TypedExpr) (e : TypedExpr) (s : State) → means_all x (exprs_of (es ++ e ∷ [])) n s ≡ on_to (means_all x (exprs_of es) n s) (λ vs s1. on_to (means x e n s1) (λ v s2. Gives (vs ++ v ∷ []) s2))
 snoc_means x n [] e s = refl
@@ -52,14 +53,6 @@ types_kept b c [] (r ∷ rs) x h = absurd h
 types_kept b c (t ∷ ts) [] x h = absurd h
 types_kept b c (t ∷ ts) (r ∷ rs) x h = (type_kept b c r.0 (rtype_of t) x h.0, types_kept b c ts rs x h.1)
 
-show_kept : (b : Building) (ts : List Sort) (vs : List Value) (rs : List Reg) (old now : Regs) → HaveTypes b.regs ts rs → ((j : ℕ) → j < length b.regs → now j ≡ old j) → ShowAll ts vs old rs → ShowAll ts vs now rs
-show_kept b [] [] [] old now h same k = tt
-show_kept b [] vs (r ∷ rs) old now h same k = absurd h
-show_kept b [] (v ∷ vs) [] old now h same k = absurd k
-show_kept b (t ∷ ts) vs [] old now h same k = absurd h
-show_kept b (t ∷ ts) [] (r ∷ rs) old now h same k = absurd k
-show_kept b (t ∷ ts) (v ∷ vs) (r ∷ rs) old now h same k = (subst (Shows t v) (sym (same r.0 (type_below b r.0 (rtype_of t) h.0))) k.0, show_kept b ts vs rs old now h.1 same k.1)
-
 pub none_emitted : (x : Setting) (b : Building) → ComputesAll x [] (means_all x (exprs_of [])) b b []
 none_emitted x b = record {
   extends = extends_refl b;
@@ -86,14 +79,10 @@ snoc_emitted x ts es e b0 b1 b2 rs r room q c =
           ends_now p (vs ++ v ∷ []) s2 _ R (IsThrown fn h below x (length b0.regs) regs) record { now = now2; is = refl; shows = show_snoc ts (type_of e) vs v now2 rs r (show_kept b1 ts vs rs now now2 q.types kept2 shows) shows2; kept = λ j lt. kept2 j (omega arith) ∙ kept j lt; same = same_trans x s s1 s2 same1 same2 })));
     }
 
-map_snoc : {A B : Type 0} (f : A → B) (xs : List A) (x : A) → map f (xs ++ x ∷ []) ≡ map f xs ++ f x ∷ []
-map_snoc f [] x = refl
-map_snoc f (y ∷ xs) x = ap (λ l. f y ∷ l) (map_snoc f xs x)
-
 -- one turn of the loop over the arguments
 pub argument_emitted : (x : Setting) (es : List TExpr) (i : ℕ) (e : TExpr) (b0 b1 b2 : Building) (rs rs' : List Reg) (r : Reg) → i < length es → e ≡ get_or es i e → HasRoom x b0 → EmitsAll x (map type_of (map typed_expr (take i es))) (exprs_of (map typed_expr (take i es))) b0 b1 rs → Emits x (typed_expr e) b1 b2 r.0 → rs' ≡ rs ++ r ∷ [] → EmitsAll x (map type_of (map typed_expr (take (i + 1) es))) (exprs_of (map typed_expr (take (i + 1) es))) b0 b2 rs'
 argument_emitted x es i e b0 b1 b2 rs rs' r lt is room q c new =
-    rw (new, add-one, take-suc es i e lt, ← is, map_snoc typed_expr (take i es) e, map_snoc type_of (map typed_expr (take i es)) (typed_expr e)) (snoc_emitted x (map type_of (map typed_expr (take i es))) (map typed_expr (take i es)) (typed_expr e) b0 b1 b2 rs r room q c)
+    rw (new, add-one, take-suc es i e lt, ← is, map_push typed_expr (take i es) e, map_push type_of (map typed_expr (take i es)) (typed_expr e)) (snoc_emitted x (map type_of (map typed_expr (take i es))) (map typed_expr (take i es)) (typed_expr e) b0 b1 b2 rs r room q c)
 
 module _ (m : TypedModule) (vs : List Variable) where
   suit_split : (e : TypedExpr) (es : List TypedExpr) → SomeSuit m vs (e ∷ es) → Suits m vs e × SomeSuit m vs es

@@ -17,7 +17,6 @@ use Rattle.ir_core.specs.declared.code.Reg.{Reg}
 use Rattle.ir_core.specs.declared.code.Op.TheVariants as op
 use Rattle.ir_core.specs.declared.code.Func.{Func}
 use Rattle.ir_core.specs.declared.code.Program.{Program}
-use Rattle.ir_core.specs.declared.kind.Edge.TheVariants.{Tests}
 use Rattle.ir_core.specs.Rows.{Declared, type_of_reg}
 use Rattle.ir_core.specs.Registers.{Held, Holds, error_of, is_error, Regs, put, first_regs}
 use Rattle.ir_core.specs.Building.{Building}
@@ -27,13 +26,13 @@ use Rattle.ir_builder_frames.specs.Settings.{Setting, rtype_of}
 use Rattle.ir_builder_frames.specs.Placing.{Has}
 use Rattle.ir_builder_frames.specs.Calling.{Adds}
 use Rattle.ir_builder_frames.specs.Coming.{world, running, returning}
-use Rattle.ir_builder_frames.specs.Matching.{HaveKinds, HasRoom, IsThrown, parameter_sorts, BeginWith, HasHead}
+use Rattle.ir_builder_frames.specs.Matching.{HasRoom, IsThrown, parameter_sorts, BeginWith, HasHead}
 use Rattle.ir_builder_frames.specs.Computing.{Shows, Arrives, ShowAll, HaveTypes}
 use Rattle.ir_builder_frames.proofs.HeldLemmas.{extends_refl, extends_trans, type_has, has_less, adds_has, placed_part, guard_at}
 use Rattle.ir_builder_frames.proofs.ComingLemmas.{leads_refl, leads_step, ends_both, ends_from}
 use Rattle.ir_builder_frames.proofs.StepLemmas.{read_is}
 use Rattle.ir_builder_frames.proofs.MatchLemmas.{room_on, same_trans, match_kept, thrown_now, computes_all_then}
-use Rattle.ir_builder_frames.proofs.AttemptLemmas.{failed_off}
+use Rattle.ir_builder_frames.proofs.AttemptLemmas.{failed_off, kinds_shown}
 use Rattle.ir_builder_expressions.specs.Emitting.{means_all, Emits, EmitsAll}
 
 -- ---- what a call needs
@@ -47,14 +46,6 @@ all_read declared regs (t ∷ ts) [] (r ∷ rs) h s = absurd s
 all_read declared regs (t ∷ ts) (v ∷ vs) (r ∷ rs) h s =
     ap (λ o. option_and_then (λ u. option_map (λ us. Holds u ∷ us) (read_all declared regs rs)) o) (read_is declared regs r.0 (rtype_of t) v h.0 s.0.0)
     ∙ ap (option_map (λ us. Holds v ∷ us)) (all_read declared regs ts vs rs h.1 s.1)
-
-all_kinds : (ts : List Sort) (vs : List Value) (regs : Regs) (rs : List Reg) → ShowAll ts vs regs rs → HaveKinds ts vs
-all_kinds [] [] regs [] s = tt
-all_kinds [] [] regs (r ∷ rs) s = absurd s
-all_kinds [] (v ∷ vs) regs rs s = absurd s
-all_kinds (t ∷ ts) [] regs rs s = absurd s
-all_kinds (t ∷ ts) (v ∷ vs) regs [] s = absurd s
-all_kinds (t ∷ ts) (v ∷ vs) regs (r ∷ rs) s = (s.0.1, all_kinds ts vs regs rs s.1)
 
 own_type : (t : RType) → is_type t (Some t) ≡ true
 own_type Int = refl
@@ -126,7 +117,7 @@ call_emits x f g es place b0 b1 b2 rs r is room q a =
           let types = types_has p fn b1 (parameter_sorts g) rs has1 q.types in
           let at_call = adds_has p fn b1 b2 r (rtype_of g.ret) _ a at.has in
           let enter = call_step Strict p (record { fn = fn; block = length b1.blocks; place = length b1.ops; regs = now }) below (world None s1) (record { 0 = r }) f rs code.0 (map Holds vs) at_call refl code.1 (all_read (registers_of p fn) now (parameter_sorts g) vs rs types shows) (call_is_fit (registers_of p fn) code.0 g (record { 0 = r }) rs code.2 types target) in
-          let body = calls.each f g code.0 vs (waits ∷ below) s1 is code.1 (all_kinds (parameter_sorts g) vs now rs shows) match1.globals le1 in
+          let body = calls.each f g code.0 vs (waits ∷ below) s1 is code.1 (kinds_shown (parameter_sorts g) vs now rs shows) match1.globals le1 in
           let here = guard_at p fn b1 b2 h (let z = a.blocks in omega arith) p2 (length b1.blocks) (sym a.blocks) in
           let put_kept : (w : Held) (j : ℕ) → j < length b1.regs → put now r w j ≡ now j = λ w j lt. put_other now r j w (let z = a.made in λ e. omega arith) in
           let edge = at.has.edges.each _ _ r _ _ at_call refl in

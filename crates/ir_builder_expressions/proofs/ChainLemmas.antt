@@ -1,5 +1,5 @@
 -- The comparisons of a chain, from the left, up to the first that does not hold.
-use Rattle.std.proofs.Common.{◌≡◌, refl, sym, ◌∙◌, ap, subst, ℕ, arith, le_refl, Bool, true, false, length}
+use Rattle.std.proofs.Common.{◌≡◌, refl, ◌∙◌, ap, ℕ, Bool, true, false, length}
 use Rattle.std.specs.Prelude.{if◌then◌else◌}
 use Rattle.value_core.specs.Value.{Value, BoolVal}
 use Rattle.py_syntax.specs.declared.token.Span.{Span}
@@ -7,7 +7,7 @@ use Rattle.py_syntax.specs.declared.expression.CmpOp.{CmpOp}
 use Rattle.py_typed.specs.Sorts as sort
 use Rattle.py_typed.specs.Sorts.{Sort}
 use Rattle.py_typed.specs.Expressions.{TypedExpr, typed, type_of, Compare, Comparisons, no_comparisons, comparison_then}
-use Rattle.source_meaning.specs.State.{State, Outcome, Gives, Raises, Stops, Does, on_to, give}
+use Rattle.source_meaning.specs.State.{State, Gives, ◌>>=◌, give}
 use Rattle.source_meaning.specs.Operations.{holds}
 use Rattle.ir_core.specs.declared.code.RType.TheVariants as rtype
 use Rattle.ir_core.specs.declared.code.Op.TheVariants.{Lit}
@@ -18,18 +18,17 @@ use Rattle.ir_builder_frames.specs.Placing.{HasType}
 use Rattle.ir_builder_frames.specs.Calling.{Adds}
 use Rattle.ir_builder_frames.specs.Matching.{HasRoom, IsThrown}
 use Rattle.ir_builder_frames.specs.Computing.{Shows, Meaning, Arrives, Computes, Attempts}
-use Rattle.ir_builder_frames.proofs.HeldLemmas.{extends_refl, extends_trans, type_below, type_kept, placed_part}
-use Rattle.ir_builder_frames.proofs.ComingLemmas.{ends_now, ends_of, ends_map}
+use Rattle.ir_builder_frames.proofs.HeldLemmas.{extends_refl, extends_trans, type_kept}
+use Rattle.ir_builder_frames.proofs.ComingLemmas.{ends_now, ends_of}
 use Rattle.ir_builder_frames.proofs.StepLemmas.{literal_makes}
-use Rattle.ir_builder_frames.proofs.MatchLemmas.{room_on, same_refl, same_trans, thrown_from, computes_then, made_computes}
+use Rattle.ir_builder_frames.proofs.MatchLemmas.{room_on, same_refl, made_computes}
 use Rattle.ir_builder_operations.specs.Operating.{ActsOnTwo}
 use Rattle.ir_builder_expressions.specs.Comparing.{holds_as}
 use Rattle.ir_builder_expressions.specs.Literals.{literal_of_truth}
 use Rattle.ir_builder_expressions.specs.Emitting.{means, means_chain, Emits, EmitsChain}
 use Rattle.ir_builder_choices.specs.Choices.{Opens, Brings, Meets}
 use Rattle.ir_builder_choices.specs.Choosing.{Behind, HasValue, ComputesFrom}
-use Rattle.ir_builder_operations.proofs.ThenLemmas.{attempt_then}
-use Rattle.ir_builder_choices.proofs.ChoiceLemmas.{Told, any_from, value_from, from_by, from_ends, computes_behind, choice_by}
+use Rattle.ir_builder_choices.proofs.ChoiceLemmas.{Told, any_from, value_from, from_by, value_stays, Beside, part_from, computes_behind, truth_from, choice_by}
 
 -- no comparison is left
 pub chain_done : {line : ℕ} (x : Setting) (s u : Sort) (first : ℕ) (b c : Building) (r : ℕ) → Adds b c r rtype.Bool (Lit record { 0 = r } (literal_of_truth true)) line → EmitsChain x s u first no_comparisons b c r
@@ -43,7 +42,7 @@ abbrev rest_goes : Setting → Sort → Comparisons → Behind (Value × Bool)
 rest_goes x s more n z = if z.1 then means_chain x s z.0 more n else give (BoolVal false)
 
 abbrev pub EmitsRest : Setting → Sort → Sort → ℕ → ℕ → Comparisons → Building → Building → ℕ → Type 0
-EmitsRest x s u left holds more old new r = ComputesFrom x (Told u left holds) sort.Bool (rest_goes x s more) old new r
+EmitsRest x s u left holds more old new r = ComputesFrom x (Told (HasValue u left) holds) sort.Bool (rest_goes x s more) old new r
 
 flag_back : (h : Bool) (s : State) → (if h then (give (BoolVal true)) else (give (BoolVal false))) s ≡ Gives (BoolVal h) s
 flag_back true s = refl
@@ -65,61 +64,20 @@ rest_done x s u left holds b type = record {
 pub rest_more : (x : Setting) (s u : Sort) (left holds : ℕ) (more : Comparisons) (b0 b1 b2 b3 b4 : Building) (target test first end r : ℕ) → HasType b0 holds rtype.Bool → Opens b0 b1 target test first rtype.Bool → EmitsChain x s u left more b1 b2 r → Brings b2 b3 target r end → Meets b3 b4 target holds holds test first end (length b3.blocks) → EmitsRest x s u left holds more b0 b4 target
 rest_more x s u left holds more b0 b1 b2 b3 b4 target test first end r type opens chain brings meets =
     let x03 = extends_trans b0 b1 b3 opens.extends (extends_trans b1 b2 b3 chain.extends brings.extends) in
-    choice_by x (Told u left holds) (λ z. z.1) sort.Bool (λ n z. means_chain x s z.0 more n) (λ n z. give (BoolVal false)) b0 b1 b2 b3 b3 b4 holds target test first end (length b3.blocks) r holds type (λ z regs k. k.1) opens
+    choice_by x (Told (HasValue u left) holds) (λ z. z.1) sort.Bool (λ n z. means_chain x s z.0 more n) (λ n z. give (BoolVal false)) b0 b1 b2 b3 b3 b4 holds target test first end (length b3.blocks) r holds type (λ z regs k. k.1) opens
     (from_by x _ (HasValue u left) sort.Bool (λ z. z.0) (λ n v. means_chain x s v more n) b1 b2 r (λ z regs k. k.0.0) chain) brings refl
     (value_from x _ sort.Bool (λ z. BoolVal false) b3 holds (type_kept b0 b3 holds rtype.Bool x03 type) (λ z regs k. (k.0.1 ∙ ap (λ y. Holds (BoolVal y)) k.1, (false, refl)))) meets
-
--- where a truth goes on
-abbrev after_flag : Does Value → Does Value → Value → Does Value
-after_flag f g (BoolVal h) = if h then f else g
-after_flag f g v = g
-
-flag_then : (o : Outcome Bool) (f g : Does Value) → on_to o (λ (h : Bool). if h then f else g) ≡ on_to (on_to o (λ h. give (BoolVal h))) (after_flag f g)
-flag_then (Gives h s) f g = refl
-flag_then (Raises v s) f g = refl
-flag_then (Stops w s) f g = refl
 
 -- a comparison, and what comes behind it
 pub chain_from : (x : Setting) (s u w : Sort) (x0 : ℕ) (op : CmpOp) (e : TypedExpr) (more : Comparisons) (b0 b1 b2 b3 : Building) (q c r : ℕ) → HasRoom x b0 → HasType b0 x0 (rtype_of u) → Computes x (Shows w) (rtype_of w) (means x e) b0 b1 q → Attempts (Shows sort.Bool) b1 b2 c rtype.Bool (ActsOnTwo u w x0 q (holds_as op s (type_of e))) → EmitsRest x (type_of e) w q c more b2 b3 r → EmitsChain x s u x0 (comparison_then op e more) b0 b3 r
 chain_from x s u w x0 op e more b0 b1 b2 b3 q c r room type ce made rest =
-    let low = type_below b0 x0 (rtype_of u) type in
-    let low_q = type_below b1 q (rtype_of w) ce.type in
-    let k01 = ce.extends.blocks_grow in
-    let k12 = made.extends.blocks_grow in
-    let l01 = ce.extends.regs_grow in
-    let l12 = made.extends.regs_grow in
-    let x13 = extends_trans b1 b2 b3 made.extends rest.extends in
-    let room1 = room_on x b0 b1 ce.extends room in
-    record {
-      extends = extends_trans b0 b1 b3 ce.extends x13;
-      type = rest.type;
-      runs = λ p fn h at n calls regs below st v match le shows.
-          let p1 = placed_part p fn b0 b0 b1 b3 h (le_refl _) x13 at in
-          let p2 = placed_part p fn b0 b1 b2 b3 h k01 rest.extends at in
-          let p3 = placed_part p fn b0 b2 b3 b3 h (omega arith) (extends_refl b3) at in
-          let R = Arrives (Shows sort.Bool) fn (length b3.blocks) (length b3.ops) below (length b0.regs) regs x st r in
-          let T = IsThrown fn h below x (length b0.regs) regs in
-          computes_then p fn h below x n calls (Shows w) (rtype_of w) (means x e) b0 b1 q regs st _ R (length b0.regs) regs ce p1 room (le_refl _) (λ j i z o. refl) match le
-          (λ now y s1 le1 shows1 kept same1 match1.
-          let f : Does Value = means_chain x (type_of e) y more n in
-          let g : Does Value = give (BoolVal false) in
-          let go : Value → Does Value = after_flag f g in
-          let S1 = Arrives (Shows sort.Bool) fn (length b3.blocks) (length b3.ops) below (length b1.regs) now x s1 r in
-          let T1 = IsThrown fn h below x (length b1.regs) now in
-          let shows0 : Shows u v (now x0) = subst (Shows u v) (sym (kept x0 low)) shows in
-          ends_of p s1.turns _ _ (on_to (holds_as op s (type_of e) v y s1) go) R T (flag_then (holds op s (type_of e) v y s1) f g)
-          (ends_map p s1.turns _ (on_to (holds_as op s (type_of e) v y s1) go) S1 R T1 T
-          (λ z s2 d a. record { now = a.now; is = a.is; shows = a.shows; kept = λ j lt. a.kept j (omega arith) ∙ kept j lt; same = same_trans x st s1 s2 same1 a.same })
-          (λ z s2 d t. thrown_from fn h below x (length b0.regs) (length b1.regs) regs now z s2 d l01 (λ j i lt o. kept j lt) t)
-          (attempt_then p fn h below x (Shows sort.Bool) rtype.Bool (ActsOnTwo u w x0 q (holds_as op s (type_of e))) b1 b2 c now s1 (holds_as op s (type_of e) v y s1) go S1 made p2 room1 match1 record { v = v; left = shows0; w = y; right = shows1; does = refl }
-          (λ now2 z s2 le2 told kept2 same2 match2.
-          let hv : Bool = told.1.0 in
-          let shows2 : Shows w y (now2 q) = subst (Shows w y) (sym (kept2 q low_q)) shows1 in
-          let holds_is : now2 c ≡ Holds (BoolVal hv) = told.0 ∙ ap Holds told.1.1 in
-          let goes : go z s2 ≡ (if hv then f else g) s2 = ap (λ k. after_flag f g k s2) told.1.1 in
-          ends_of p s2.turns _ (go z s2) ((if hv then f else g) s2) S1 T1 goes
-          (from_ends p fn h below x n calls (Told w q c) sort.Bool (rest_goes x (type_of e) more) b2 b3 r now2 now s2 s1 (y, hv) (length b1.regs) rest p3 l12 kept2 same2 match2 (omega arith) (shows2, holds_is))))));
-    }
+    let operand = value_stays u x0 b0 type in
+    let other = value_stays w q b1 ce.type in
+    let kept = value_stays u x0 b1 (type_kept b0 b1 x0 (rtype_of u) ce.extends type) in
+    part_from x (HasValue u x0) w q sort.Bool (means x e) (λ n z. holds op s (type_of e) z.0 z.1 >>= λ h. rest_goes x (type_of e) more n (z.1, h)) b0 b1 b3 r room operand ce
+    (truth_from x (Beside (HasValue u x0) w q) (λ z. holds op s (type_of e) z.0 z.1) sort.Bool (λ n z. rest_goes x (type_of e) more n (z.0.1, z.1)) (ActsOnTwo u w x0 q (holds_as op s (type_of e))) b1 b2 b3 c r (room_on x b0 b1 ce.extends room)
+    (λ z regs now same k. (kept z.0 regs now same k.0, other z.1 regs now same k.1)) (λ z regs st k. record { v = z.0; left = k.0; w = z.1; right = k.1; does = refl }) made
+    (from_by x _ (Told (HasValue w q) c) sort.Bool (λ z. (z.0.1, z.1)) (rest_goes x (type_of e) more) b2 b3 r (λ z regs k. (k.0.1, k.1)) rest))
 
 -- the first operand, and the chain behind it
 pub compare_emits : (x : Setting) (u : Sort) (e : TypedExpr) (more : Comparisons) (place : Span) (b0 b1 b2 : Building) (q r : ℕ) → HasRoom x b0 → Computes x (Shows u) (rtype_of u) (means x e) b0 b1 q → EmitsChain x (type_of e) u q more b1 b2 r → Emits x (typed (Compare e more) sort.Bool place) b0 b2 r

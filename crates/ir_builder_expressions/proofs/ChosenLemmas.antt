@@ -41,7 +41,7 @@ arm_missing x o q b is =
 
 -- ---- the whole
 
-simple_written : (t : Sort) → is_simple t ≡ true → is_written t ≡ true
+pub simple_written : (t : Sort) → is_simple t ≡ true → is_written t ≡ true
 simple_written sort.Int h = refl
 simple_written sort.I64 h = refl
 simple_written sort.Bool h = refl

@@ -1,37 +1,19 @@
--- Operations behind one another, and behind the code of parts.
-use Rattle.std.proofs.Common.{◌≡◌, refl, ◌∙◌, ℕ, ◌<◌, arith, le_refl, length}
+-- Operations behind the code of parts.
+use Rattle.std.proofs.Common.{refl, ◌∙◌, ℕ, arith, le_refl, length}
 use Rattle.value_core.specs.Value.{Value}
-use Rattle.source_meaning.specs.State.{State, Outcome, Gives, Does, on_to}
+use Rattle.source_meaning.specs.State.{State, Outcome, Does, on_to}
 use Rattle.ir_core.specs.declared.code.RType.{RType}
-use Rattle.ir_core.specs.Registers.{Held, Regs}
+use Rattle.ir_core.specs.Registers.{Regs}
 use Rattle.ir_core.specs.Building.{Building}
 use Rattle.ir_builder_frames.specs.Settings.{Setting}
-use Rattle.ir_builder_frames.specs.Matching.{HasRoom, IsThrown}
-use Rattle.ir_builder_frames.specs.Computing.{Showing, Meaning, Computes, Makes, Attempts}
+use Rattle.ir_builder_frames.specs.Matching.{HasRoom}
+use Rattle.ir_builder_frames.specs.Computing.{Showing, Meaning, Computes, Attempts}
 use Rattle.ir_builder_frames.proofs.HeldLemmas.{extends_refl, extends_trans, placed_part}
 use Rattle.ir_builder_frames.proofs.ComingLemmas.{ends_map}
-use Rattle.ir_builder_frames.proofs.MatchLemmas.{room_on, same_refl, same_trans, thrown_from, computes_then, makes_arrives}
+use Rattle.ir_builder_frames.proofs.MatchLemmas.{room_on, same_trans, thrown_from, computes_then}
 use Rattle.ir_builder_operations.specs.Operating.{Acts}
 
--- a value that is made, where the source finds it too
-pub record Finds (K : Showing) (from : Regs → Held → Type 0) (regs : Regs) (s : State) (res : Outcome Value) : Type 0 where
-  pub value : Value
-  pub held : Held
-  pub does : res ≡ Gives value s
-  pub made : from regs held
-  pub shows : K value held
-
-pub makes_attempt : (K : Showing) (b c : Building) (r : ℕ) (t : RType) (from : Regs → Held → Type 0) (acts : Regs → State → Outcome Value → Type 0) → ((regs : Regs) (s : State) (res : Outcome Value) → acts regs s res → Finds K from regs s res) → Makes b c r t from → Attempts K b c r t acts
-makes_attempt K b c r t from acts find made = record {
-  extends = made.extends;
-  type = made.type;
-  runs = λ p fn h at x room regs below s match res f.
-      let k = find regs s res f in
-      makes_arrives p fn K from b c r t below (length b.regs) regs regs x s s k.value k.held res (IsThrown fn h below x (length b.regs) regs) made at.has (le_refl _) (λ j lt. refl) (same_refl x regs s match) k.does k.made k.shows;
-}
-
--- ---- behind the code of a part
-
+-- behind the code of a part
 pub part_attempts : (x : Setting) (K L : Showing) (t u : RType) (m : Meaning Value) (go : Value → Does Value) (from : Regs → State → Outcome Value → Type 0) (b0 b1 b2 : Building) (q r : ℕ) → HasRoom x b0 → Computes x K t m b0 b1 q → Attempts L b1 b2 r u from → ((v : Value) (s : State) (regs : Regs) → K v (regs q) → from regs s (go v s)) → Computes x L u (λ n s. on_to (m n s) go) b0 b2 r
 part_attempts x K L t u m go from b0 b1 b2 q r room c made gives =
     let k1 = c.extends.blocks_grow in

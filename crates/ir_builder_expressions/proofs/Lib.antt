@@ -2,10 +2,8 @@ pub mod WalkingLemmas
 pub mod CallLemmas
 pub mod ArgumentLemmas
 pub mod ArmLemmas
-pub mod ValueLemmas
 pub mod FollowLemmas
 pub mod NumberLemmas
-pub mod TestLemmas
 pub mod PieceLemmas
 pub mod PairLemmas
 pub mod SideLemmas

@@ -1,6 +1,5 @@
 -- The choices of a chain: what was begun, and that all are met from the last.
-use Rattle.std.proofs.Common.{◌≡◌, refl, sym, ap, subst, ℕ, zero, suc, ◌<◌, ◌≤◌, arith, List, [], ◌∷◌, ◌++◌, length, Some}
-use Rattle.std.specs.Prelude.{slice_get}
+use Rattle.std.proofs.Common.{◌≡◌, refl, sym, ap, subst, ℕ, zero, suc, ◌≤◌, arith, List, [], ◌∷◌, ◌++◌, length}
 use Rattle.std.specs.Option.{option_map}
 use Rattle.ir_core.specs.declared.code.RType.{RType}
 use Rattle.ir_core.specs.declared.code.RType.TheVariants as rtype
@@ -12,6 +11,7 @@ use Rattle.ir_builder_frames.specs.Shaped.{Keeps}
 use Rattle.ir_builder_frames.proofs.HeldLemmas.{extends_refl, extends_trans, type_kept, type_below}
 use Rattle.ir_builder_expressions.specs.declared.chain.Link.{Link}
 use Rattle.ir_builder_expressions.specs.Linking.{Begins, Pending, Met, Ended}
+use Rattle.ir_builder_operations.proofs.TextLemmas.{get_there}
 
 pub pending_extends : (b : Building) (ls : List Link) (c : Building) → Pending b ls c → Extends b c
 pending_extends b [] c h = h
@@ -57,11 +57,6 @@ begins_alike a d b l r k x h = (rtype.Bool, type_kept d b l.choice.target.0 rtyp
 
 pub begins_flag : (a d b c : Building) (l : Link) → Begins a d l → Extends d b → Extends b c → HasType c l.holds.0 rtype.Bool
 begins_flag a d b c l k x y = type_kept a c l.holds.0 rtype.Bool (extends_trans a d c k.opens.extends (extends_trans d b c x y)) k.holds
-
-get_there : {A : Type 0} (xs : List A) (k : ℕ) → k < length xs → (x : A) × (slice_get xs k ≡ Some x)
-get_there [] k lt = absurd (omega arith)
-get_there (x ∷ xs) zero lt = (x, refl)
-get_there (x ∷ xs) (suc k) lt = get_there xs k (omega arith)
 
 -- where all registers are kept, none is lost
 regs_grow : (b c : Building) (n : ℕ) → n ≡ length b.regs → ((q : ℕ) (t : RType) → HasType b q t → HasType c q t) → n ≤ length c.regs

@@ -28,9 +28,6 @@ use Rattle.ir_builder_frames.proofs.MatchLemmas.{same_refl, made_computes}
 use Rattle.ir_builder_expressions.specs.Literals.{literal_of_truth}
 use Rattle.ir_builder_expressions.specs.Emitting.{means, Emits}
 
-kind_at : (t u : Sort) (v : Value) → t ≡ u → HasKind t v → HasKind u v
-kind_at t u v e k = subst (λ z. HasKind z v) e k
-
 pub flag_emits : {line : ℕ} (x : Setting) (value : Bool) (place : Span) (b c : Building) (r : ℕ) → Adds b c r rtype.Bool (Lit record { 0 = r } (literal_of_truth value)) line → Emits x (typed (Flag value) sort.Bool place) b c r
 flag_emits x true place b c r a = made_computes x (Shows sort.Bool) rtype.Bool _ _ b c r (literal_makes b c r rtype.Bool _ (Holds (BoolVal true)) a refl) (λ n s regs. (BoolVal true, Holds (BoolVal true), refl, refl, (refl, (true, refl))))
 flag_emits x false place b c r a = made_computes x (Shows sort.Bool) rtype.Bool _ _ b c r (literal_makes b c r rtype.Bool _ (Holds (BoolVal false)) a refl) (λ n s regs. (BoolVal false, Holds (BoolVal false), refl, refl, (refl, (false, refl))))
@@ -54,5 +51,5 @@ local_emits x i w t place b at is low room = record {
       let R = Arrives (Shows t) fn (length b.blocks) (length b.ops) below (length b.regs) regs x s i in
       let T = IsThrown fn h below x (length b.regs) regs in
       ends_of p s.turns _ _ (Gives q.0 s) R T gives
-      (ends_now p q.0 s _ R T record { now = regs; is = refl; shows = (q.2, kind_at w.1 t q.0 is q.3); kept = λ j lt. refl; same = same_refl x regs s match });
+      (ends_now p q.0 s _ R T record { now = regs; is = refl; shows = (q.2, subst (λ z. HasKind z q.0) is q.3); kept = λ j lt. refl; same = same_refl x regs s match });
 }

@@ -7,7 +7,7 @@ use Rattle.py_typed.specs.Fits.{is_number}
 use Rattle.py_typed.specs.Sorts as sort
 use Rattle.py_typed.specs.Sorts.{Sort}
 use Rattle.py_typed.specs.Expressions.{TypedExpr, type_of}
-use Rattle.source_meaning.specs.State.{State, Gives, Does, on_to}
+use Rattle.source_meaning.specs.State.{State, Does, on_to}
 use Rattle.source_meaning.specs.Operations.{coerced, with_number, of_numbers, arithmetic, negated_as, negated}
 use Rattle.ir_core.specs.declared.code.RType.TheVariants as rtype
 use Rattle.ir_core.specs.declared.code.Reg.{Reg}
@@ -22,23 +22,16 @@ use Rattle.ir_builder_frames.proofs.HeldLemmas.{type_below}
 use Rattle.ir_builder_operations.specs.Operating.{is_arithmetic, is_whole, ActsOn, ActsOnTwo}
 use Rattle.ir_builder_operations.specs.Rows.{is_known, operands_of, result_of, goes}
 use Rattle.ir_builder_expressions.specs.Applying.{arithmetic_of, negation_of}
-use Rattle.ir_builder_operations.proofs.KindLemmas.{by_int, by_i64}
 use Rattle.ir_builder_operations.proofs.PartLemmas.{stays, as_one, as_two}
 use Rattle.ir_builder_operations.proofs.ThenLemmas.{attempts_as, attempts_then, two_attempts}
 use Rattle.ir_builder_expressions.specs.Compiled.{literal_in}
 use Rattle.ir_builder_expressions.specs.Parts.{native_in, sort_by, part_sort}
-use Rattle.ir_builder_expressions.proofs.ValueLemmas.{number_coerced}
+use Rattle.ir_builder_operations.proofs.CoercionLemmas.{kept_as}
 
 pub whole_numeric : (t : Sort) → is_whole t ≡ true → is_number t ≡ true
 whole_numeric sort.Int e = refl
 whole_numeric sort.I64 e = refl
 whole_numeric t e = let f : false ≡ true = e in absurd (cc)
-
--- a number of a type is that of the type already
-pub same_number : (t : Sort) → is_whole t ≡ true → (v : Value) (s : State) → HasKind t v → coerced t v s ≡ Gives v s
-same_number sort.Int e v s k = by_int (λ z. coerced sort.Int z s ≡ Gives z s) (λ n f. refl) v k
-same_number sort.I64 e v s k = by_i64 (λ z. coerced sort.I64 z s ≡ Gives z s) (λ n f. number_coerced n s f) v k
-same_number t e v s k = let f : false ≡ true = e in absurd (cc)
 
 -- a native number is asked for only where the operation is on native integers
 pub native_only : (t : Sort) (o : Option ℤ) (n : ℤ) → native_in t o ≡ Some n → sort.I64 ≡ t
@@ -54,7 +47,7 @@ native_stays t e n b x is type =
     let P : Sort → Type 0 = λ u. HasType b x (rtype_of u) in
     let Q : Sort → Type 0 = λ u. Attempts (Shows u) b b x (rtype_of u) (ActsOn (part_sort t e) x (coerced u)) in
     let R : Sort → Type 0 = λ u. Attempts (Shows sort.I64) b b x rtype.I64 (ActsOn u x (coerced sort.I64)) in
-    subst Q native (subst R part (stays sort.I64 (coerced sort.I64) b x rtype.I64 (subst P (sym part) type) (λ v s k. same_number sort.I64 refl v s k)))
+    subst Q native (subst R part (stays sort.I64 (coerced sort.I64) b x rtype.I64 (subst P (sym part) type) (λ v s k. kept_as sort.I64 refl v s k)))
 
 -- ---- the operations on numbers of a type
 
@@ -88,7 +81,7 @@ negated_part t u b0 b1 b2 x q r whole a c =
       go = λ z. with_number z (negated_as t);
       does = f.does;
       start = record { v = f.v; shows = f.shows; does = refl };
-      on = λ now v s1 shows kept. record { v = v; shows = shows; does = ap (λ o. on_to o (λ z. with_number z (negated_as t))) (sym (same_number t whole v s1 shows.1)) };
+      on = λ now v s1 shows kept. record { v = v; shows = shows; does = ap (λ o. on_to o (λ z. with_number z (negated_as t))) (sym (kept_as t whole v s1 shows.1)) };
     })
 
 -- ---- operators
@@ -96,8 +89,8 @@ negated_part t u b0 b1 b2 x q r whole a c =
 taken_is : (t : Sort) (op : BinOp) (v w : Value) (s : State) → is_whole t ≡ true → HasKind t v → HasKind t w → with_number v (λ m. with_number w (λ n. of_numbers t op m n)) s ≡ arithmetic t op v w s
 taken_is t op v w s whole k l =
     sym
-    (ap (λ o. on_to o (λ a s1. on_to (coerced t w s1) (λ b. with_number a (λ m. with_number b (λ n. of_numbers t op m n))))) (same_number t whole v s k)
-    ∙ ap (λ o. on_to o (λ b. with_number v (λ m. with_number b (λ n. of_numbers t op m n)))) (same_number t whole w s l))
+    (ap (λ o. on_to o (λ a s1. on_to (coerced t w s1) (λ b. with_number a (λ m. with_number b (λ n. of_numbers t op m n))))) (kept_as t whole v s k)
+    ∙ ap (λ o. on_to o (λ b. with_number v (λ m. with_number b (λ n. of_numbers t op m n)))) (kept_as t whole w s l))
 
 pub numbers_attempt : (t u w : Sort) (op : BinOp) (b0 b1 b2 b3 : Building) (x y q1 q2 r : ℕ) → is_whole t ≡ true → HasType b0 x (rtype_of u) → HasType b0 y (rtype_of w) → Attempts (Shows t) b0 b1 q1 (rtype_of t) (ActsOn u x (coerced t)) → Attempts (Shows t) b1 b2 q2 (rtype_of t) (ActsOn w y (coerced t)) → Attempts (Shows t) b2 b3 r (rtype_of t) (ActsOnTwo t t q1 q2 (arithmetic t op)) → Attempts (Shows t) b0 b3 r (rtype_of t) (ActsOnTwo u w x y (arithmetic t op))
 numbers_attempt t u w op b0 b1 b2 b3 x y q1 q2 r whole type_x type_y a1 a2 a3 =

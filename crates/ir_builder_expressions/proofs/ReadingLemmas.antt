@@ -1,5 +1,6 @@
 -- Reading a variable that may be unset, of the function or of the module.
 use Rattle.std.proofs.Common.{◌≡◌, ◌⊎◌, inr, ℕ, zero, suc, ◌<◌, ◌≤◌, ◌++◌, true, false, List, [], ◌∷◌, length, Option, Some, None, refl, sym, ap, ◌∙◌, subst, arith, le_refl}
+use Rattle.std.proofs.lemmas.Option.{slice_get-get_or}
 use Rattle.std.specs.Prelude.{slice_get, get_or, map, pos, nat_lt, if◌then◌else◌, codes}
 use Rattle.std.proofs.lemmas.Bool.Decides.{nat_tests}
 use Rattle.std.proofs.lemmas.List.{length-map}
@@ -137,9 +138,6 @@ name_is (v ∷ vs) (suc i) w e = name_is vs i w e
 other_flag : (f : Vars) (regs : Regs) (j : ℕ) → f.params ≤ j → flag_in f regs j ≡ regs (flag_of f j)
 other_flag f regs j le = let e : nat_lt j f.params ≡ false = grind (arith, nat_tests) in ap (λ b. if b then Holds (BoolVal true) else regs (flag_of f j)) e
 
-kind_as : (t u : Sort) (v : Value) → t ≡ u → HasKind t v → HasKind u v
-kind_as t u v e k = subst (λ z. HasKind z v) e k
-
 module _ (x : Setting) (i : ℕ) (w : Variable) (t : Sort) (place : Span) (b c : Building) (at : slice_get x.variables i ≡ Some w) (is : w.1 ≡ t) (tests : TestsSet b c (flag_of x.frame.locals i) w.0) (p : Program) (fn : ℕ) (h : Option ℕ) (placed : Placed p fn b c h) (n : ℕ) (regs : Regs) (below : List Waiting) (s : State) (match : Matches x regs s) where
   abbrev Good : Value → State → Rattle.ir_core.specs.Meaning.Config → Type 0
   Good = Arrives (Shows t) fn (length c.blocks) (length c.ops) below (length b.regs) regs x s i
@@ -158,7 +156,7 @@ module _ (x : Setting) (i : ℕ) (w : Variable) (t : Sort) (place : Span) (b c :
   reads (Some v) e k =
       let gives : means x (typed (Local i) t place) n s ≡ Gives v s = ap (λ o. value_in (raise_new UnboundLocalError (codes "local variable '" ++ name_at x.variables i ++ codes "' referenced before assignment")) o s) e in
       ends_of p s.turns _ _ _ Good Bad gives
-      (ends_lead p v s _ _ Good Bad (tests.set p fn placed.has regs below s (BoolVal true) k.1) record { now = regs; is = refl; shows = (k.0, kind_as w.1 t v is k.2); kept = λ j lt. refl; same = same_refl x regs s match })
+      (ends_lead p v s _ _ Good Bad (tests.set p fn placed.has regs below s (BoolVal true) k.1) record { now = regs; is = refl; shows = (k.0, subst (λ z. HasKind z v) is k.2); kept = λ j lt. refl; same = same_refl x regs s match })
 
 variable_emits : (x : Setting) (i : ℕ) (w : Variable) (t : Sort) (place : Span) (b c : Building) → slice_get x.variables i ≡ Some w → w.1 ≡ t → x.frame.locals.params ≤ i → HasRoom x b → TestsSet b c (flag_of x.frame.locals i) w.0 → Emits x (typed (Local i) t place) b c i
 variable_emits x i w t place b c at is other room tests = record {
@@ -173,9 +171,7 @@ variable_emits x i w t place b c at is other room tests = record {
 -- ---- of a declared variable, in whatever module
 
 get_there : {A : Type 0} (xs : List A) (i : ℕ) (d x : A) → i < length xs → x ≡ get_or xs i d → slice_get xs i ≡ Some x
-get_there [] i d x lt e = absurd (omega arith)
-get_there (y ∷ xs) zero d x lt e = ap Some (sym e)
-get_there (y ∷ xs) (suc i) d x lt e = get_there xs i d x (omega arith) e
+get_there xs i d x lt e = slice_get-get_or xs i d lt ∙ ap Some (sym e)
 
 room_in : (m n : TypedModule) (vs : List Variable) (frame : Frame) (b : Building) → HasRoom (setting_in m vs frame) b → HasRoom (setting_in n vs frame) b
 room_in m n vs frame b room = record {

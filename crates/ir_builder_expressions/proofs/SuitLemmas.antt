@@ -1,7 +1,8 @@
 -- An expression that is well typed and compiled suits, in a function whose variables are numbers, bools and texts, where the
 -- signature of each function is that of its definition.
-use Rattle.std.proofs.Common.{◌≡◌, refl, sym, ◌∙◌, ap, subst, ℕ, Bool, true, false, List, [], ◌∷◌, ◌++◌, Option, Some, None, ◌⊎◌, ⊎_elim, inl, inr}
-use Rattle.std.specs.Prelude.{ℤ, pos, negsuc, not, ◌||◌, if◌then◌else◌, slice_get}
+use Rattle.std.proofs.Common.{◌≡◌, refl, sym, ◌∙◌, ap, subst, ℕ, Bool, true, false, List, [], ◌∷◌, ◌++◌, Option, Some, None, ◌⊎◌, ⊎_elim}
+use Rattle.std.proofs.lemmas.Bool.{or_cases}
+use Rattle.std.specs.Prelude.{ℤ, pos, negsuc, not, if◌then◌else◌, slice_get}
 use Rattle.std.specs.Option.{option_map}
 use Rattle.value_core.specs.Arithmetic.{lies_within}
 use Rattle.py_syntax.specs.declared.token.Span.{Span}
@@ -51,10 +52,6 @@ result_scalar _ h k = absurd (cc)
 literal_within : (n : ℤ) → is_literal n ≡ true → lies_within 127 n ≡ true
 literal_within (pos n) h = h
 literal_within (negsuc n) h = absurd (cc)
-
-pub either_of : (a b : Bool) → (a || b) ≡ true → (a ≡ true) ⊎ (b ≡ true)
-either_of true b h = inl refl
-either_of false b h = inr h
 
 pub same_sorts : (ss ts : List Sort) → are_same_types (sorts_of ss) (sorts_of ts) ≡ true → ss ≡ ts
 same_sorts [] [] e = refl
@@ -138,7 +135,7 @@ module _ (m : TypedModule) (vs : List Variable) (init : Option ℕ) where
   local_suits : AllScalar → (known : List ℕ) (i : ℕ) (t : Sort) → rule m vs init known (Local i) t ≡ true → (v : Variable) × (slice_get vs i ≡ Some v) × (v.1 ≡ t)
   local_suits scalars known i t r =
       ⊎_elim (declared_as (slice_get vs i) t) (read_as (is_in known i) (slice_get vs i) t (scalars i))
-      (either_of (is_type (declared vs i) t) (is_type (option_map (reads_as (is_in known i)) (declared vs i)) t) r)
+      (or_cases (is_type (declared vs i) t) (is_type (option_map (reads_as (is_in known i)) (declared vs i)) t) r)
 
   signed_by : (o : Option Signature) (ss : List Sort) (t : Sort) → call_fits m vs init o ss t ≡ true → (s : Signature) × (o ≡ Some s) × (ss ≡ s.params) × (s.ret ≡ t)
   signed_by None ss t h = absurd (cc)

@@ -1,13 +1,16 @@
 -- Types of operands that are compared, and what the comparison of two does.
-use Rattle.std.specs.Prelude.{Bool, true, false, not}
-use Rattle.value_core.specs.Value.{Value, BoolVal}
+use Rattle.std.specs.Prelude.{Bool, true, false}
+use Rattle.value_core.specs.Value.{Value}
 use Rattle.py_syntax.specs.declared.expression.CmpOp.{CmpOp}
-use Rattle.py_syntax.specs.declared.expression.CmpOp.TheVariants as cmp
+use Rattle.py_typed.specs.Fits.{is_number}
 use Rattle.py_typed.specs.Sorts as sort
 use Rattle.py_typed.specs.Sorts.{Sort}
-use Rattle.source_meaning.specs.State.{Does, ◌>>=◌, give, needs}
-use Rattle.source_meaning.specs.Operations.{is_equal, is_less, are_alike, holds}
-use Rattle.ir_builder_expressions.specs.Compiled.{is_pair}
+use Rattle.source_meaning.specs.State.{Does}
+use Rattle.source_meaning.specs.Operations.{holds}
+use Rattle.ir_builder_operations.specs.declared.operation.Compared.{Compared}
+use Rattle.ir_builder_operations.specs.declared.operation.Compared.TheVariants.{Ints, Natives, Texts}
+use Rattle.ir_builder_operations.specs.Rows.{as_value}
+use Rattle.ir_builder_expressions.specs.Compiled.{is_text, is_pair}
 use Rattle.ir_builder_expressions.specs.declared.comparing.Kind.{Kind}
 use Rattle.ir_builder_expressions.specs.declared.comparing.Kind.TheVariants as kind
 
@@ -30,19 +33,17 @@ is_shown_as sort.Bool sort.Bool = true
 is_shown_as sort.Str sort.Str = true
 is_shown_as _ _ = false
 
+-- what two operands are compared as, by the type of both: two bools as native integers
+abbrev pub compared_in : Sort → Compared
+compared_in sort.Int = Ints
+compared_in sort.Str = Texts
+compared_in _ = Natives
+
+-- the types of operands that are brought there
+abbrev pub is_brought : Compared → Sort → Bool
+is_brought Texts s = is_text s
+is_brought c s = is_number s
+
 -- what the source finds, as a value
 abbrev pub holds_as : CmpOp → Sort → Sort → Value → Value → Does Value
-holds_as op s t v w = holds op s t v w >>= λ h. give (BoolVal h)
-
--- of two values of one type
-abbrev pub test_of : CmpOp → Value → Value → Bool
-test_of cmp.Eq a b = is_equal a b
-test_of cmp.Ne a b = not (is_equal a b)
-test_of cmp.Lt a b = is_less a b
-test_of cmp.Le a b = not (is_less b a)
-test_of cmp.Gt a b = is_less b a
-test_of cmp.Ge a b = not (is_less a b)
-test_of _ a b = false
-
-abbrev pub taken_as : CmpOp → Value → Value → Does Value
-taken_as op v w = needs (are_alike v w) (give (test_of op v w)) >>= λ h. give (BoolVal h)
+holds_as op s t v w = as_value (holds op s t v w)

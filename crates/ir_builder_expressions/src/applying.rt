@@ -16,7 +16,7 @@ ghost use Rattle.ir_builder_expressions.specs.Parts.{fitting_in, native_in, part
 ghost use Rattle.ir_builder_expressions.specs.Applying.{unary_goes, binary_goes, UnarySuits, BinarySuits, arithmetic_of, negation_of, applied_in, node_in, seen};
 
 use crate::types::is_native;
-use ir_builder_comparisons::{emit_inversion, emit_truth};
+use ir_builder_comparisons::emit_truth;
 use ir_builder_frames::Emitter;
 use ir_builder_operations::{Operation, emit_coercion, emit_operation, emit_text_of};
 use ir_core::Reg;
@@ -215,7 +215,7 @@ pub(crate) fn emit_unary(
 {
     match op {
         Unary::Negated => emit_negated(b, alloc, t, e, x, line),
-        Unary::Inverted => emit_inversion(b, alloc, x, line),
+        Unary::Inverted => emit_operation(b, alloc, Operation::Inversion, &[x], line),
         Unary::Tested => emit_truth(b, alloc, &e.ty, x, line),
         Unary::Counted => emit_operation(b, alloc, Operation::Length, &[x], line),
         Unary::Written => emit_text_of(b, alloc, &e.ty, x, line),

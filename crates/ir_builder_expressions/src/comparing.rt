@@ -1,6 +1,5 @@
 //! Pairs of operands that are compared.
 ghost use Rattle.std.specs.Prelude.{◌≡◌, IfOk, true};
-ghost use Rattle.py_typed.specs.Fits.{is_number};
 ghost use Rattle.py_typed.specs.Sorts.{sort, Bool as BoolSort};
 ghost use Rattle.py_typed.specs.Expressions.{typed_expr};
 ghost use Rattle.source_meaning.specs.Operations.{coerced, compared_as};
@@ -10,15 +9,16 @@ ghost use Rattle.ir_builder_frames.specs.Placing.{HasType};
 ghost use Rattle.ir_builder_frames.specs.Settings.{rtype_of};
 ghost use Rattle.ir_builder_frames.specs.Shaped.{Keeps};
 ghost use Rattle.ir_builder_frames.specs.Kinds.{KeepsKinds};
-ghost use Rattle.ir_builder_operations.specs.Operating.{is_whole, ActsOn, ActsOnTwo};
+ghost use Rattle.ir_builder_operations.specs.Operating.{ActsOn, ActsOnTwo};
+ghost use Rattle.ir_builder_operations.specs.Rows.{compared_sort};
 ghost use Rattle.ir_builder_expressions.specs.Compiled.{is_ordering};
 ghost use Rattle.ir_builder_expressions.specs.Parts.{is_simple, part_sort};
-ghost use Rattle.ir_builder_expressions.specs.Comparing.{kind_sort, is_compared, is_shown_as, holds_as, taken_as};
+ghost use Rattle.ir_builder_expressions.specs.Comparing.{kind_sort, is_compared, is_shown_as, compared_in, is_brought, holds_as};
 
 use crate::applying::native_literal;
-use ir_builder_comparisons::{emit_number_comparison, emit_text_comparison};
+use ir_builder_comparisons::emit_comparison;
 use ir_builder_frames::Emitter;
-use ir_builder_operations::emit_coercion;
+use ir_builder_operations::{Compared, emit_coercion};
 use ir_core::{RType, Reg};
 use py_syntax::CmpOp;
 use py_typed::{TExpr, Ty};
@@ -98,101 +98,47 @@ pub fn other_kind(e: &TExpr, rest: &[(CmpOp, TExpr)]) -> Kind {
     }
 }
 
-// A number of one type as one of another.
-fn emit_shown(
+// What two operands are compared as.
+fn compared_between(left: Kind, right: Kind) -> Compared
+    ensures { result ≡ compared_in (compared_as (kind_sort left) (kind_sort right)) }
+{
+    match (left, right) {
+        (Kind::I64, _) => Compared::Natives,
+        (_, Kind::I64) => Compared::Natives,
+        (Kind::Int, _) => Compared::Ints,
+        (_, Kind::Int) => Compared::Ints,
+        (Kind::Str, _) => Compared::Texts,
+        _ => Compared::Natives,
+    }
+}
+
+// An operand as a value of the type in which it is compared.
+fn emit_brought(
     b: &mut Emitter,
     alloc: Global,
     from: Kind,
-    to: Kind,
+    to: Compared,
     x: Reg,
     line: usize,
 ) -> Result<Reg, Memory>
-    requires numeric { is_number (kind_sort from) ≡ true }
-    requires whole { is_whole (kind_sort to) ≡ true }
+    requires brought { is_brought to (kind_sort from) ≡ true }
     requires value { HasType b.old x.0 (rtype_of (kind_sort from)) }
     ensures kept { Extends b.old b.new }
-    ensures made { IfOk result (λ r. Attempts (Shows (kind_sort to)) b.old b.new r.0 (rtype_of (kind_sort to)) (ActsOn (kind_sort from) x.0 (coerced (kind_sort to)))) }
+    ensures made { IfOk result (λ r. Attempts (Shows (compared_sort to)) b.old b.new r.0 (rtype_of (compared_sort to)) (ActsOn (kind_sort from) x.0 (coerced (compared_sort to)))) }
     ensures shaped { Keeps b.old b.new }
     ensures kinds { KeepsKinds b.old b.new }
 {
     let from = type_of_kind(from);
-    let to = type_of_kind(to);
-    emit_coercion(b, alloc, &from, &to, x, line)
-}
-
-// A comparison of two numbers of a type.
-fn emit_alike(
-    b: &mut Emitter,
-    alloc: Global,
-    op: CmpOp,
-    t: Kind,
-    x: Reg,
-    y: Reg,
-    line: usize,
-) -> Result<Reg, Memory>
-    requires ordering { is_ordering op ≡ true }
-    requires whole { is_whole (kind_sort t) ≡ true }
-    requires left { HasType b.old x.0 (rtype_of (kind_sort t)) }
-    requires right { HasType b.old y.0 (rtype_of (kind_sort t)) }
-    ensures kept { Extends b.old b.new }
-    ensures made { IfOk result (λ r. Attempts (Shows BoolSort) b.old b.new r.0 RType.Bool (ActsOnTwo (kind_sort t) (kind_sort t) x.0 y.0 (taken_as op))) }
-    ensures shaped { Keeps b.old b.new }
-    ensures kinds { KeepsKinds b.old b.new }
-{
-    let number = type_of_kind(t);
-    emit_number_comparison(b, alloc, op, &number, x, &number, y, line)
-}
-
-// A comparison of two numbers in a type. Both are there before the first is coerced.
-fn emit_numeric_pair(
-    b: &mut Emitter,
-    alloc: Global,
-    op: CmpOp,
-    to: Kind,
-    left: Side,
-    right: Side,
-    line: usize,
-) -> Result<Reg, Memory>
-    requires ordering { is_ordering op ≡ true }
-    requires whole { is_whole (kind_sort to) ≡ true }
-    requires left_numeric { is_number (kind_sort left.shown) ≡ true }
-    requires right_numeric { is_number (kind_sort right.shown) ≡ true }
-    requires left { HasType b.old left.reg.0 (rtype_of (kind_sort left.shown)) }
-    requires right { HasType b.old right.reg.0 (rtype_of (kind_sort right.shown)) }
-    requires joined { kind_sort to ≡ compared_as (kind_sort left.own) (kind_sort right.own) }
-    ensures kept { Extends b.old b.new }
-    ensures made { IfOk result (λ r. Attempts (Shows BoolSort) b.old b.new r.0 RType.Bool (ActsOnTwo (kind_sort left.shown) (kind_sort right.shown) left.reg.0 right.reg.0 (holds_as op (kind_sort left.own) (kind_sort right.own)))) }
-    ensures shaped { Keeps b.old b.new }
-    ensures kinds { KeepsKinds b.old b.new }
-{
-    let x = emit_shown(b, alloc, left.shown, to, left.reg, line)?;
-    let y = emit_shown(b, alloc, right.shown, to, right.reg, line)?;
-    emit_alike(b, alloc, op, to, x, y, line)
-}
-
-// A comparison of two bools.
-fn emit_bool_pair(
-    b: &mut Emitter,
-    alloc: Global,
-    op: CmpOp,
-    x: Reg,
-    y: Reg,
-    line: usize,
-) -> Result<Reg, Memory>
-    requires ordering { is_ordering op ≡ true }
-    requires left { HasType b.old x.0 RType.Bool }
-    requires right { HasType b.old y.0 RType.Bool }
-    ensures kept { Extends b.old b.new }
-    ensures made { IfOk result (λ r. Attempts (Shows BoolSort) b.old b.new r.0 RType.Bool (ActsOnTwo BoolSort BoolSort x.0 y.0 (holds_as op BoolSort BoolSort))) }
-    ensures shaped { Keeps b.old b.new }
-    ensures kinds { KeepsKinds b.old b.new }
-{
-    let both = type_of_kind(Kind::Bool);
-    emit_number_comparison(b, alloc, op, &both, x, &both, y, line)
+    match to {
+        Compared::Ints => emit_coercion(b, alloc, &from, &Ty::Int, x, line),
+        Compared::Natives => emit_coercion(b, alloc, &from, &Ty::I64, x, line),
+        Compared::Texts => Ok(x),
+    }
 }
 
 /// A comparison of two operands (Python Language Reference, "Value comparisons"): of numbers in the type of both, of bools, or of
-/// texts.
+/// texts. Both operands are there before the first is coerced. At run time an `int` beside a native integer raises OverflowError
+/// where it does not fit.
 pub fn emit_pair(
     b: &mut Emitter,
     alloc: Global,
@@ -212,10 +158,8 @@ pub fn emit_pair(
     ensures shaped { Keeps b.old b.new }
     ensures kinds { KeepsKinds b.old b.new }
 {
-    let to = joined_kind(left.own, right.own);
-    match to {
-        Kind::Str => emit_text_comparison(b, alloc, op, left.reg, right.reg, line),
-        Kind::Bool => emit_bool_pair(b, alloc, op, left.reg, right.reg, line),
-        _ => emit_numeric_pair(b, alloc, op, to, left, right, line),
-    }
+    let to = compared_between(left.own, right.own);
+    let x = emit_brought(b, alloc, left.shown, to, left.reg, line)?;
+    let y = emit_brought(b, alloc, right.shown, to, right.reg, line)?;
+    emit_comparison(b, alloc, to, op, x, y, line)
 }

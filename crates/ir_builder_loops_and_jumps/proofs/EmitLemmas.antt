@@ -1,6 +1,7 @@
 -- What is emitted for each kind of statement does what the statement means.
 use Rattle.std.proofs.Common.{◌≡◌, ℕ, ◌≤◌, suc, ◌+◌, ◌<◌, Bool, true, false, List, [], ◌∷◌, ◌++◌, length, map, Option, Some, None, refl, sym, ap, ◌∙◌, subst, arith, append_assoc, append-nil, le_refl, get_or, take, add-one}
-use Rattle.std.specs.Prelude.{◌||◌}
+use Rattle.std.proofs.lemmas.List.{map_push}
+use Rattle.std.proofs.lemmas.Bool.{or_parts, or_from}
 use Rattle.std.proofs.Math.Seq.{take-suc}
 use Rattle.py_syntax.specs.declared.expression.BinOp.{BinOp}
 use Rattle.py_typed.specs.Sorts as sort
@@ -12,7 +13,7 @@ use Rattle.py_typed.specs.declared.types.Ty.{Ty}
 use Rattle.py_typed.specs.declared.statement.TStmtKind as kind
 use Rattle.py_typed.specs.Expressions.{TypedExpr, typed_expr, type_of}
 use Rattle.py_typed.specs.Statements as tree
-use Rattle.py_typed.specs.Statements.{TypedStmt, TypedAct, on_line, Variable, typed_stmt, typed_suite, typed_arm, typed_target, suite_of, arms_of, maybe_typed}
+use Rattle.py_typed.specs.Statements.{TypedAct, on_line, typed_stmt, typed_suite, typed_arm, typed_target, suite_of, maybe_typed}
 use Rattle.source_meaning.specs.State.{State, on_to}
 use Rattle.source_meaning.specs.SourceRun.{call_of}
 use Rattle.source_meaning.specs.Operations.{truth_of}
@@ -71,18 +72,10 @@ emitted_as x result looping m m' b0 b1 before after mine same is w inside = reco
 
 -- ---- exits that leave no loop
 
-no_use_or : (a b : Bool) → a ≡ false → b ≡ false → (a || b) ≡ false
-no_use_or true b e f = e
-no_use_or false b e f = f
-
-or_no_use : (a b : Bool) → (a || b) ≡ false → (a ≡ false) × (b ≡ false)
-or_no_use true b e = let f : true ≡ false = e in absurd (cc)
-or_no_use false b e = (refl, e)
-
 uses_none : (w : Way) (xs ys : List Exit) → uses w xs ≡ false → uses w ys ≡ false → uses w (xs ++ ys) ≡ false
 uses_none w [] ys e f = f
 uses_none w (x ∷ xs) ys e f =
-    let o = or_no_use (is_same_way w x.way) (uses w xs) e in no_use_or (is_same_way w x.way) (uses w (xs ++ ys)) o.0 (uses_none w xs ys o.1 f)
+    let o = or_parts (is_same_way w x.way) (uses w xs) e in or_from (is_same_way w x.way) (uses w (xs ++ ys)) o.0 (uses_none w xs ys o.1 f)
 
 pub leaves_both : (xs ys : List Exit) → LeavesNoLoop xs → LeavesNoLoop ys → LeavesNoLoop (xs ++ ys)
 leaves_both xs ys a b = (uses_none Break xs ys a.0 b.0, uses_none Continue xs ys a.1 b.1)
@@ -90,10 +83,10 @@ leaves_both xs ys a b = (uses_none Break xs ys a.0 b.0, uses_none Continue xs ys
 left_none : (plan : Way → Option ℕ) (w : Way) (xs : List Exit) → uses w xs ≡ false → uses w (left plan xs) ≡ false
 left_none plan w [] e = refl
 left_none plan w (x ∷ xs) e =
-    let o = or_no_use (is_same_way w x.way) (uses w xs) e in kept (plan x.way) o.0 (left_none plan w xs o.1)
+    let o = or_parts (is_same_way w x.way) (uses w xs) e in kept (plan x.way) o.0 (left_none plan w xs o.1)
   where
     kept : (t : Option ℕ) → is_same_way w x.way ≡ false → uses w (left plan xs) ≡ false → uses w (stays t x (left plan xs)) ≡ false
-    kept None a b = no_use_or (is_same_way w x.way) (uses w (left plan xs)) a b
+    kept None a b = or_from (is_same_way w x.way) (uses w (left plan xs)) a b
     kept (Some t) a b = b
 
 pub leaves_left : (plan : Way → Option ℕ) (xs : List Exit) → LeavesNoLoop xs → LeavesNoLoop (left plan xs)
@@ -104,7 +97,7 @@ planned_none plan w t [] some = refl
 planned_none plan w t (x ∷ xs) some = one (is_same_way w x.way) refl (planned_none plan w t xs some)
   where
     dropped : (o : Option ℕ) → is_same_way w x.way ≡ false → uses w (left plan xs) ≡ false → uses w (stays o x (left plan xs)) ≡ false
-    dropped None a b = no_use_or (is_same_way w x.way) (uses w (left plan xs)) a b
+    dropped None a b = or_from (is_same_way w x.way) (uses w (left plan xs)) a b
     dropped (Some u) a b = b
 
     one : (a : Bool) → is_same_way w x.way ≡ a → uses w (left plan xs) ≡ false → uses w (stays (plan x.way) x (left plan xs)) ≡ false
@@ -113,10 +106,6 @@ planned_none plan w t (x ∷ xs) some = one (is_same_way w x.way) refl (planned_
     one false is rest = dropped (plan x.way) is rest
 
 -- ---- rows of statements
-
-pub map_last : {A B : Type 0} (f : A → B) (xs : List A) (a : A) → map f (xs ++ a ∷ []) ≡ map f xs ++ f a ∷ []
-map_last f [] a = refl
-map_last f (x ∷ xs) a = ap (λ l. f x ∷ l) (map_last f xs a)
 
 pub nothing_emitted : (x : Setting) (result : Option Sort) (looping : Bool) (b : Building) (xs : List Exit) → Emitted x result looping (means_suite x (typed_suite [])) b b xs xs
 nothing_emitted x result looping b xs = emitted_as x result looping _ _ b b xs xs [] (λ n s. refl) (sym (append-nil xs)) (none_works x result b) (λ e. (refl, refl))
@@ -128,7 +117,7 @@ pub next_emitted : (x : Setting) (result : Option Sort) (looping : Bool) (ss : L
 next_emitted x result looping ss i s b0 b1 b2 x0 x1 x2 lt is p q =
     rw (add-one, take-suc ss i s lt, ← is)
     (emitted_as x result looping (means_suite x (typed_suite (take i ss ++ s ∷ []))) (λ n u. on_to (means_suite x (typed_suite (take i ss)) n u) (flow_on (means_statement x (typed_stmt s) n))) b0 b2 x0 x2 (p.mine ++ q.mine)
-    (λ n u. ap (λ l. suite x.source.classes.classes (call_of x.source n) x.source.globals x.variables n (suite_of l) u) (map_last typed_stmt (take i ss) s) ∙ row_last x.source.classes.classes (call_of x.source n) x.source.globals x.variables n (map typed_stmt (take i ss)) (typed_stmt s) u)
+    (λ n u. ap (λ l. suite x.source.classes.classes (call_of x.source n) x.source.globals x.variables n (suite_of l) u) (map_push typed_stmt (take i ss) s) ∙ row_last x.source.classes.classes (call_of x.source n) x.source.globals x.variables n (map typed_stmt (take i ss)) (typed_stmt s) u)
     (two_lists x0 x1 x2 p.mine q.mine p.is q.is)
     (then_works x result (means_suite x (typed_suite (take i ss))) (means_statement x (typed_stmt s)) b0 b1 b2 p.mine q.mine p.works q.works)
     (λ e. leaves_both p.mine q.mine (p.inside e) (q.inside e)))
@@ -234,7 +223,7 @@ next_tested x result looping arms i a body b0 b1 b3 b4 b6 t xs ys zs lt is same 
     let one = tests_next x result before test m b0 b1 b3 b4 b6 t xs p.mine ys zs so_far.works (answered x (typed_expr a.0) b1 b3 t bool (room_on x b0 b1 so_far.works.extends room) sp) m_works e in
     let row : (n : ℕ) → TypedExpr × tree.TypedSuite → Branch = λ n. branch_of x.source.classes.classes (call_of x.source n) x.source.globals x.variables n in
     let named = tests_of x result (means_arms x (take i arms ++ a ∷ [])) (λ n u. on_to (before n u) (try_next (test n, m n))) b0 b6 (xs ++ (p.mine ++ last))
-    (λ n u. ap (λ l. tried (map (row n) l) u) (map_last typed_arm (take i arms) a) ∙ ap (λ l. tried l u) (map_last (row n) (map typed_arm (take i arms)) (typed_arm a)) ∙ tried_last (map (row n) (map typed_arm (take i arms))) (row n (typed_arm a)) u) one in
+    (λ n u. ap (λ l. tried (map (row n) l) u) (map_push typed_arm (take i arms) a) ∙ ap (λ l. tried l u) (map_push (row n) (map typed_arm (take i arms)) (typed_arm a)) ∙ tried_last (map (row n) (map typed_arm (take i arms))) (row n (typed_arm a)) u) one in
     let exits : zs ≡ xs ++ (p.mine ++ last) = e.noted ∙ ap (λ l. l ++ last) p.is ∙ append_assoc xs p.mine last in
     let P : List Exit → Type 0 = λ z. Tested x result looping (means_arms x (take i arms ++ a ∷ [])) b0 b6 z in
     rw (add-one, take-suc arms i a lt, ← is)

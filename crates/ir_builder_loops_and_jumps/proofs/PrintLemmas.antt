@@ -14,7 +14,6 @@ use Rattle.source_meaning.specs.Operations.{text_of, line_of, has_text}
 use Rattle.source_meaning.specs.WaysOut.{Flow, Goes}
 use Rattle.py_typed.proofs.ExpressionLemmas.{type_at}
 use Rattle.ir_core.specs.declared.code.Op.{Op}
-use Rattle.ir_core.specs.declared.code.Op.TheVariants.{Prim}
 use Rattle.ir_core.specs.declared.code.Reg.{Reg}
 use Rattle.ir_core.specs.declared.code.RType.TheVariants.{Ref}
 use Rattle.ir_core.specs.declared.code.Program.{Program}
@@ -39,6 +38,7 @@ use Rattle.ir_builder_frames.proofs.MatchLemmas.{room_on, match_kept}
 use Rattle.ir_builder_operations.specs.Operating.{is_written, ActsOn}
 use Rattle.ir_builder_loops_and_jumps.specs.Runs.{Flows, Works}
 use Rattle.ir_builder_loops_and_jumps.specs.Printing.{written, writes_of, item_text, row_text, first_texts, Prints, WritesText, WritesOne, Writes}
+use Rattle.ir_builder_operations.proofs.PartLemmas.{show_kept}
 
 -- ---- the operation that writes
 
@@ -191,14 +191,6 @@ show_count [] [] regs (q ∷ rs) h = absurd h
 show_count (t ∷ ts) [] regs rs h = absurd h
 show_count (t ∷ ts) (v ∷ vs) regs [] h = absurd h
 show_count (t ∷ ts) (v ∷ vs) regs (q ∷ rs) h = ap suc (show_count ts vs regs rs h.1)
-
-show_kept : (b : Building) (ts : List Sort) (vs : List Value) (rs : List Reg) (old now : Regs) → HaveTypes b.regs ts rs → ((j : ℕ) → j < length b.regs → now j ≡ old j) → ShowAll ts vs old rs → ShowAll ts vs now rs
-show_kept b [] [] [] old now h same k = tt
-show_kept b [] vs (r ∷ rs) old now h same k = absurd h
-show_kept b [] (v ∷ vs) [] old now h same k = absurd k
-show_kept b (t ∷ ts) vs [] old now h same k = absurd h
-show_kept b (t ∷ ts) [] (r ∷ rs) old now h same k = absurd k
-show_kept b (t ∷ ts) (v ∷ vs) (r ∷ rs) old now h same k = (subst (Shows t v) (sym (same r.0 (type_below b r.0 (rtype_of t) h.0))) k.0, show_kept b ts vs rs old now h.1 same k.1)
 
 pub none_written : (es : List TExpr) (rs : List Reg) (b : Building) → Writes (sorts es) rs b b (first_texts 0)
 none_written es rs b = record {

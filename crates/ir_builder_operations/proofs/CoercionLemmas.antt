@@ -1,7 +1,6 @@
 -- What primitives make of a number or a bool of one type is what the source makes of it at the other type.
-use Rattle.std.proofs.Common.{◌≡◌, refl, sym, ap, subst, ℕ, arith, Bool, true, false, cond, [], ◌∷◌, Some, None, Result, Ok, Err}
-use Rattle.std.proofs.lemmas.Bool.Decides.{nat_tests}
-use Rattle.std.specs.Prelude.{ℤ, pos, negsuc, if◌then◌else◌}
+use Rattle.std.proofs.Common.{◌≡◌, refl, sym, ap, subst, ℕ, Bool, true, false, cond, [], ◌∷◌, Some, None, Result, Ok, Err}
+use Rattle.std.specs.Prelude.{ℤ, pos, if◌then◌else◌}
 use Rattle.value_core.specs.declared.arith.Arith.{Arith}
 use Rattle.value_core.specs.declared.arith.Arith.TheVariants.{Overflow, OutOfRange}
 use Rattle.value_core.specs.Arithmetic.{lies_within, int_to_i64}
@@ -15,6 +14,7 @@ use Rattle.py_typed.specs.Sorts as sort
 use Rattle.py_typed.specs.Sorts.{Sort}
 use Rattle.source_meaning.specs.State.{State, Gives}
 use Rattle.source_meaning.specs.Operations.{fitting, coerced}
+use Rattle.source_meaning.proofs.RangeLemmas.{wider}
 use Rattle.ir_core.specs.declared.code.Reg.{Reg}
 use Rattle.ir_core.specs.Effects.{World, Given, truth_number, fitted}
 use Rattle.ir_core.specs.Rows.{Declared, type_of_reg}
@@ -32,12 +32,9 @@ use Rattle.ir_builder_operations.specs.Rows.{is_known, operands_of, result_of, g
 use Rattle.ir_builder_operations.specs.Converting.{coercion}
 use Rattle.ir_builder_operations.proofs.KindLemmas.{by_int, by_i64}
 use Rattle.ir_builder_operations.proofs.PartLemmas.{as_one, stays}
+use Rattle.ir_builder_operations.proofs.NativeLemmas.{native_kept}
 
 -- ---- each coercion
-
-wider : (n : ℤ) → lies_within 63 n ≡ true → lies_within 127 n ≡ true
-wider (pos n) e = grind (arith, nat_tests, e)
-wider (negsuc n) e = grind (arith, nat_tests, e)
 
 truth_kind : (b : Bool) → HasKind sort.Int (IntVal (truth_number b))
 truth_kind true = (pos 1, refl, refl)
@@ -116,10 +113,7 @@ same_type sort.I64 sort.I64 e f g = refl
 same_type sort.Bool sort.Int e f g = absurd (cc)
 same_type s t e f g = absurd (cc)
 
-native_kept : (n : ℤ) (s : State) → lies_within 63 n ≡ true → coerced sort.I64 (IntVal n) s ≡ Gives (IntVal n) s
-native_kept n s e = ap (λ b. fitting (cond b (Ok n) (Err OutOfRange)) s) e
-
-kept_as : (t : Sort) → is_whole t ≡ true → (v : Value) (s : State) → HasKind t v → coerced t v s ≡ Gives v s
+pub kept_as : (t : Sort) → is_whole t ≡ true → (v : Value) (s : State) → HasKind t v → coerced t v s ≡ Gives v s
 kept_as sort.Int e v s k = by_int (λ v. coerced sort.Int v s ≡ Gives v s) (λ n f. refl) v k
 kept_as sort.I64 e v s k = by_i64 (λ v. coerced sort.I64 v s ≡ Gives v s) (λ n f. native_kept n s f) v k
 kept_as t e v s k = let f : false ≡ true = e in absurd (cc)

@@ -6,6 +6,7 @@ pub mod LiteralLemmas
 pub mod NumberLemmas
 pub mod NativeLemmas
 pub mod CoercionLemmas
+pub mod ComparisonLemmas
 pub mod WrittenLemmas
 pub mod InputLemmas
 pub mod OperationLemmas

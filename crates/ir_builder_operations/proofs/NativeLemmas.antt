@@ -1,15 +1,10 @@
 -- What primitives make of native integers is what the source makes of them, or the exception that it raises.
-use Rattle.std.proofs.Common.{◌≡◌, refl, ap, ◌∙◌, ℕ, zero, suc, ◌^◌, arith, Bool, true, false, cond, [], ◌∷◌, Some, Result, Ok, Err}
-use Rattle.std.proofs.lemmas.Bool.Decides.{nat_tests}
-use Rattle.std.proofs.lemmas.Int.{ints, SFits-int_wrap}
-use Rattle.std.proofs.Math.Nat.{div-le_self}
-use Rattle.std.specs.Int.{int_wrap, w64}
-use Rattle.std.specs.Prelude.{ℤ, pos, negsuc, neg_ℤ, ◌*ℤ◌, ◌≤ℤ◌, ◌<ℤ◌, nat_lt, FitsSigned}
+use Rattle.std.proofs.Common.{◌≡◌, refl, ap, ◌∙◌, true, false, cond, [], ◌∷◌, Result, Ok, Err}
+use Rattle.std.specs.Prelude.{ℤ, neg_ℤ}
 use Rattle.value_core.specs.declared.arith.Arith.{Arith}
 use Rattle.value_core.specs.declared.arith.Arith.TheVariants.{Overflow, ZeroDivisor, NegativeShift, OutOfRange}
-use Rattle.value_core.specs.Arithmetic.{lies_within, floor_div, modulo, i64_add, i64_sub, i64_mul, i64_neg, i64_floor_div, i64_modulo, i64_shl, i64_shr}
+use Rattle.value_core.specs.Arithmetic.{lies_within, i64_add, i64_sub, i64_mul, i64_neg, i64_floor_div, i64_modulo, i64_shl, i64_shr}
 use Rattle.value_core.specs.Value.{IntVal}
-use Rattle.value_core.proofs.RestLemmas.{rest_near}
 use Rattle.c_core.specs.declared.primitive.Primitive.TheVariants as prim
 use Rattle.c_core.specs.declared.primitive.Int64Prim.TheVariants as int64
 use Rattle.c_core.specs.Step.{int64_exception}
@@ -18,6 +13,7 @@ use Rattle.py_syntax.specs.declared.expression.BinOp.TheVariants as bin
 use Rattle.py_typed.specs.Sorts as sort
 use Rattle.source_meaning.specs.State.{State, Gives, on_to}
 use Rattle.source_meaning.specs.Operations.{fitting, coerced, with_number, number_of, no_i64, of_i64, of_numbers, arithmetic, negated_as, negated}
+use Rattle.source_meaning.proofs.RangeLemmas.{IsNative, wrap_within, quotient_native, rest_native, left_native, right_native}
 use Rattle.ir_core.specs.declared.code.Program.{Program}
 use Rattle.ir_core.specs.Rows.{failing}
 use Rattle.ir_core.specs.Effects.{World, Given, native_or, effect}
@@ -25,65 +21,6 @@ use Rattle.ir_builder_frames.specs.Computing.{Shows}
 use Rattle.ir_builder_frames.proofs.AttemptLemmas.{Answer, Answers, Throws, effect_of, outcome_of, Allows, ShownIfGiven, Performs, performs}
 use Rattle.ir_builder_operations.specs.Operating.{is_arithmetic}
 use Rattle.ir_builder_operations.specs.Selecting.{native_primitive}
-
--- ---- range
-
-fits_within : (z : ℤ) → FitsSigned w64 z → lies_within 63 z ≡ true
-fits_within (pos n) f = grind (arith, f.sfits)
-fits_within (negsuc n) f = grind (arith, f.sfits)
-
-wrap_within : (z : ℤ) → lies_within 63 (int_wrap w64 z) ≡ true
-wrap_within z = fits_within (int_wrap w64 z) (SFits-int_wrap w64 z)
-
--- a number is a native integer, where there is one
-abbrev IsNative : Result ℤ Arith → Type 0
-IsNative (Ok n) = lies_within 63 n ≡ true
-IsNative (Err fault) = Unit {0}
-
-native_by : (b : Bool) (n : ℤ) → lies_within 63 n ≡ b → IsNative (cond b (Ok n) (Err Overflow))
-native_by true n e = e
-native_by false n e = tt
-
-quotient_native : (a b : ℤ) → IsNative (i64_floor_div a b)
-quotient_native a (pos zero) = tt
-quotient_native a (pos (suc b)) = native_by _ (floor_div a (pos (suc b))) refl
-quotient_native a (negsuc b) = native_by _ (floor_div a (negsuc b)) refl
-
--- a number between 0 and a native integer is one
-between_up : (z : ℤ) (b : ℕ) → lies_within 63 (pos b) ≡ true → pos 0 ≤ℤ z → z <ℤ pos b → lies_within 63 z ≡ true
-between_up (pos n) b e low high = grind (arith, nat_tests, ints, e, high)
-between_up (negsuc n) b e low high = absurd (omega (arith, ints, low))
-
-between_down : (z : ℤ) (b : ℕ) → lies_within 63 (negsuc b) ≡ true → negsuc b <ℤ z → z ≤ℤ pos 0 → lies_within 63 z ≡ true
-between_down (pos zero) b e low high = refl
-between_down (pos (suc n)) b e low high = absurd (omega (arith, ints, high))
-between_down (negsuc n) b e low high = grind (arith, nat_tests, ints, e, low)
-
-rest_native : (a b : ℤ) → lies_within 63 b ≡ true → IsNative (i64_modulo a b)
-rest_native a (pos zero) e = tt
-rest_native a (pos (suc b)) e = let near = (rest_near a (pos (suc b))).0 (omega (arith, ints)) in between_up (modulo a (pos (suc b))) (suc b) e near.0 near.1
-rest_native a (negsuc b) e = let near = (rest_near a (negsuc b)).1 (omega (arith, ints)) in between_down (modulo a (negsuc b)) b e near.0 near.1
-
-left_by : (b : Bool) (z : ℤ) → IsNative (cond b (Ok (int_wrap w64 z)) (Err OutOfRange))
-left_by true z = wrap_within z
-left_by false z = tt
-
-left_native : (a n : ℤ) → IsNative (i64_shl a n)
-left_native a (pos n) = left_by (nat_lt n 64) (a *ℤ pos (2 ^ n))
-left_native a (negsuc n) = tt
-
--- a quotient by a natural number is as near to 0
-divided : (a : ℤ) (d : ℕ) → lies_within 63 a ≡ true → lies_within 63 (floor_div a (pos d)) ≡ true
-divided (pos a) d e = let le = div-le_self a d in grind (arith, nat_tests, e, le)
-divided (negsuc a) d e = let le = div-le_self a d in grind (arith, nat_tests, e, le)
-
-right_by : (b : Bool) (z : ℤ) → lies_within 63 z ≡ true → IsNative (cond b (Ok z) (Err OutOfRange))
-right_by true z e = e
-right_by false z e = tt
-
-right_native : (a n : ℤ) → lies_within 63 a ≡ true → IsNative (i64_shr a n)
-right_native a (pos n) e = right_by (nat_lt n 64) (floor_div a (pos (2 ^ n))) (divided a (2 ^ n) e)
-right_native a (negsuc n) e = tt
 
 -- ---- what an operator gives
 

@@ -24,12 +24,15 @@ use Rattle.ir_builder_frames.specs.Shaped.{AreBelow}
 use Rattle.ir_builder_frames.proofs.HeldLemmas.{type_below}
 use Rattle.ir_builder_frames.proofs.AttemptLemmas.{all_given, Performs, all_perform}
 use Rattle.ir_builder_operations.specs.declared.operation.Operation.{Operation}
-use Rattle.ir_builder_operations.specs.declared.operation.Operation.TheVariants.{IntArithmetic, NativeArithmetic, IntNegation, NativeNegation, Concatenation, Length, Letter, IntText, NativeText, BoolText, BoolToInt, BoolToNative, NativeToInt, IntToNative, Line}
+use Rattle.ir_builder_operations.specs.declared.operation.Operation.TheVariants.{IntArithmetic, NativeArithmetic, IntNegation, NativeNegation, Comparison, Inversion, Concatenation, Length, Letter, IntText, NativeText, BoolText, BoolToInt, BoolToNative, NativeToInt, IntToNative, Line}
+use Rattle.ir_builder_operations.specs.declared.operation.Compared.TheVariants.{Ints, Natives, Texts}
+use Rattle.ir_builder_operations.specs.declared.operation.Test.TheVariants.{Equal, Less, AtMost}
 use Rattle.ir_builder_operations.specs.Rows.{is_known, operands_of, result_of, primitive_of, goes}
 use Rattle.ir_builder_operations.proofs.KindLemmas.{on_none, one_int, one_native, one_bool, one_text, two_ints, two_natives, two_texts, text_and_int}
 use Rattle.ir_builder_operations.proofs.NumberLemmas as int
 use Rattle.ir_builder_operations.proofs.NativeLemmas as native
 use Rattle.ir_builder_operations.proofs.CoercionLemmas.{int_of_bool, native_of_bool, int_of_native, native_of_int}
+use Rattle.ir_builder_operations.proofs.ComparisonLemmas.{ints_compared, natives_compared, texts_compared, inversion_performs}
 use Rattle.ir_builder_operations.proofs.WrittenLemmas.{concat_performs, length_performs, item_performs, int_written, native_written, flag_written}
 use Rattle.ir_builder_operations.proofs.InputLemmas.{line_performs}
 
@@ -43,6 +46,10 @@ operation_performs (IntArithmetic op) e = two_ints (Does (IntArithmetic op)) (λ
 operation_performs (NativeArithmetic op) e = two_natives (Does (NativeArithmetic op)) (λ m n f g. native.arithmetic_performs op m n e f g)
 operation_performs IntNegation e = one_int (Does IntNegation) (λ n f. int.negation_performs n)
 operation_performs NativeNegation e = one_native (Does NativeNegation) (λ n f. native.negation_performs n f)
+operation_performs (Comparison Ints test) e = two_ints (Does (Comparison Ints test)) (λ m n f g. ints_compared test m n)
+operation_performs (Comparison Natives test) e = two_natives (Does (Comparison Natives test)) (λ m n f g. natives_compared test m n)
+operation_performs (Comparison Texts test) e = two_texts (Does (Comparison Texts test)) (λ a b. texts_compared test a b)
+operation_performs Inversion e = one_bool (Does Inversion) (λ b. inversion_performs b)
 operation_performs Concatenation e = two_texts (Does Concatenation) (λ a b. concat_performs a b)
 operation_performs Length e = one_text (Does Length) (λ t. length_performs t)
 operation_performs Letter e = text_and_int (Does Letter) (λ t n f. item_performs t n)
@@ -92,6 +99,16 @@ row (NativeArithmetic bin.Shr) = (refl, (refl, (refl, tt)))
 row (NativeArithmetic bin.Bar) = (refl, (refl, (refl, tt)))
 row IntNegation = (refl, (refl, tt))
 row NativeNegation = (refl, (refl, tt))
+row (Comparison Ints Equal) = (refl, (refl, (refl, tt)))
+row (Comparison Ints Less) = (refl, (refl, (refl, tt)))
+row (Comparison Ints AtMost) = (refl, (refl, (refl, tt)))
+row (Comparison Natives Equal) = (refl, (refl, (refl, tt)))
+row (Comparison Natives Less) = (refl, (refl, (refl, tt)))
+row (Comparison Natives AtMost) = (refl, (refl, (refl, tt)))
+row (Comparison Texts Equal) = (refl, (refl, (refl, tt)))
+row (Comparison Texts Less) = (refl, (refl, (refl, tt)))
+row (Comparison Texts AtMost) = (refl, (refl, (refl, tt)))
+row Inversion = (refl, (refl, tt))
 row Concatenation = (refl, (refl, (refl, tt)))
 row Length = (refl, (refl, tt))
 row Letter = (refl, (refl, (refl, tt)))

@@ -1,9 +1,9 @@
 -- Operations on registers, what is in its register already, and what a primitive makes of a written text.
-use Rattle.std.proofs.Common.{◌≡◌, ℕ, ◌+◌, List, [], ◌∷◌, length, Some, None, refl, sym, ◌∙◌, arith}
+use Rattle.std.proofs.Common.{◌≡◌, ℕ, ◌+◌, ◌<◌, List, [], ◌∷◌, length, Some, None, refl, sym, ◌∙◌, subst, arith, le_refl}
 use Rattle.value_core.specs.Value.{Value}
 use Rattle.c_core.specs.declared.primitive.Primitive.{Primitive}
 use Rattle.py_typed.specs.Sorts.{Sort}
-use Rattle.source_meaning.specs.State.{State, Outcome, Gives, Does}
+use Rattle.source_meaning.specs.State.{State, Gives, Does, give}
 use Rattle.ir_core.specs.declared.code.Reg.{Reg}
 use Rattle.ir_core.specs.declared.code.RType.{RType}
 use Rattle.ir_core.specs.declared.code.PArg.TheVariants.{Text}
@@ -19,11 +19,11 @@ use Rattle.ir_builder_frames.specs.Placing.{HasType}
 use Rattle.ir_builder_frames.specs.Calling.{Adds}
 use Rattle.ir_builder_frames.specs.Coming.{world, running}
 use Rattle.ir_builder_frames.specs.Matching.{HasKind, IsThrown}
-use Rattle.ir_builder_frames.specs.Computing.{Showing, Shows, Arrives, Makes, Attempts}
+use Rattle.ir_builder_frames.specs.Computing.{Shows, ShowAll, HaveTypes, Arrives, Makes, Attempts}
 use Rattle.ir_builder_frames.specs.Operands.{ActsOnAll}
-use Rattle.ir_builder_frames.proofs.HeldLemmas.{extends_refl, type_has, adds_has}
+use Rattle.ir_builder_frames.proofs.HeldLemmas.{extends_refl, type_has, type_below, adds_has}
 use Rattle.ir_builder_frames.proofs.ComingLemmas.{leads_step, ends_of, ends_now}
-use Rattle.ir_builder_frames.proofs.MatchLemmas.{same_refl}
+use Rattle.ir_builder_frames.proofs.MatchLemmas.{same_refl, makes_arrives}
 use Rattle.ir_builder_frames.proofs.StepLemmas.{prim_step}
 use Rattle.ir_builder_operations.proofs.ThenLemmas.{attempts_as}
 use Rattle.ir_builder_operations.specs.Operating.{Acts, ActsOn, ActsOnTwo}
@@ -54,6 +54,15 @@ stays t go b r type is same = record {
       (ends_now p needs.v s _ R T record { now = regs; is = refl; shows = needs.shows; kept = λ j lt. refl; same = same_refl x regs s match });
 }
 
+-- a value that is made of nothing
+pub made_attempts : (t : Sort) (v : Value) (b c : Building) (r : ℕ) (u : RType) → HasKind t v → Makes b c r u (λ regs h. h ≡ Holds v) → Attempts (Shows t) b c r u (Acts (give v))
+made_attempts t v b c r u kind made = record {
+  extends = made.extends;
+  type = made.type;
+  runs = λ p fn h at x room regs below s match res f.
+      makes_arrives p fn (Shows t) (λ regs h. h ≡ Holds v) b c r u below (length b.regs) regs regs x s s v (Holds v) res (IsThrown fn h below x (length b.regs) regs) made at.has (le_refl _) (λ j lt. refl) (same_refl x regs s match) f refl (refl, kind);
+}
+
 -- a value that a primitive makes of a text as it is written
 pub written_makes : {line : ℕ} (b c : Building) (r : ℕ) (t : RType) (q : Primitive) (text : List ℕ) (v : Value) → Adds b c r t (Prim (Some record { 0 = r }) q (Text text ∷ [])) line → failing q ≡ NeverFails → ((p : Program) (w : World) → effect p q (Written (Text text) ∷ []) w ≡ Giving v w) → Makes b c r t (λ regs h. h ≡ Holds v)
 written_makes b c r t q text v a never does = record {
@@ -66,3 +75,12 @@ written_makes b c r t q text v a never does = record {
       let is : running fn (length b.blocks) (length b.ops + 1) (put regs r (Holds v)) below (world None s) ≡ running fn (length c.blocks) (length c.ops) (put regs r (Holds v)) below (world None s) = rw (a.blocks, a.ops) refl in
       (put regs r (Holds v), leads_step p _ _ (step ∙ is), put_same regs r (Holds v) ∙ sym f, λ j lt. put_other regs r j (Holds v) (let z = a.made in λ e. omega arith));
 }
+
+-- values that registers show stay there where the registers do
+pub show_kept : (b : Building) (ts : List Sort) (vs : List Value) (rs : List Reg) (old now : Regs) → HaveTypes b.regs ts rs → ((j : ℕ) → j < length b.regs → now j ≡ old j) → ShowAll ts vs old rs → ShowAll ts vs now rs
+show_kept b [] [] [] old now h same k = tt
+show_kept b [] vs (r ∷ rs) old now h same k = absurd h
+show_kept b [] (v ∷ vs) [] old now h same k = absurd k
+show_kept b (t ∷ ts) vs [] old now h same k = absurd h
+show_kept b (t ∷ ts) [] (r ∷ rs) old now h same k = absurd k
+show_kept b (t ∷ ts) (v ∷ vs) (r ∷ rs) old now h same k = (subst (Shows t v) (sym (same r.0 (type_below b r.0 (rtype_of t) h.0))) k.0, show_kept b ts vs rs old now h.1 same k.1)

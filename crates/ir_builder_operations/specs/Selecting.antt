@@ -1,10 +1,17 @@
--- Which primitive an operator is made of.
+-- Which primitive an operator or a test is made of.
+use Rattle.c_core.specs.declared.primitive.Primitive.{Primitive}
+use Rattle.c_core.specs.declared.primitive.Primitive.TheVariants as prim
 use Rattle.c_core.specs.declared.primitive.Int64Prim.{Int64Prim}
 use Rattle.c_core.specs.declared.primitive.Int64Prim.TheVariants as int64
 use Rattle.c_core.specs.declared.primitive.TaggedPrim.{TaggedPrim}
 use Rattle.c_core.specs.declared.primitive.TaggedPrim.TheVariants as tagged
+use Rattle.c_core.specs.declared.primitive.StrPrim.TheVariants as str
 use Rattle.py_syntax.specs.declared.expression.BinOp.{BinOp}
 use Rattle.py_syntax.specs.declared.expression.BinOp.TheVariants.{Add, Sub, FloorDiv, Mod, Shl, Shr}
+use Rattle.ir_builder_operations.specs.declared.operation.Compared.{Compared}
+use Rattle.ir_builder_operations.specs.declared.operation.Compared.TheVariants.{Ints, Natives, Texts}
+use Rattle.ir_builder_operations.specs.declared.operation.Test.{Test}
+use Rattle.ir_builder_operations.specs.declared.operation.Test.TheVariants.{Equal, Less, AtMost}
 
 abbrev pub int_primitive : BinOp → TaggedPrim
 int_primitive Add = tagged.Add
@@ -23,3 +30,14 @@ native_primitive Mod = int64.Remainder
 native_primitive Shl = int64.Lshift
 native_primitive Shr = int64.Rshift
 native_primitive _ = int64.Multiply
+
+abbrev pub test_primitive : Compared → Test → Primitive
+test_primitive Ints Equal = prim.Tagged tagged.Eq
+test_primitive Ints Less = prim.Tagged tagged.Lt
+test_primitive Ints AtMost = prim.Tagged tagged.Le
+test_primitive Natives Equal = prim.Int64 int64.Eq
+test_primitive Natives Less = prim.Int64 int64.Lt
+test_primitive Natives AtMost = prim.Int64 int64.Le
+test_primitive Texts Equal = prim.Str str.Eq
+test_primitive Texts Less = prim.Str str.Lt
+test_primitive Texts AtMost = prim.Str str.Le

@@ -16,6 +16,6 @@ mod texts;
 pub use coercions::emit_coercion;
 pub use input::emit_input;
 pub use numbers::{emit_int, emit_native};
-pub use operation::{Operation, emit_operation};
-pub use parts::{emit_one, emit_two, emit_written};
+pub use operation::{Compared, Operation, Test, emit_operation};
+pub use parts::emit_written;
 pub use texts::{emit_text, emit_text_of};

@@ -7,7 +7,7 @@ ghost use Rattle.ir_builder_frames.specs.Settings.{rtype_of};
 ghost use Rattle.ir_builder_frames.specs.Shaped.{Keeps};
 ghost use Rattle.ir_builder_frames.specs.Kinds.{KeepsKinds};
 ghost use Rattle.ir_builder_operations.specs.Rows.{is_known, operands_of, result_of, primitive_of, goes};
-ghost use Rattle.ir_builder_operations.specs.Selecting.{int_primitive, native_primitive};
+ghost use Rattle.ir_builder_operations.specs.Selecting.{int_primitive, native_primitive, test_primitive};
 
 use c_core::{BoolPrim, Int64Prim, IoPrim, Prim, StrPrim, TaggedPrim};
 use ir_builder_frames::Emitter;
@@ -15,6 +15,22 @@ use ir_core::{PArg, RType, Reg};
 use py_syntax::BinOp;
 use std::alloc::Global;
 use value_core::{Many, Memory};
+
+/// Values of one type that are compared: `int`s, native integers or texts.
+#[derive(Clone, Copy)]
+pub enum Compared {
+    Ints,
+    Natives,
+    Texts,
+}
+
+/// What one primitive finds in two values: that they are equal, that the first is less, or that it is not more.
+#[derive(Clone, Copy)]
+pub enum Test {
+    Equal,
+    Less,
+    AtMost,
+}
 
 /// An operation that one primitive does (Python Language Reference, "Expressions"; mypyc's "Native integer types").
 #[derive(Clone, Copy)]
@@ -29,6 +45,10 @@ pub enum Operation {
     IntNegation,
     /// The other sign of a native integer. That of the least one is itself.
     NativeNegation,
+    /// A test of two values of one type. Texts stand in the order of their code points.
+    Comparison(Compared, Test),
+    /// The other truth.
+    Inversion,
     /// One text behind another.
     Concatenation,
     /// The number of a text's code points.
@@ -82,6 +102,23 @@ fn native_operator(op: BinOp) -> Int64Prim
     }
 }
 
+// The primitive of a test.
+fn primitive_to_test(compared: Compared, test: Test) -> Prim
+    ensures { result ≡ test_primitive compared test }
+{
+    match (compared, test) {
+        (Compared::Ints, Test::Equal) => Prim::Tagged(TaggedPrim::Eq),
+        (Compared::Ints, Test::Less) => Prim::Tagged(TaggedPrim::Lt),
+        (Compared::Ints, Test::AtMost) => Prim::Tagged(TaggedPrim::Le),
+        (Compared::Natives, Test::Equal) => Prim::Int64(Int64Prim::Eq),
+        (Compared::Natives, Test::Less) => Prim::Int64(Int64Prim::Lt),
+        (Compared::Natives, Test::AtMost) => Prim::Int64(Int64Prim::Le),
+        (Compared::Texts, Test::Equal) => Prim::Str(StrPrim::Eq),
+        (Compared::Texts, Test::Less) => Prim::Str(StrPrim::Lt),
+        (Compared::Texts, Test::AtMost) => Prim::Str(StrPrim::Le),
+    }
+}
+
 // The primitive that does an operation.
 fn primitive(op: Operation) -> Prim
     ensures { result ≡ primitive_of op }
@@ -91,6 +128,8 @@ fn primitive(op: Operation) -> Prim
         Operation::NativeArithmetic(op) => Prim::Int64(native_operator(op)),
         Operation::IntNegation => Prim::Tagged(TaggedPrim::Negate),
         Operation::NativeNegation => Prim::Int64(Int64Prim::Negate),
+        Operation::Comparison(compared, test) => primitive_to_test(compared, test),
+        Operation::Inversion => Prim::Bool(BoolPrim::Not),
         Operation::Concatenation => Prim::Str(StrPrim::Concat),
         Operation::Length => Prim::Str(StrPrim::Len),
         Operation::Letter => Prim::Str(StrPrim::GetItem),
@@ -119,6 +158,7 @@ fn result_type(op: Operation) -> RType
         | Operation::NativeNegation
         | Operation::BoolToNative
         | Operation::IntToNative => RType::I64,
+        Operation::Comparison(_, _) | Operation::Inversion => RType::Bool,
         _ => RType::Ref,
     }
 }

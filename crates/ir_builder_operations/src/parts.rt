@@ -1,5 +1,5 @@
-//! Single primitives, each with a register of its own for its result.
-ghost use Rattle.std.specs.Prelude.{◌≡◌, ◌<◌, [], ◌∷◌, length, IfOk, Some, IsTrue};
+//! A primitive on a written text, with a register of its own for its result.
+ghost use Rattle.std.specs.Prelude.{[], ◌∷◌, IfOk, Some, IsTrue};
 ghost use Rattle.c_core.specs.Primitives.{row_of};
 ghost use Rattle.ir_core.specs.declared.code.Op.{Op};
 ghost use Rattle.ir_core.specs.Building.{Extends};
@@ -13,51 +13,6 @@ use ir_builder_frames::Emitter;
 use ir_core::{Op, PArg, RType, Reg};
 use std::alloc::Global;
 use value_core::{Many, Memory, Text};
-
-/// The result of a primitive on one register.
-pub fn emit_one(
-    b: &mut Emitter,
-    alloc: Global,
-    t: RType,
-    primitive: Prim,
-    x: Reg,
-    line: usize,
-) -> Result<Reg, Memory>
-    requires result { IsTrue (is_target_of (row_of primitive).outcome (Some record { 0 = 0 })) }
-    requires below { x.0 < length b.old.regs }
-    ensures kept { Extends b.old b.new }
-    ensures added { IfOk result (λ r. Adds b.old b.new r.0 t (Op.Prim (Some r) primitive (PArg.Var x ∷ [])) line) }
-    ensures shaped { Keeps b.old b.new }
-    ensures kinds { KeepsKindsIf (λ g. Answers t b.old.regs primitive (PArg.Var x ∷ [])) b.old b.new }
-{
-    let mut args = Many::new(alloc);
-    args.push(PArg::Var(x))?;
-    b.primitive(t, primitive, args, line)
-}
-
-/// The result of a primitive on two registers.
-pub fn emit_two(
-    b: &mut Emitter,
-    alloc: Global,
-    t: RType,
-    primitive: Prim,
-    x: Reg,
-    y: Reg,
-    line: usize,
-) -> Result<Reg, Memory>
-    requires result { IsTrue (is_target_of (row_of primitive).outcome (Some record { 0 = 0 })) }
-    requires left { x.0 < length b.old.regs }
-    requires right { y.0 < length b.old.regs }
-    ensures kept { Extends b.old b.new }
-    ensures added { IfOk result (λ r. Adds b.old b.new r.0 t (Op.Prim (Some r) primitive (PArg.Var x ∷ PArg.Var y ∷ [])) line) }
-    ensures shaped { Keeps b.old b.new }
-    ensures kinds { KeepsKindsIf (λ g. Answers t b.old.regs primitive (PArg.Var x ∷ PArg.Var y ∷ [])) b.old b.new }
-{
-    let mut args = Many::new(alloc);
-    args.push(PArg::Var(x))?;
-    args.push(PArg::Var(y))?;
-    b.primitive(t, primitive, args, line)
-}
 
 /// The result of a primitive on a text as it is written.
 pub fn emit_written(

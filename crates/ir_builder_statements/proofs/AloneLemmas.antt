@@ -3,7 +3,6 @@ use Rattle.std.proofs.Common.{◌≡◌, ℕ, true, List, [], ◌∷◌, map, Op
 use Rattle.std.specs.List.{list_all}
 use Rattle.py_typed.specs.declared.expression.TExpr.{TExpr}
 use Rattle.py_typed.specs.declared.expression.TKind as kind
-use Rattle.py_typed.specs.Sorts as sort
 use Rattle.py_typed.specs.Sorts.{Sort, sort as sort_of}
 use Rattle.py_typed.specs.Expressions as tree
 use Rattle.py_typed.specs.Expressions.{TypedExpr, typed, typed_expr, type_of, exprs_of}
@@ -16,7 +15,6 @@ use Rattle.ir_builder_frames.specs.Settings.{Setting, rtype_of}
 use Rattle.ir_builder_frames.specs.Matching.{HasRoom}
 use Rattle.ir_builder_frames.specs.Computing.{Shows}
 use Rattle.ir_builder_operations.specs.Operating.{is_written}
-use Rattle.ir_builder_expressions.specs.Parts.{is_simple}
 use Rattle.ir_builder_expressions.specs.Suiting.{ArgumentsSuit, SomeSuit}
 use Rattle.ir_builder_expressions.specs.Emitting.{Emits, EmitsAll, means_all}
 use Rattle.ir_builder_loops_and_jumps.specs.Means.{means, means_alone}
@@ -26,15 +24,9 @@ use Rattle.ir_builder_loops_and_jumps.proofs.SimpleLemmas.{alone_works}
 use Rattle.ir_builder_loops_and_jumps.proofs.PrintLemmas.{print_works}
 use Rattle.ir_builder_loops_and_jumps.proofs.EmitLemmas.{works_of}
 use Rattle.ir_builder_statements.specs.Suiting.{PrintSuits}
+use Rattle.ir_builder_expressions.proofs.ChosenLemmas.{simple_written}
 
 -- ---- `print`
-
-simple_written : (t : Sort) → is_simple t ≡ true → is_written t ≡ true
-simple_written sort.Int h = refl
-simple_written sort.I64 h = refl
-simple_written sort.Bool h = refl
-simple_written sort.Str h = refl
-simple_written _ h = absurd (cc)
 
 module _ (m : TypedModule) (vs : List Variable) where
   -- each value is an argument of its own type

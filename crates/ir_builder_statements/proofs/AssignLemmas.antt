@@ -40,7 +40,6 @@ use Rattle.ir_builder_expressions.specs.Applying.{binary_goes, BinarySuits}
 use Rattle.ir_builder_expressions.specs.Suiting.{Suits}
 use Rattle.ir_builder_expressions.specs.Emitting.{Emits, EmitsTwo}
 use Rattle.ir_builder_expressions.proofs.NumberLemmas.{whole_numeric}
-use Rattle.ir_builder_expressions.proofs.ValueLemmas.{number_coerced}
 use Rattle.ir_builder_expressions.proofs.FollowLemmas.{part_attempts}
 use Rattle.ir_builder_loops_and_jumps.specs.Means.{means, means_assignment, means_update}
 use Rattle.ir_builder_loops_and_jumps.specs.Runs.{Works}
@@ -50,12 +49,13 @@ use Rattle.ir_builder_loops_and_jumps.proofs.SimpleLemmas.{set_works}
 use Rattle.ir_builder_loops_and_jumps.proofs.EmitLemmas.{works_of}
 use Rattle.ir_builder_statements.specs.Suiting.{IsVariable, IsOnly, UpdateSuits, VariableUpdates}
 use Rattle.ir_builder_statements.specs.Parts.{TakesRegister, SetsVariable, reading_of, update_binary, TurnsInto, ComputesAs}
+use Rattle.ir_builder_operations.proofs.NativeLemmas.{native_kept}
 
 -- ---- what assignment means
 
 coerced_itself : (t : Sort) (v : Value) (s : State) → HasKind t v → coerced t v s ≡ Gives v s
 coerced_itself sort.I64 v s k =
-    ap (λ z. coerced sort.I64 z s) k.1 ∙ number_coerced k.0 s k.2 ∙ ap (λ z. Gives z s) (sym k.1)
+    ap (λ z. coerced sort.I64 z s) k.1 ∙ native_kept k.0 s k.2 ∙ ap (λ z. Gives z s) (sym k.1)
 coerced_itself sort.Int v s k = ap (λ z. coerced sort.Int z s) k.1 ∙ ap (λ z. Gives z s) (sym k.1)
 coerced_itself sort.Str v s k = refl
 coerced_itself sort.Bool v s k = refl

@@ -29,6 +29,7 @@ use Rattle.ir_builder_loops_and_jumps.specs.Around.{SplitsBy, EndsArm, EndsLoop,
 use Rattle.ir_builder_loops_and_jumps.proofs.EmitLemmas.{return_emitted, while_begins}
 use Rattle.ir_builder_statements.specs.Suiting.{TestSuits, ReturnSuits}
 use Rattle.ir_builder_statements.specs.Kinds.{IsAround}
+use Rattle.ir_builder_expressions.proofs.LinkLemmas.{keeps_both}
 
 pub on_ok_both : {A E : Type 0} (res : Result A E) (P Q R : Type 0) → (P → Q → R) → OnOk res P → OnOk res Q → OnOk res R
 on_ok_both (Ok a) P Q R f p q = f p q
@@ -62,15 +63,12 @@ while_begun x s e ss b0 b1 b3 o is room bool is_head c1 sp =
 
 -- ---- the shape of parts in a row
 
-pub keeps_then : (a b c : Building) → length a.regs ≤ length b.regs → length b.blocks ≤ length c.blocks → Keeps a b → Keeps b c → Keeps a c
-keeps_then a b c more le k l n m low up s = l n m (omega arith) up (k n m low (omega arith) s)
-
 pub four_keep : (b0 b1 b2 b3 b4 : Building) → Extends b0 b1 → Extends b1 b2 → Extends b2 b3 → length b3.blocks ≤ length b4.blocks → Keeps b0 b1 → Keeps b1 b2 → Keeps b2 b3 → Keeps b3 b4 → Keeps b0 b4
 four_keep b0 b1 b2 b3 b4 x1 x2 x3 le k1 k2 k3 k4 =
     let r1 = x1.regs_grow in
     let r2 = x2.regs_grow in
     let r3 = x3.regs_grow in
-    keeps_then b0 b3 b4 (omega arith) le (keeps_then b0 b2 b3 (omega arith) x3.blocks_grow (keeps_then b0 b1 b2 r1 x2.blocks_grow k1 k2) k3) k4
+    keeps_both b0 b3 b4 (omega arith) le (keeps_both b0 b2 b3 (omega arith) x3.blocks_grow (keeps_both b0 b1 b2 r1 x2.blocks_grow k1 k2) k3) k4
 
 pub arm_blocks : (b c : Building) (t : Test) (xs ys : List Exit) → EndsArm b c t xs ys → length b.blocks ≤ length c.blocks
 arm_blocks b c t xs ys e =

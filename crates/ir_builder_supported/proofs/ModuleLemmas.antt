@@ -1,6 +1,6 @@
 -- A well typed module all of which is compiled is one that is built.
 use Rattle.std.proofs.Common.{◌≡◌, refl, sym, ◌∙◌, ap, subst, arith, ℕ, zero, suc, ◌+◌, Bool, true, false, List, [], ◌∷◌, ◌++◌, length, map, Option, Some, None}
-use Rattle.std.proofs.lemmas.Bool.{leb-true}
+use Rattle.std.proofs.lemmas.Bool.{leb-true, or_cases}
 use Rattle.std.proofs.lemmas.List.Folds.{list_any-append}
 use Rattle.std.proofs.lemmas.Option.{same_Some}
 use Rattle.std.specs.Prelude.{not, ◌&&◌, ◌||◌, nat_le, slice_get}
@@ -22,7 +22,7 @@ use Rattle.py_check_unbuilt.specs.declared.form.Unbuilt.{Unbuilt}
 use Rattle.py_check_unbuilt.specs.Later.{lesser, least}
 use Rattle.ir_builder_frames.specs.Matching.{parameter_sorts}
 use Rattle.ir_builder_expressions.specs.Compiled.{is_scalar, is_result}
-use Rattle.ir_builder_expressions.proofs.SuitLemmas.{AllScalar, AllSigned, same_sorts, either_of}
+use Rattle.ir_builder_expressions.proofs.SuitLemmas.{AllScalar, AllSigned, same_sorts}
 use Rattle.ir_builder_statements.specs.Modules.{FunctionSuits, ModuleSuits}
 use Rattle.ir_builder_supported.specs.Forms.{unbuilt, is_none, function_form}
 use Rattle.ir_builder_supported.specs.Statements.{suite_forms, are_scalars, is_function, is_def, definition_line, function_forms, functions_forms}
@@ -158,7 +158,7 @@ module _ (m : TypedModule) where
           differ = sym (one_test (names_of f.locals)) ∙ and_right _ _ (and_left _ _ p.variables);
           result = and_right (are_scalars f.locals) (is_result f.ret) types;
           body = suite_suits m f.locals (init_class f) scalars (all_signed f.locals (init_class f)) (Some f.ret) [] false false f.body p.body form.1;
-          ends = either_of (is_nothing f.ret) (is_closed f.body) p.ends;
+          ends = or_cases (is_nothing f.ret) (is_closed f.body) p.ends;
         }
 
     module_suits : suite_forms [] m.globals m.top ≡ [] → ModuleSuits m

@@ -1,5 +1,6 @@
 -- A well typed statement in which all is compiled suits, in a function whose variables are numbers, bools and texts.
 use Rattle.std.proofs.Common.{◌≡◌, refl, sym, ◌∙◌, ap, subst, ℕ, Bool, true, false, List, [], ◌∷◌, ◌++◌, Option, Some, None, ◌⊎◌, ⊎_elim, inl, inr}
+use Rattle.std.proofs.lemmas.Bool.{or_cases}
 use Rattle.std.specs.Prelude.{not, ◌&&◌, if◌then◌else◌, slice_get}
 use Rattle.py_syntax.specs.declared.expression.BinOp.{BinOp}
 use Rattle.py_syntax.specs.declared.expression.BinOp.TheVariants.{Add, Sub, Mul, FloorDiv, Mod, Shl, Shr}
@@ -19,7 +20,7 @@ use Rattle.ir_builder_expressions.specs.declared.applying.Binary.TheVariants.{Ar
 use Rattle.ir_builder_expressions.specs.Compiled.{is_int, is_i64, is_scalar, is_built}
 use Rattle.ir_builder_expressions.specs.Applying.{BinarySuits}
 use Rattle.ir_builder_expressions.specs.Suiting.{Suits}
-use Rattle.ir_builder_expressions.proofs.SuitLemmas.{AllScalar, AllSigned, gives_value, reads_itself, well_typed_suits, well_typed_node, either_of}
+use Rattle.ir_builder_expressions.proofs.SuitLemmas.{AllScalar, AllSigned, gives_value, reads_itself, well_typed_suits, well_typed_node}
 use Rattle.ir_builder_statements.specs.Suiting.{PrintSuits, DoSuits, IsOnly, UpdateSuits, VariableUpdates, ReturnSuits, StatementSuits, ActSuits, SuiteSuits, ArmsSuit}
 use Rattle.ir_builder_supported.specs.Forms.{unbuilt, node_form, expression_form, expression_at, targets_form, update_form}
 use Rattle.ir_builder_supported.specs.Expressions.{is_form, expression_forms, part_forms, row_forms}
@@ -73,7 +74,7 @@ variable_taking (Some v) s h = (v, refl, h)
 taking : (P : Sort → Type 0) → P sort.Int → (u s : Sort) → is_taken u s ≡ true → P s → P u
 taking P int u s h p =
     ⊎_elim (λ e. subst P (sym (one_type u s e)) p) (λ e. subst P (sym (int_is u (and_left (is_int u) (is_i64 s) e))) int)
-    (either_of (is_same_type u s) (is_int u && is_i64 s) h)
+    (or_cases (is_same_type u s) (is_int u && is_i64 s) h)
   where
     int_is : (t : Sort) → is_int t ≡ true → t ≡ sort.Int
     int_is sort.Int e = refl
@@ -128,7 +129,7 @@ module _ (m : TypedModule) (vs : List Variable) (init : Option ℕ) (scalars : A
     scalar_assigned t s c h =
         let fails : Bool = not (fits m.classes.classes s (target_type m vs init result t)) in
         ⊎_elim (λ e. one_type s (target_type m vs init result t) e) (λ e. absurd (not_both fails (subst (λ l. (fails && parts_fit m vs init result (t ∷ []) l) ≡ true) (no_parts s c) e)))
-        (either_of (is_same_type s (target_type m vs init result t)) _ h)
+        (or_cases (is_same_type s (target_type m vs init result t)) _ h)
 
     only_suits : (ts : List TypedTarget) (s : Sort) → is_one ts ≡ true → is_scalar s ≡ true → assignment_fits m vs init result ts s ≡ true → IsOnly m vs result ts s
     only_suits (LocalTarget i ∷ []) s o c h = variable_of (slice_get vs i) s c (scalar_assigned (LocalTarget i) s c h ∙ sort_found vs i (slice_get vs i) refl)

@@ -1,11 +1,25 @@
-use Rattle.std.proofs.Common.{sym, ◌∙◌}
+use Rattle.std.proofs.Common.{ap}
 use Rattle.ir_core.specs.declared.code.Reg.{Reg}
 use Rattle.ir_builder_frames.proofs.HeldLemmas.{ok_map}
-use Rattle.ir_builder_comparisons.proofs.OrderLemmas.{comparison_as, comparison_not}
+use Rattle.ir_builder_operations.specs.declared.operation.Test.TheVariants.{Equal, Less, AtMost}
+use Rattle.ir_builder_operations.specs.Rows.{tested}
+use Rattle.ir_builder_comparisons.specs.Comparing.{ordered}
+use Rattle.ir_builder_comparisons.proofs.ComparisonLemmas.{straight, turned, only_equal}
 use Rattle.ir_builder_comparisons.proofs.comparisons.emit_comparison.Goals as goal
 
-pub returns-then-is_opposite-clause-made : goal.returns-then-is_opposite-clause-made
-returns-then-is_opposite-clause-made c = ok_map _ _ _ (λ (r : Reg) a. comparison_not c.args.compared c.args.op _ _ _ _ r.0 _ _ c.requires.ordering (sym c.is_opposite.ensures ∙ c.if-is_opposite.true) c.in_ok-r.ensures.made a) c.emit_inversion.ensures.made
+pub returns-in-Lt-clause-made : goal.returns-in-Lt-clause-made
+returns-in-Lt-clause-made c = ok_map _ _ _ (λ (r : Reg) a. straight c.args.compared c.args.op (tested Less) _ _ r.0 _ _ (λ v w. ap (λ o. ordered o v w) c.in-Lt.is) a) c.emit_test.ensures.made
 
-pub returns-else-is_opposite-clause-made : goal.returns-else-is_opposite-clause-made
-returns-else-is_opposite-clause-made c = comparison_as c.args.compared c.args.op _ _ _ _ _ c.requires.ordering (sym c.is_opposite.ensures ∙ c.if-is_opposite.false) c.in_ok-r.ensures.made
+pub returns-in-Le-clause-made : goal.returns-in-Le-clause-made
+returns-in-Le-clause-made c = ok_map _ _ _ (λ (r : Reg) a. straight c.args.compared c.args.op (tested AtMost) _ _ r.0 _ _ (λ v w. ap (λ o. ordered o v w) c.in-Le.is) a) c.emit_test-in-Le.ensures.made
+
+pub returns-in-Gt-clause-made : goal.returns-in-Gt-clause-made
+returns-in-Gt-clause-made c = ok_map _ _ _ (λ (r : Reg) a. turned c.args.compared c.args.op (tested Less) _ _ r.0 _ _ (λ v w. ap (λ o. ordered o v w) c.in-Gt.is) a) c.emit_test-in-Gt.ensures.made
+
+pub returns-in-Ge-clause-made : goal.returns-in-Ge-clause-made
+returns-in-Ge-clause-made c = ok_map _ _ _ (λ (r : Reg) a. turned c.args.compared c.args.op (tested AtMost) _ _ r.0 _ _ (λ v w. ap (λ o. ordered o v w) c.in-Ge.is) a) c.emit_test-in-Ge.ensures.made
+
+pub returns-in_default-clause-made : goal.returns-in_default-clause-made
+returns-in_default-clause-made c =
+    let d = c.in_default in
+    ok_map _ _ _ (λ (r : Reg) a. straight c.args.compared c.args.op (tested Equal) _ _ r.0 _ _ (only_equal c.args.op c.requires.ordering d.not-Ne d.not-Lt d.not-Le d.not-Gt d.not-Ge) a) c.emit_test-in_default.ensures.made

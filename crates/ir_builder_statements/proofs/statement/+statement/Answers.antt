@@ -13,8 +13,9 @@ use Rattle.ir_builder_loops_and_jumps.specs.Means.{means_loop, means_statement, 
 use Rattle.ir_builder_loops_and_jumps.proofs.EmitLemmas.{nothing_emitted, next_emitted, alone_emitted, assignment_emitted, update_emitted, loop_open, loop_emitted, nothing_tested, next_tested, if_emitted, pass_emitted, break_emitted, continue_emitted, join_open}
 use Rattle.ir_builder_statements.specs.Suiting.{SuiteSuits, ArmsSuit, LoopSuits}
 use Rattle.ir_builder_statements.proofs.SuiteLemmas.{suite_step, arms_step, loop_suits, loop_body, loop_means, if_suits, return_suits, break_suits, continue_suits}
-use Rattle.ir_builder_statements.proofs.BodyLemmas.{on_ok_both, return_made, condition_type, keeps_then, four_keep, arm_blocks, loop_blocks, kinds_among, kinds_always, kinds_returned, if_kinds, loop_kinds}
+use Rattle.ir_builder_statements.proofs.BodyLemmas.{on_ok_both, return_made, condition_type, four_keep, arm_blocks, loop_blocks, kinds_among, kinds_always, kinds_returned, if_kinds, loop_kinds}
 use Rattle.ir_builder_statements.proofs.statement.+statement.Goals as goal
+use Rattle.ir_builder_expressions.proofs.LinkLemmas.{keeps_both}
 
 -- ---- rows
 
@@ -38,7 +39,7 @@ emit_block-loop-s-preserved t c =
       so_far = next_emitted x (option_map sort (option_copied c.args.gives)) c.args.looping c.args.body.now c.loop-s.s-index c.s-item.result _ _ _ _ _ _ c.loop-s-test.true c.s-item.is i.so_far k.emitted;
       suits = (suite_step x.source x.variables (option_map sort (option_copied c.args.gives)) c.args.looping c.args.body.now c.loop-s.s-index c.s-item.result c.loop-s-test.true c.s-item.is i.suits).1;
       room = room_on x _ _ k.kept i.room;
-      shaped = keeps_then c.args.b.now c.loop-s.b c.emit_statement.new.b i.so_far.works.extends.regs_grow k.kept.blocks_grow i.shaped k.shaped;
+      shaped = keeps_both c.args.b.now c.loop-s.b c.emit_statement.new.b i.so_far.works.extends.regs_grow k.kept.blocks_grow i.shaped k.shaped;
       kinds = λ g around h. k.kinds g around (i.kinds g around h);
     }
 

@@ -1,7 +1,0 @@
-use Rattle.ir_core.specs.declared.code.Reg.{Reg}
-use Rattle.ir_builder_frames.proofs.HeldLemmas.{ok_map}
-use Rattle.ir_builder_comparisons.proofs.ComparisonLemmas.{inversion_makes}
-use Rattle.ir_builder_comparisons.proofs.comparisons.emit_inversion.Goals as goal
-
-pub returns-clause-made : goal.returns-clause-made
-returns-clause-made c = ok_map _ _ _ (λ (r : Reg) a. inversion_makes _ _ r.0 _ c.requires a) c.emit_one.ensures.added
