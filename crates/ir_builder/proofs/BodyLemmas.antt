@@ -1,12 +1,11 @@
 -- The code of a function's body.
-use Rattle.std.proofs.Common.{◌≡◌, ℕ, zero, suc, ◌≤◌, false, List, [], ◌∷◌, length, Option, Some, None, refl, sym, ap, ◌∙◌, subst, arith}
+use Rattle.std.proofs.Common.{◌≡◌, ℕ, suc, ◌≤◌, false, List, [], ◌∷◌, length, Option, Some, None, refl, sym, ap, ◌∙◌, subst, arith}
 use Rattle.std.specs.Prelude.{slice_get}
 use Rattle.std.specs.Option.{option_map}
 use Rattle.value_core.specs.Value.{Value}
 use Rattle.source_meaning.specs.State.{State}
 use Rattle.source_meaning.specs.WaysOut.{Flow, Goes, Breaks, Continues, Returns}
 use Rattle.py_typed.specs.Sorts.{Sort}
-use Rattle.ir_core.specs.declared.code.Block.{Block}
 use Rattle.ir_core.specs.declared.code.Func.{Func}
 use Rattle.ir_core.specs.declared.code.Last.TheVariants.{Return as Leave}
 use Rattle.ir_core.specs.declared.code.Lit.{Lit as Literal}

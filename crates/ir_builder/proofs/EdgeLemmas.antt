@@ -9,7 +9,6 @@ use Rattle.ir_core.specs.declared.code.Last.TheVariants.{Goto, If, IfError, Retu
 use Rattle.ir_core.specs.declared.code.Op.{Op}
 use Rattle.ir_core.specs.declared.code.Program.{Program}
 use Rattle.ir_core.specs.declared.code.Reg.{Reg}
-use Rattle.ir_core.specs.declared.kind.Edge.TheVariants.{Tests}
 use Rattle.ir_core.specs.Items.{Item, Do, End, in_block, item_in, blocks_of}
 use Rattle.ir_core.specs.Meaning.{is_tested, item_at}
 use Rattle.ir_builder_frames.specs.Placing.{into, NoEdges}

@@ -4,7 +4,7 @@ use Rattle.std.specs.Prelude.{is_some}
 use Rattle.py_syntax.specs.declared.token.Span.{Span}
 use Rattle.py_typed.specs.declared.expression.TExpr.{TExpr}
 use Rattle.py_typed.specs.Sorts.{Sort, sort as sort_of}
-use Rattle.py_typed.specs.Expressions.{TypedExpr, TypedNode, typed, type_of, typed_expr, Neg, Not, Truth, Arith, Concat, At, Len, ToStr, Coerce}
+use Rattle.py_typed.specs.Expressions.{TypedNode, typed, type_of, typed_expr, Neg, Not, Truth, Arith, Concat, At, Len, ToStr, Coerce}
 use Rattle.py_typed.specs.Statements.{TypedModule, Variable}
 use Rattle.py_typed.proofs.ExpressionLemmas.{typed_expr_of, type_at}
 use Rattle.ir_core.specs.Building.{Building}

@@ -9,7 +9,7 @@ use Rattle.py_typed.specs.declared.expression.TExpr.{TExpr}
 use Rattle.py_typed.specs.declared.expression.TKind as kind
 use Rattle.py_typed.specs.Sorts.{Sort, sort as sort_of}
 use Rattle.py_typed.specs.Expressions as tree
-use Rattle.py_typed.specs.Expressions.{TypedExpr, TypedNode, typed, type_of, typed_expr, typed_node, exprs_of, comparisons_of, typed_comparison}
+use Rattle.py_typed.specs.Expressions.{TypedExpr, TypedNode, typed, typed_expr, exprs_of, comparisons_of, typed_comparison}
 use Rattle.py_typed.specs.Statements.{TypedModule, Variable}
 use Rattle.py_typed.proofs.ExpressionLemmas.{typed_expr_of, typed_node-Bool, typed_node-Local, typed_node-Global, typed_node-Neg, typed_node-Not, typed_node-Truth, typed_node-Arith, typed_expr-Compare, typed_node-And, typed_node-Or, typed_node-Cond, typed_node-Call, typed_node-Coerce, typed_node-Int, typed_node-Str, typed_node-Concat, typed_node-At, typed_node-Input, typed_node-Len, typed_node-ToStr}
 use Rattle.ir_core.specs.Building.{Building}

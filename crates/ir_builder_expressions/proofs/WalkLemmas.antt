@@ -11,7 +11,7 @@ use Rattle.py_typed.specs.declared.expression.TKind as kind
 use Rattle.py_typed.specs.Sorts as sort
 use Rattle.py_typed.specs.Sorts.{Sort, sort as sort_of}
 use Rattle.py_typed.specs.Expressions as tree
-use Rattle.py_typed.specs.Expressions.{TypedExpr, TypedNode, typed, type_of, typed_expr, exprs_of, comparisons_of, typed_comparison}
+use Rattle.py_typed.specs.Expressions.{TypedExpr, type_of, typed_expr, exprs_of, comparisons_of, typed_comparison}
 use Rattle.py_typed.specs.Statements.{TypedFunc}
 use Rattle.source_meaning.specs.State.{look}
 use Rattle.source_meaning.specs.Operations.{next_line}
@@ -39,7 +39,7 @@ use Rattle.ir_builder_expressions.specs.Literals.{literal_of_truth}
 use Rattle.ir_builder_expressions.specs.Reading.{EmitsLocal, EmitsGlobal}
 use Rattle.ir_builder_expressions.specs.Emitting.{means, Emits, EmitsAll, EmitsSide, EmitsChain}
 use Rattle.ir_builder_expressions.specs.Walking.{Walks}
-use Rattle.ir_builder_expressions.proofs.ArmLemmas.{Is, asked, emits_as, is_int, is_text, is_input, is_bool as is_flag, is_local, is_global, is_compare, is_call}
+use Rattle.ir_builder_expressions.proofs.ArmLemmas.{asked, emits_as, is_int, is_text, is_input, is_bool as is_flag, is_local, is_global, is_compare, is_call}
 use Rattle.ir_builder_expressions.proofs.FollowLemmas.{acts_computes}
 use Rattle.ir_builder_expressions.proofs.PieceLemmas.{int_emits, text_emits}
 use Rattle.ir_builder_expressions.proofs.NodeLemmas.{flag_emits}

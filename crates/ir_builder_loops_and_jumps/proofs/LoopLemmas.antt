@@ -25,7 +25,7 @@ use Rattle.ir_builder_loops_and_jumps.specs.declared.ways.Way.TheVariants.{Break
 use Rattle.ir_builder_loops_and_jumps.specs.declared.ways.Exit.{Exit}
 use Rattle.ir_builder_loops_and_jumps.specs.declared.ways.LoopStart.{LoopStart}
 use Rattle.ir_builder_loops_and_jumps.specs.Ways.{planned, left, by}
-use Rattle.ir_builder_loops_and_jumps.specs.Runs.{JumpTo, OpenIn, Brings, Back, Flows, Patching}
+use Rattle.ir_builder_loops_and_jumps.specs.Runs.{JumpTo, OpenIn, Brings, Back, Flows}
 use Rattle.ir_builder_loops_and_jumps.specs.Loops.{Always, Asks, WorksAt, Steps}
 use Rattle.ir_builder_loops_and_jumps.specs.Around.{Splits, looping_to, EndsLoop}
 use Rattle.ir_builder_frames.proofs.ComingLemmas.{leads_refl, leads_trans, leads_step, ends_from, ends_now}

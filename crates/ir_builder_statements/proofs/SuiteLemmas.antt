@@ -3,12 +3,12 @@ use Rattle.std.proofs.Common.{◌≡◌, ℕ, ◌+◌, ◌<◌, Bool, true, List
 use Rattle.std.proofs.lemmas.List.{drop_more}
 use Rattle.py_typed.specs.declared.expression.TExpr.{TExpr}
 use Rattle.py_typed.specs.declared.statement.TStmt.{TStmt}
-use Rattle.py_typed.specs.declared.statement.TStmtKind.{TStmtKind, roll-TStmtKind, out-TStmtKind, roll-out-TStmtKind, fold-roll-TStmtKind}
+use Rattle.py_typed.specs.declared.statement.TStmtKind.{TStmtKind}
 use Rattle.py_typed.specs.declared.statement.TStmtKind as kind
 use Rattle.py_typed.specs.Sorts.{Sort}
 use Rattle.py_typed.specs.Expressions.{typed_expr}
 use Rattle.py_typed.specs.Statements as tree
-use Rattle.py_typed.specs.Statements.{Variable, TypedModule, TypedStmt, TypedSuite, TypedAct, HandlerParts, on_line, act_step, handler_step, stmt_step, typed_stmt, typed_act, typed_handler, typed_suite, typed_arm, maybe_typed, suite_of, arms_of}
+use Rattle.py_typed.specs.Statements.{Variable, TypedModule, TypedStmt, TypedSuite, TypedAct, on_line, typed_stmt, typed_act, typed_suite, typed_arm, maybe_typed, arms_of}
 use Rattle.py_typed.proofs.StatementLemmas.{typed_stmt_of, typed_stmt-While, typed_act-If, typed_act-While, typed_act-Return, typed_act-Break, typed_act-Continue}
 use Rattle.source_meaning.specs.State.{State}
 use Rattle.ir_builder_frames.specs.Settings.{Setting}
