@@ -90,14 +90,6 @@ pub fn shown_kind(e: &TExpr, to: &Ty) -> Kind
     }
 }
 
-/// The type of the operand behind the first one of a chain, or else of that one.
-pub fn other_kind(e: &TExpr, rest: &[(CmpOp, TExpr)]) -> Kind {
-    match rest {
-        [] => kind_of(&e.ty),
-        [(_, other), ..] => kind_of(&other.ty),
-    }
-}
-
 // What two operands are compared as.
 fn compared_between(left: Kind, right: Kind) -> Compared
     ensures { result ≡ compared_in (compared_as (kind_sort left) (kind_sort right)) }

@@ -21,9 +21,7 @@ use crate::applying::{
     Applied, Binary, Unary, emit_binary, emit_unary, native_literal, operation_in,
 };
 use crate::chain::{begin_link, meet_links};
-use crate::comparing::{
-    Kind, Side, emit_pair, joined_kind, kind_of, other_kind, shown_kind, type_of_kind,
-};
+use crate::comparing::{Kind, Side, emit_pair, joined_kind, kind_of, shown_kind, type_of_kind};
 use crate::global::emit_global_value;
 use crate::local::emit_local;
 use crate::types::{register_type, truth};
@@ -36,6 +34,15 @@ use py_syntax::CmpOp;
 use py_typed::{Checked, TExpr, TKind, Ty, Var};
 use std::alloc::Global;
 use value_core::{Many, Memory};
+
+// The type of the operand behind the first one of a chain, or else of that one. By it a literal that is compared with a native
+// integer is one at once; the code is right whatever it is.
+fn other_kind(e: &TExpr, rest: &[(CmpOp, TExpr)]) -> Kind {
+    match rest {
+        [] => kind_of(&e.ty),
+        [(_, other), ..] => kind_of(&other.ty),
+    }
+}
 
 /// Emits an expression, and answers the register that has its value (Python Language Reference, "Expressions"). The operations
 /// have the line. It fails for want of memory.
