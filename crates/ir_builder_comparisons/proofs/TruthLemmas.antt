@@ -70,6 +70,9 @@ compared_type sort.I64 c e = let f : Some Natives ≡ Some c = e in let is : Nat
 compared_type sort.Str c e = let f : Some Texts ≡ Some c = e in let is : Texts ≡ c = cc in ap compared_sort is
 compared_type t c e = let f : None ≡ Some c = e in absurd (cc)
 
+pub truth_at : (t : Sort) (k : Compared) (b c : Building) (r x : ℕ) → compared_of t ≡ Some k → FindsTruth b c x r (compared_sort k) → FindsTruth b c x r t
+truth_at t k b c r x e a = subst (λ u. FindsTruth b c x r u) (sym (compared_type t k e)) a
+
 bool_type : (t : Sort) → is_written t ≡ true → compared_of t ≡ None → sort.Bool ≡ t
 bool_type sort.Bool w e = refl
 bool_type sort.Str w e = absurd (cc)
