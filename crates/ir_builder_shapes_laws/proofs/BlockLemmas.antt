@@ -10,7 +10,7 @@ use Rattle.ir_core.specs.declared.code.Func.{Func}
 use Rattle.ir_core.specs.Items.{Do, item_in, handler_of}
 use Rattle.ir_core.specs.Rows.{Declared}
 use Rattle.ir_core.specs.Building.{is_unwritten, is_open_at}
-use Rattle.ir_core.specs.Shape.{IsHigher, LastFits, BlocksFit, FuncFits, BeginsInTurn, FuncsFit}
+use Rattle.ir_core.specs.Shape.{IsHigher, LastFits, BlockFits, BlocksFit, FuncFits, BeginsInTurn, FuncsFit}
 use Rattle.ir_core.specs.Shape as shape
 use Rattle.ir_builder_frames.specs.Shaped.{Higher, OpsFit, EndFits, HandlerFits, AllFit}
 use Rattle.ir_builder_frames.specs.Kinds.{FunctionType}
