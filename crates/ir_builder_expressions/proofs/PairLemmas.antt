@@ -144,12 +144,17 @@ is_str : (s : Sort) → is_text s ≡ true → sort.Str ≡ s
 is_str sort.Str e = refl
 is_str s e = let f : false ≡ true = e in absurd (cc)
 
+abbrev Brings : Compared → Sort → Building → Building → ℕ → ℕ → Type 0
+Brings c s b0 b1 r x = Attempts (Shows (compared_sort c)) b0 b1 r (rtype_of (compared_sort c)) (ActsOn s x (coerced (compared_sort c)))
+
+pub brought_as : (c k : Compared) (s : Sort) (b0 b1 : Building) (r x : ℕ) → c ≡ k → Brings k s b0 b1 r x → Brings c s b0 b1 r x
+brought_as c k s b0 b1 r x is = subst (λ z. Brings z s b0 b1 r x) (sym is)
+
 -- a text is brought already
-pub text_brought : (c : Compared) (s : Sort) (b : Building) (x : ℕ) → c ≡ Texts → is_brought c s ≡ true → HasType b x (rtype_of s) → Attempts (Shows (compared_sort c)) b b x (rtype_of (compared_sort c)) (ActsOn s x (coerced (compared_sort c)))
-text_brought c s b x is =
-    let P : Compared → Type 0 = λ z. is_brought z s ≡ true → HasType b x (rtype_of s) → Attempts (Shows (compared_sort z)) b b x (rtype_of (compared_sort z)) (ActsOn s x (coerced (compared_sort z))) in
-    let Q : Sort → Type 0 = λ u. HasType b x (rtype_of u) → Attempts (Shows sort.Str) b b x rtype.Ref (ActsOn u x (coerced sort.Str)) in
-    subst P (sym is) (λ e. subst Q (is_str s e) (λ type. stays sort.Str (coerced sort.Str) b x rtype.Ref type (λ v s k. refl)))
+pub text_brought : (c : Compared) (s : Sort) (b : Building) (x : ℕ) → c ≡ Texts → is_brought c s ≡ true → HasType b x (rtype_of s) → Brings c s b b x x
+text_brought c s b x is e =
+    let Q : Sort → Type 0 = λ u. HasType b x (rtype_of u) → Brings c u b b x x in
+    subst Q (is_str s (ap (λ z. is_brought z s) (sym is) ∙ e)) (λ type. brought_as c Texts sort.Str b b x x is (stays sort.Str (coerced sort.Str) b x rtype.Ref type (λ v s k. refl)))
 
 module _ (s t u w : Sort) (c : Compared) (pair : is_compared s t ≡ true) (left : is_shown_as s u ≡ true) (right : is_shown_as t w ≡ true) (is : c ≡ compared_in (compared_as s t)) where
   pub left_brought : is_brought c u ≡ true
@@ -158,7 +163,7 @@ module _ (s t u w : Sort) (c : Compared) (pair : is_compared s t ≡ true) (left
   pub right_brought : is_brought c w ≡ true
   right_brought = ap (λ z. is_brought z w) is ∙ (are_brought s t pair u w left right).1
 
-  pub pair_compared : (op : CmpOp) (b0 b1 b2 b3 : Building) (x y q1 q2 r : ℕ) → is_ordering op ≡ true → HasType b0 x (rtype_of u) → HasType b0 y (rtype_of w) → Attempts (Shows (compared_sort c)) b0 b1 q1 (rtype_of (compared_sort c)) (ActsOn u x (coerced (compared_sort c))) → Attempts (Shows (compared_sort c)) b1 b2 q2 (rtype_of (compared_sort c)) (ActsOn w y (coerced (compared_sort c))) → Compares c (ordered op) b2 b3 r q1 q2 → Attempts (Shows sort.Bool) b0 b3 r rtype.Bool (ActsOnTwo u w x y (holds_as op s t))
+  pub pair_compared : (op : CmpOp) (b0 b1 b2 b3 : Building) (x y q1 q2 r : ℕ) → is_ordering op ≡ true → HasType b0 x (rtype_of u) → HasType b0 y (rtype_of w) → Brings c u b0 b1 q1 x → Brings c w b1 b2 q2 y → Compares c (ordered op) b2 b3 r q1 q2 → Attempts (Shows sort.Bool) b0 b3 r rtype.Bool (ActsOnTwo u w x y (holds_as op s t))
   pair_compared op b0 b1 b2 b3 x y q1 q2 r ordering type_x type_y a1 a2 a3 =
       let to = compared_sort c in
       attempts_as (Shows sort.Bool) b0 b3 r rtype.Bool (ActsOnTwo u w x y (Brought to op)) (ActsOnTwo u w x y (holds_as op s t))
