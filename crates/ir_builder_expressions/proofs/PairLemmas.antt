@@ -17,8 +17,8 @@ use Rattle.ir_builder_frames.specs.Matching.{HasKind}
 use Rattle.ir_builder_frames.specs.Computing.{Shows, Attempts}
 use Rattle.ir_builder_frames.proofs.HeldLemmas.{type_below}
 use Rattle.ir_builder_operations.specs.declared.operation.Compared.{Compared}
-use Rattle.ir_builder_operations.specs.declared.operation.Compared.TheVariants.{Texts}
-use Rattle.ir_builder_operations.specs.Operating.{ActsOn, ActsOnTwo}
+use Rattle.ir_builder_operations.specs.declared.operation.Compared.TheVariants.{Ints, Natives, Texts}
+use Rattle.ir_builder_operations.specs.Operating.{is_whole, ActsOn, ActsOnTwo}
 use Rattle.ir_builder_operations.specs.Rows.{compared_sort, compares}
 use Rattle.ir_builder_operations.proofs.KindLemmas.{by_bool}
 use Rattle.ir_builder_operations.proofs.PartLemmas.{stays}
@@ -147,14 +147,18 @@ is_str s e = let f : false ≡ true = e in absurd (cc)
 abbrev Brings : Compared → Sort → Building → Building → ℕ → ℕ → Type 0
 Brings c s b0 b1 r x = Attempts (Shows (compared_sort c)) b0 b1 r (rtype_of (compared_sort c)) (ActsOn s x (coerced (compared_sort c)))
 
-pub brought_as : (c k : Compared) (s : Sort) (b0 b1 : Building) (r x : ℕ) → c ≡ k → Brings k s b0 b1 r x → Brings c s b0 b1 r x
-brought_as c k s b0 b1 r x is = subst (λ z. Brings z s b0 b1 r x) (sym is)
+-- what is no text is a number
+pub number_brought : (c : Compared) (s : Sort) → (c ≡ Texts → ⊥) → is_brought c s ≡ true → (is_number s ≡ true) × (is_whole (compared_sort c) ≡ true)
+number_brought Ints s n e = (e, refl)
+number_brought Natives s n e = (e, refl)
+number_brought Texts s n e = absurd (n refl)
 
 -- a text is brought already
 pub text_brought : (c : Compared) (s : Sort) (b : Building) (x : ℕ) → c ≡ Texts → is_brought c s ≡ true → HasType b x (rtype_of s) → Brings c s b b x x
 text_brought c s b x is e =
     let Q : Sort → Type 0 = λ u. HasType b x (rtype_of u) → Brings c u b b x x in
-    subst Q (is_str s (ap (λ z. is_brought z s) (sym is) ∙ e)) (λ type. brought_as c Texts sort.Str b b x x is (stays sort.Str (coerced sort.Str) b x rtype.Ref type (λ v s k. refl)))
+    let P : Compared → Type 0 = λ z. Brings z sort.Str b b x x in
+    subst Q (is_str s (ap (λ z. is_brought z s) (sym is) ∙ e)) (λ type. subst P (sym is) (stays sort.Str (coerced sort.Str) b x rtype.Ref type (λ v s k. refl)))
 
 module _ (s t u w : Sort) (c : Compared) (pair : is_compared s t ≡ true) (left : is_shown_as s u ≡ true) (right : is_shown_as t w ≡ true) (is : c ≡ compared_in (compared_as s t)) where
   pub left_brought : is_brought c u ≡ true

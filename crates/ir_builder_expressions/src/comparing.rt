@@ -1,5 +1,6 @@
 //! Pairs of operands that are compared.
 ghost use Rattle.std.specs.Prelude.{◌≡◌, IfOk, true};
+ghost use Rattle.py_typed.specs.Fits.{is_number};
 ghost use Rattle.py_typed.specs.Sorts.{sort, Bool as BoolSort};
 ghost use Rattle.py_typed.specs.Expressions.{typed_expr};
 ghost use Rattle.source_meaning.specs.Operations.{coerced, compared_as};
@@ -9,7 +10,7 @@ ghost use Rattle.ir_builder_frames.specs.Placing.{HasType};
 ghost use Rattle.ir_builder_frames.specs.Settings.{rtype_of};
 ghost use Rattle.ir_builder_frames.specs.Shaped.{Keeps};
 ghost use Rattle.ir_builder_frames.specs.Kinds.{KeepsKinds};
-ghost use Rattle.ir_builder_operations.specs.Operating.{ActsOn, ActsOnTwo};
+ghost use Rattle.ir_builder_operations.specs.Operating.{is_whole, ActsOn, ActsOnTwo};
 ghost use Rattle.ir_builder_operations.specs.Rows.{compared_sort};
 ghost use Rattle.ir_builder_expressions.specs.Compiled.{is_ordering};
 ghost use Rattle.ir_builder_expressions.specs.Parts.{is_simple, part_sort};
@@ -104,6 +105,39 @@ fn compared_between(left: Kind, right: Kind) -> Compared
     }
 }
 
+// The type of what is compared.
+fn type_of_compared(compared: Compared) -> Ty
+    ensures { sort result ≡ compared_sort compared }
+{
+    match compared {
+        Compared::Ints => Ty::Int,
+        Compared::Natives => Ty::I64,
+        Compared::Texts => Ty::Str,
+    }
+}
+
+// A number of one type as one of another.
+fn emit_shown(
+    b: &mut Emitter,
+    alloc: Global,
+    from: Kind,
+    to: Compared,
+    x: Reg,
+    line: usize,
+) -> Result<Reg, Memory>
+    requires numeric { is_number (kind_sort from) ≡ true }
+    requires whole { is_whole (compared_sort to) ≡ true }
+    requires value { HasType b.old x.0 (rtype_of (kind_sort from)) }
+    ensures kept { Extends b.old b.new }
+    ensures made { IfOk result (λ r. Attempts (Shows (compared_sort to)) b.old b.new r.0 (rtype_of (compared_sort to)) (ActsOn (kind_sort from) x.0 (coerced (compared_sort to)))) }
+    ensures shaped { Keeps b.old b.new }
+    ensures kinds { KeepsKinds b.old b.new }
+{
+    let from = type_of_kind(from);
+    let to = type_of_compared(to);
+    emit_coercion(b, alloc, &from, &to, x, line)
+}
+
 // An operand as a value of the type in which it is compared.
 fn emit_brought(
     b: &mut Emitter,
@@ -120,11 +154,9 @@ fn emit_brought(
     ensures shaped { Keeps b.old b.new }
     ensures kinds { KeepsKinds b.old b.new }
 {
-    let from = type_of_kind(from);
     match to {
-        Compared::Ints => emit_coercion(b, alloc, &from, &Ty::Int, x, line),
-        Compared::Natives => emit_coercion(b, alloc, &from, &Ty::I64, x, line),
         Compared::Texts => Ok(x),
+        _ => emit_shown(b, alloc, from, to, x, line),
     }
 }
 
