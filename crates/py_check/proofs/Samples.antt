@@ -29,13 +29,16 @@ right = refl
 
 -- print(y)
 unknown_name : diagnostics (suite_of (printing 1 (name 1 (codes "y")) ∷ [])) ≡ diag (on 1) (not_defined (codes "y")) ∷ []
+unfolding not_defined
 unknown_name = refl
 
 -- print(y < 1 < "a"): a pair that breaks its rule stands at the chain, in front of the name at the same place
 pair_and_name : diagnostics (suite_of (printing 1 (e.at (e.Compare (name 1 (codes "y")) (e.comparison_then op.Lt (e.at (e.Int (pos 1)) (on 2)) (e.comparison_then op.Lt (e.at (e.Str (codes "a")) (on 2)) e.no_comparisons))) (on 1)) ∷ []))
     ≡ diag (on 1) (unsupported_operands [] (codes "<") sort.Int sort.Str) ∷ diag (on 1) (not_defined (codes "y")) ∷ []
+unfolding not_defined
 pair_and_name = refl
 
 -- global y, where y is no variable
 no_variable : diagnostics (suite_of (s.at (s.Global (codes "y" ∷ [])) (on 1) ∷ [])) ≡ diag (on 1) (not_defined (codes "y")) ∷ []
+unfolding not_defined
 no_variable = refl
