@@ -1,4 +1,3 @@
-pub mod OwnLemmas
 pub mod LiveLemmas
 pub mod FrameLemmas
 pub mod StateLemmas

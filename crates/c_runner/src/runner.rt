@@ -22,8 +22,7 @@ const MOST_AT_ONCE: usize = 65_536;
 /// Runs a well-formed code for so many turns, on the lines of the input. What the program writes goes to `out`,
 /// whenever 65536 bytes have come together, before each read of the input, and what is left before the answer; where it writes nothing, nothing
 /// happens to `out`. It is never told to pass on what it got: the answer says whether there was any. The input is read only for a line that is
-/// asked for. In all no more than one byte more is taken of it than may be used; where no read fails and no line stands too far along, at most
-/// 4095 bytes are taken behind the lines that were used, and none where no line was used. No line is used behind a call that `out` refused.
+/// asked for, and of the bytes behind the lines that were used at most 4095 are taken; no line is used behind a call that `out` refused.
 pub fn run<I: Source, O: Sink>(
     alloc: Global,
     code: &Code,

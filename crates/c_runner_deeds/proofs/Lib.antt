@@ -1,7 +1,3 @@
-pub mod PlainLemmas
-pub mod CellsLemmas
-pub mod WordReads
-pub mod OursLemmas
 pub mod FrameLemmas
 pub mod StateLemmas
 pub mod CallLemmas

@@ -3,4 +3,3 @@ pub mod States
 pub mod Parts
 pub mod Deeds
 pub mod Objects
-pub mod Ours

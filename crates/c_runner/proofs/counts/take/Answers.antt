@@ -2,4 +2,4 @@ use Rattle.std.proofs.Common.{arith}
 use Rattle.c_runner.proofs.counts.take.Goals as goal
 
 pub add-requires : goal.add-requires
-add-requires c = omega (arith, c.requires.small.ledgers c.number_of.result)
+add-requires c = omega (arith, c.requires.small.ledgers c.serial.result)
