@@ -1,9 +1,5 @@
 mod Given
-mod Kept
 mod Assigned
-mod KnownParts
-mod Faultless
-mod KnownMarks
 mod Annotated
 mod Whole
 mod Names
@@ -27,12 +23,16 @@ mod Marks
 mod Signed
 mod Modules
 mod Fixed
+mod Roles
 mod Owned
+mod Bindings
+mod Others
 mod Varied
 mod Lasting
 mod Marked
 mod Inner
 mod Described
+mod Firsts
 mod Differ
 mod Formed
 pub mod Complete

@@ -1,3 +1,4 @@
 pub mod Statements
 pub mod WellTyped
 pub mod Modules
+pub mod Variables
