@@ -1,5 +1,3 @@
 mod Samples
 pub mod WholeLemmas
 pub mod BodyLemmas
-pub mod Kept
-pub mod UnfixedLemmas

@@ -1,4 +1,3 @@
 pub mod Module
 pub mod Outcome
 pub mod Parts
-pub mod Unfixed

@@ -1,17 +1,17 @@
 -- THE TYPING OF A MODULE: its diagnostics, and its typed tree (Python Language Reference, "Top-level components"; PEP 484).
 --
 -- First come all signatures, so that functions are called from anywhere; then the module's own statements, which fix the types of
--- its variables; and then the bodies of functions by their numbers, each of which knows these, whatever the others do. Functions and
--- variables are known by their numbers.
+-- its variables; and then the bodies of functions by their numbers, which know these. Functions and variables are known by their
+-- numbers.
 --
 -- The typed tree has every function and variable at its number. Where something is wrong there is no answer with a tree, and what
 -- has no type stands in it as what says nothing: a body without statements, a signature without parameters, a variable that is None.
-use Rattle.std.specs.Prelude.{ℕ, false, List, [], ◌++◌, map, length, Option, Some, None, unwrap_or}
-use Rattle.std.specs.List.{flat_map}
+use Rattle.std.specs.Prelude.{ℕ, false, List, [], ◌∷◌, ◌++◌, map, length, Option, Some, None, unwrap_or}
 use Rattle.py_syntax.specs.Statements.{Suite}
 use Rattle.py_syntax_diagnostics.specs.declared.diagnostic.Diag.{Diag}
 use Rattle.py_binder.specs.declared.scope.Scope.{Scope}
 use Rattle.py_binder.specs.Scope.{param_names, module_scope}
+use Rattle.py_binder.specs.Faults.{faults}
 use Rattle.py_syntax_diagnostics.specs.Order.{by_place}
 use Rattle.py_typed.specs.Sorts as sort
 use Rattle.py_typed.specs.Sorts.{Sort}
@@ -28,7 +28,6 @@ use Rattle.py_check_values.specs.Returns.{ReturnSort}
 use Rattle.py_check_places.specs.Places.{Known}
 use Rattle.py_check_statements.specs.Bodies.{block, block_after}
 use Rattle.py_check_definitions.specs.Definitions.{Headed, headed_functions, signatures, headers_said}
-use Rattle.py_check_definitions.specs.Globals.{globals_said}
 use Rattle.py_check_definitions.specs.Starts.{start_sort, own_sort}
 use Rattle.py_check_definitions.specs.Variables.{typed_variables, numbers_from}
 
@@ -126,13 +125,21 @@ module _ (c : Context) (names : List (List ℕ)) (sorts : List VarSort) (f : Hea
 
 -- ---- all bodies, by the numbers of functions
 
--- where the module's variables have these types: what a body gives to one that has none yet it gives for itself alone
-module _ (e : Environment) (sorts : List VarSort) where
-  abbrev pub bodies_said : List Headed → List Diag
-  bodies_said fs = flat_map (λ f. (body (context_in e f.inside) e.variables sorts f).said) fs
+module _ (e : Environment) where
+  abbrev pub sorts_behind : List VarSort → Headed → List VarSort
+  sorts_behind sorts f = (body_after (context_in e f.inside) e.variables sorts f).types.globals
 
-  abbrev pub typed_functions : List Headed → List TypedFunc
-  typed_functions fs = map (λ f. typed_function (context_in e f.inside) e.variables sorts f) fs
+  abbrev pub bodies_said : List VarSort → List Headed → List Diag
+  bodies_said sorts [] = []
+  bodies_said sorts (f ∷ more) = (body (context_in e f.inside) e.variables sorts f).said ++ bodies_said (sorts_behind sorts f) more
+
+  abbrev pub typed_functions : List VarSort → List Headed → List TypedFunc
+  typed_functions sorts [] = []
+  typed_functions sorts (f ∷ more) = typed_function (context_in e f.inside) e.variables sorts f ∷ typed_functions (sorts_behind sorts f) more
+
+  abbrev pub sorts_behind_all : List VarSort → List Headed → List VarSort
+  sorts_behind_all sorts [] = sorts
+  sorts_behind_all sorts (f ∷ more) = sorts_behind_all (sorts_behind sorts f) more
 
 -- ---- the whole
 
@@ -147,17 +154,19 @@ module _ (e : Environment) (top : Scope) (fs : List Headed) (m : Suite) where
 
   abbrev pub typed_parts : TypedModule
   typed_parts =
-      module_by fs e.variables global_sorts (typed_functions e global_sorts fs) (own_statements (context_in e top) e.variables m).got
+      module_by fs e.variables (sorts_behind_all e global_sorts fs) (typed_functions e global_sorts fs)
+      (own_statements (context_in e top) e.variables m).got
 
 module _ (m : Suite) where
   abbrev pub environment : Environment
   environment = record { said = said_in m; variables = variables (module_scope m); signatures = signatures m; classes = [] }
 
-  -- all that is said, in the order of the walk
+  -- all that is said: what typing says, in the order of its walk, and then the faults of names, which binding finds and of which
+  -- typing says nothing
   abbrev pub said : List Diag
-  said = headers_said m ++ statements_said environment (module_scope m) (headed_functions m) m ++ globals_said m
+  said = headers_said m ++ statements_said environment (module_scope m) (headed_functions m) m ++ faults m
 
-  -- THE DIAGNOSTICS of a module, by their places
+  -- THE DIAGNOSTICS of a module, by their places; at one place the fault of a name comes last, since nothing stands in a name
   abbrev pub diagnostics : List Diag
   diagnostics = by_place said
 

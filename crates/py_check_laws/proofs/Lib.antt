@@ -1,5 +1,9 @@
 mod Given
+mod Kept
 mod Assigned
+mod KnownParts
+mod Faultless
+mod KnownMarks
 mod Annotated
 mod Whole
 mod Names
@@ -23,16 +27,12 @@ mod Marks
 mod Signed
 mod Modules
 mod Fixed
-mod Roles
 mod Owned
-mod Bindings
-mod Others
 mod Varied
 mod Lasting
 mod Marked
 mod Inner
 mod Described
-mod Firsts
 mod Differ
 mod Formed
 pub mod Complete

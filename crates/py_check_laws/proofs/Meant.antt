@@ -1,10 +1,10 @@
 -- What names mean in a module and in a function of it, where nothing is wrong with definitions and imports.
-use Rattle.std.proofs.Common.{◌≡◌, ℕ, suc, ◌+◌, ◌<◌, Bool, true, false, ◌&&◌, ◌||◌, cond, List, [], ◌∷◌, ◌++◌, length, map, filter, slice_get, nat_lt, Option, Some, None, refl, ap, sym, ◌∙◌, subst, if◌then◌else◌, unwrap_or, length-append, lt-ltb, arith, ◌⊎◌, inl, inr}
+use Rattle.std.proofs.Common.{◌≡◌, ℕ, suc, ◌+◌, ◌<◌, Bool, true, false, ◌&&◌, ◌||◌, cond, List, [], ◌∷◌, ◌++◌, length, map, filter, not, slice_get, nat_lt, Option, Some, None, refl, ap, sym, ◌∙◌, subst, if◌then◌else◌, unwrap_or, length-append, lt-ltb, arith, ◌⊎◌, inl, inr}
 use Rattle.std.proofs.lemmas.Bool.{or_left, or_right, or_cases}
 use Rattle.std.proofs.lemmas.Option.{same_Some}
 use Rattle.std.proofs.lemmas.List.Folds.{list_any-append}
 use Rattle.std.specs.Prelude.{is_some, is_none, codes}
-use Rattle.std.specs.List.{list_all, flat_map}
+use Rattle.std.specs.List.{list_all, flat_map, zip}
 use Rattle.std.specs.Map.{lookup}
 use Rattle.std.specs.Option.{option_or}
 use Rattle.std.specs.Str.{bytes_eq}
@@ -16,17 +16,17 @@ use Rattle.py_binder.specs.declared.scope.Role.{Role}
 use Rattle.py_binder.specs.declared.scope.Role.TheVariants as role
 use Rattle.py_binder.specs.declared.scope.Scope.{Scope}
 use Rattle.py_binder.specs.Sights.{Use, Reads, Binds, Defines, Declares, Holds, Sight, bound_as, module_sights, body_sights}
-use Rattle.py_binder.specs.Scope.{contains, is_builtin, bound_there, listed_there, seen_there, said_there, all_there, Roles, said_or_variable, module_role, is_variable, param_names, function_role, first_sights, scope_of, module_scope}
+use Rattle.py_binder.specs.Faults as fault
+use Rattle.py_binder.specs.Scope.{contains, plain_builtins, is_builtin, bound_there, listed_there, seen_there, said_there, all_there, Roles, said_or_variable, module_role, is_variable, param_names, function_role, first_sights, scope_of, module_scope}
 use Rattle.py_check_context.specs.declared.scope.Meaning.{Meaning}
 use Rattle.py_check_context.specs.declared.scope.Meaning.TheVariants as meaning
-use Rattle.py_check_names.specs.Builtins.{named_builtins, exception_meaning, builtin_meaning, of_typing, of_extensions, of_future, import_meaning}
+use Rattle.py_check_annotations.specs.Names.{is_unknown}
+use Rattle.py_check_names.specs.Builtins.{plain_meanings, named_builtins, exception_meaning, builtin_meaning, of_typing, of_extensions, of_future, import_meaning}
 use Rattle.py_check_names.specs.Outline.{may_import, may_import_all, imported_as, said_by, said_from, held_by, suite_definitions}
 use Rattle.py_check_names.specs.Meanings.{is_own, names_of, variables, own_names, number, by_role, meaning_in, said_in}
 use Rattle.py_typed.proofs.FitLemmas.{and_left, and_right}
 use Rattle.py_check_expressions_laws.proofs.Types.{clash}
 use Rattle.py_check_laws.proofs.Sights.{roles_given, suite_gives}
-use Rattle.py_check_laws.proofs.Roles as known
-use Rattle.py_check_laws.proofs.Roles.{found_all}
 use Rattle.py_check_laws.proofs.NameRows.{same_text, filter_keeps, sights_have, sights_differ, kind_names, place_of}
 
 -- ---- kinds of meanings
@@ -53,6 +53,11 @@ is_heard n (meaning.Class i) = false
 is_heard n (meaning.Function i) = nat_lt i n
 is_heard n m = true
 
+given_known : (n : ℕ) (m : Meaning) → is_given n m ≡ true → is_unknown m ≡ false
+given_known n (meaning.Function i) h = refl
+given_known n (meaning.Import i) h = refl
+given_known n _ h = absurd (cc)
+
 given_heard : (n : ℕ) (m : Meaning) → is_given n m ≡ true → is_heard n m ≡ true
 given_heard n (meaning.Function i) h = h
 given_heard n (meaning.Import i) h = refl
@@ -66,6 +71,14 @@ built_heard n meaning.Unknown h = refl
 built_heard n _ h = absurd (cc)
 
 -- ---- imports and builtins
+
+found_all : {A : Type 0} (p : A → Bool) (test : List ℕ → Bool) (l : List (List ℕ × A)) → list_all (λ (x : List ℕ × A). p x.1) l ≡ true → (a : A) → lookup test l ≡ Some a → p a ≡ true
+found_all p test [] h a e = absurd (cc)
+found_all {A = A} p test (x ∷ l) h a e = by (test x.0) e (found_all p test l (and_right (p x.1) (list_all (λ (x : List ℕ × A). p x.1) l) h) a)
+  where
+    by : (b : Bool) → cond b (Some x.1) (lookup test l) ≡ Some a → (lookup test l ≡ Some a → p a ≡ true) → p a ≡ true
+    by true q next = subst (λ z. p z ≡ true) (same_Some x.1 a q) (and_left (p x.1) (list_all (λ (x : List ℕ × A). p x.1) l) h)
+    by false q next = next q
 
 import_given : (n : ℕ) (from name : List ℕ) (m : Meaning) → import_meaning from name ≡ Some m → is_given n m ≡ true
 import_given n from name m h = by (bytes_eq from (codes "typing")) (bytes_eq from (codes "mypy_extensions")) (bytes_eq from (codes "__future__")) h
@@ -84,6 +97,35 @@ builtin_built name = by (lookup (bytes_eq name) named_builtins) refl (class_name
     by None q None = refl
     by None q (Some c) = refl
 
+-- each builtin name means something
+zip_found : (x : List ℕ) (names : List (List ℕ)) (ms : List Meaning) → length names ≡ length ms → contains names x ≡ true → lookup (bytes_eq x) (zip names ms) ≡ None → ⊥
+zip_found x [] ms n h e = cc
+zip_found x (y ∷ names) [] n h e = cc
+zip_found x (y ∷ names) (m ∷ ms) n h e = by (bytes_eq x y) h e (zip_found x names ms (one_less (length names) (length ms) n))
+  where
+    one_less : (a b : ℕ) → suc a ≡ suc b → a ≡ b
+    one_less a b h = cc
+
+    by : (b : Bool) → (b || contains names x) ≡ true → cond b (Some m) (lookup (bytes_eq x) (zip names ms)) ≡ None → (contains names x ≡ true → lookup (bytes_eq x) (zip names ms) ≡ None → ⊥) → ⊥
+    by true p q next = cc
+    by false p q next = next p q
+
+known_by_not : (m : Meaning) → not (is_unknown m) ≡ true → is_unknown m ≡ false
+known_by_not m h = by (is_unknown m) h
+  where
+    by : (b : Bool) → not b ≡ true → b ≡ false
+    by true q = absurd (cc)
+    by false q = refl
+
+builtin_known : (x : List ℕ) → is_builtin x ≡ true → is_unknown (unwrap_or (builtin_meaning x) meaning.Unknown) ≡ false
+builtin_known x h = by (lookup (bytes_eq x) named_builtins) refl (class_named x) (or_cases (contains plain_builtins x) (is_some (class_named x)) h)
+  where
+    by : (o : Option Meaning) → lookup (bytes_eq x) named_builtins ≡ o → (c : Option ExcClass) → (contains plain_builtins x ≡ true) ⊎ (is_some c ≡ true) → is_unknown (unwrap_or (option_or o (exception_meaning c)) meaning.Unknown) ≡ false
+    by (Some m) q c w = known_by_not m (found_all (λ (z : Meaning). not (is_unknown z)) (bytes_eq x) named_builtins refl m q)
+    by None q (Some c) w = refl
+    by None q None (inl w) = absurd (zip_found x plain_builtins plain_meanings refl w q)
+    by None q None (inr w) = absurd (cc)
+
 -- ---- definitions
 
 -- a definition, or an import that is one
@@ -93,11 +135,22 @@ is_right (s.at (s.Import name other) span) = false
 is_right (s.at (s.From name names) span) = may_import_all name names
 is_right x = true
 
+abbrev is_said : Role → Bool
+is_said role.Function = true
+is_said role.Class = true
+is_said role.Import = true
+is_said r = false
+
+said_known : (r : Role) → is_said r ≡ true → fault.is_unknown r ≡ false
+said_known role.Unknown h = absurd (cc)
+said_known _ h = refl
+
 -- names with what the binder says that they are, and with what they mean
 record SamePair (n : ℕ) (a : List ℕ × Role) (b : List ℕ × Meaning) (Rest : Type 0) : Type 0 where
   key : a.0 ≡ b.0
   other : is_variable a.1 ≡ false
   own : is_own a.1 ≡ false
+  said : is_said a.1 ≡ true
   given : is_given n b.1 ≡ true
   rest : Rest
 
@@ -111,7 +164,7 @@ pairs_two : (n : ℕ) (l : List (List ℕ × Role)) (k : List (List ℕ × Meani
 pairs_two n [] [] l2 k2 p q = q
 pairs_two n [] (b ∷ k) l2 k2 p q = absurd p
 pairs_two n (a ∷ l) [] l2 k2 p q = absurd p
-pairs_two n (a ∷ l) (b ∷ k) l2 k2 p q = record { key = p.key; other = p.other; own = p.own; given = p.given; rest = pairs_two n l k l2 k2 p.rest q }
+pairs_two n (a ∷ l) (b ∷ k) l2 k2 p q = record { key = p.key; other = p.other; own = p.own; said = p.said; given = p.given; rest = pairs_two n l k l2 k2 p.rest q }
 
 -- what is found among the one is found among the other
 record FoundPair (n : ℕ) (x : List ℕ) (k : List (List ℕ × Meaning)) (r : Role) : Type 0 where
@@ -120,6 +173,7 @@ record FoundPair (n : ℕ) (x : List ℕ) (k : List (List ℕ × Meaning)) (r : 
   given : is_given n means ≡ true
   other : is_variable r ≡ false
   own : is_own r ≡ false
+  said : is_said r ≡ true
 
 pairs_found : (n : ℕ) (x : List ℕ) (l : List (List ℕ × Role)) (k : List (List ℕ × Meaning)) (r : Role) → Pairs n l k → lookup (bytes_eq x) l ≡ Some r → FoundPair n x k r
 pairs_found n x [] [] r p e = absurd (cc)
@@ -137,16 +191,17 @@ pairs_found n x (a ∷ l) (b ∷ k) r p e = by (bytes_eq x a.0) refl e (pairs_fo
       given = p.given;
       other = ap is_variable (sym (same_Some a.1 r g)) ∙ p.other;
       own = ap is_own (sym (same_Some a.1 r g)) ∙ p.own;
+      said = ap is_said (sym (same_Some a.1 r g)) ∙ p.said;
     }
     by false q g next =
         let f = next g in
-        record { means = f.means; found = ap (λ (z : Bool). cond z (Some b.1) (lookup (bytes_eq x) k)) (same false q) ∙ f.found; given = f.given; other = f.other; own = f.own }
+        record { means = f.means; found = ap (λ (z : Bool). cond z (Some b.1) (lookup (bytes_eq x) k)) (same false q) ∙ f.found; given = f.given; other = f.other; own = f.own; said = f.said }
 
 import_pairs : (n : ℕ) (from : List ℕ) (names : List (List ℕ × Option (List ℕ))) → list_all (may_import from) names ≡ true → Pairs n (map (λ a. (bound_as a.0 a.1, role.Import)) names) (map (imported_as true from) names)
 import_pairs n from [] h = tt
 import_pairs n from (a ∷ names) h =
     let one = and_left (may_import from a) (list_all (may_import from) names) h in
-    record { key = refl; other = refl; own = refl; given = by (import_meaning from a.0) refl (and_right (is_none a.1) (is_some (import_meaning from a.0)) one); rest = import_pairs n from names (and_right (may_import from a) (list_all (may_import from) names) h) }
+    record { key = refl; other = refl; own = refl; said = refl; given = by (import_meaning from a.0) refl (and_right (is_none a.1) (is_some (import_meaning from a.0)) one); rest = import_pairs n from names (and_right (may_import from a) (list_all (may_import from) names) h) }
   where
     by : (o : Option Meaning) → import_meaning from a.0 ≡ o → is_some o ≡ true → is_given n (unwrap_or (import_meaning from a.0) meaning.Untyped) ≡ true
     by None q e = absurd (cc)
@@ -162,7 +217,7 @@ moved : (a b c n : ℕ) → a + (b + c) ≡ n → a + b + c ≡ n
 moved a b c n h = omega arith
 
 one_pairs : (next n : ℕ) (x : StmtTree) → is_right x ≡ true → (more : ℕ) → next + (length (held_by x) + more) ≡ n → Pairs n (roles_given x) (said_by next x)
-one_pairs next n (s.at (s.Def name params ret body marks) span) h more e = record { key = refl; other = refl; own = refl; given = lt-ltb next n (less_one next more n e); rest = tt }
+one_pairs next n (s.at (s.Def name params ret body marks) span) h more e = record { key = refl; other = refl; own = refl; said = refl; given = lt-ltb next n (less_one next more n e); rest = tt }
   where
     less_one : (a c n : ℕ) → a + (1 + c) ≡ n → a < n
     less_one a c n h = omega arith
@@ -180,16 +235,11 @@ all_pairs next n (x ∷ ds) h e =
 
 -- ---- roles
 
-abbrev is_said : Role → Bool
-is_said role.Function = true
-is_said role.Class = true
-is_said role.Import = true
-is_said r = false
-
 -- variables of the module are among its variables, and what a definition says is known
 pub record Fine (said : List ℕ → Option Meaning) (outer : List (List ℕ)) (n : ℕ) (roles : Roles) : Type 0 where
   pub globals : (x : List ℕ) → is_variable (roles x) ≡ true → contains outer x ≡ true
   pub given : (x : List ℕ) → is_said (roles x) ≡ true → (m : Meaning) × (said x ≡ Some m) × (is_given n m ≡ true)
+  pub built : (x : List ℕ) → roles x ≡ role.Builtin → is_builtin x ≡ true
 
 bound_seen : (sights : List Sight) (x : List ℕ) → contains (all_there bound_there sights) x ≡ true → contains (all_there seen_there sights) x ≡ true
 bound_seen [] x h = absurd (cc)
@@ -223,20 +273,49 @@ module _ (m : Suite) (n : ℕ) (right : list_all is_right (suite_definitions m) 
       zero_first : (a b : ℕ) → a ≡ b → 0 + a ≡ b
       zero_first a b h = omega arith
 
+  role_global : (x : List ℕ) (b : Bool) (o : Option Role) (c : Bool) → lookup (bytes_eq x) (all_there said_there (module_sights m)) ≡ o → contains (all_there bound_there (module_sights m)) x ≡ c → is_variable (if b then role.Builtin else said_or_variable o c) ≡ true → contains (all_there bound_there (module_sights m)) x ≡ true
+  role_global x true o c q p h = absurd (cc)
+  role_global x false (Some r) c q p h = clash (is_variable r) h (pairs_found n x (all_there said_there (module_sights m)) (said_from 0 (suite_definitions m)) r module_pairs q).other
+  role_global x false None true q p h = p
+  role_global x false None false q p h = absurd (cc)
+
   role_said : (x : List ℕ) (b : Bool) (o : Option Role) (c : Bool) → lookup (bytes_eq x) (all_there said_there (module_sights m)) ≡ o → is_said (if b then role.Builtin else said_or_variable o c) ≡ true → (t : Meaning) × (said_in m x ≡ Some t) × (is_given n t ≡ true)
   role_said x true o c q h = absurd (cc)
   role_said x false (Some r) c q h = let f = pairs_found n x (all_there said_there (module_sights m)) (said_from 0 (suite_definitions m)) r module_pairs q in (f.means, f.found, f.given)
   role_said x false None true q h = absurd (cc)
   role_said x false None false q h = absurd (cc)
 
+  role_built : (x : List ℕ) (b : Bool) (o : Option Role) (c : Bool) → is_builtin x ≡ b → lookup (bytes_eq x) (all_there said_there (module_sights m)) ≡ o → (if b then role.Builtin else said_or_variable o c) ≡ role.Builtin → is_builtin x ≡ true
+  role_built x true o c p q h = p
+  role_built x false (Some r) c p q h =
+      let s : is_said r ≡ true = (pairs_found n x (all_there said_there (module_sights m)) (said_from 0 (suite_definitions m)) r module_pairs q).said in
+      let bad : false ≡ true = ap is_said (sym h) ∙ s in absurd (cc)
+  role_built x false None true p q h = absurd (cc)
+  role_built x false None false p q h = absurd (cc)
+
+  role_bound : (x : List ℕ) (b : Bool) (o : Option Role) (c : Bool) → lookup (bytes_eq x) (all_there said_there (module_sights m)) ≡ o → c ≡ true → fault.is_unknown (if b then role.Builtin else said_or_variable o c) ≡ false
+  role_bound x true o c q h = refl
+  role_bound x false (Some r) c q h = said_known r (pairs_found n x (all_there said_there (module_sights m)) (said_from 0 (suite_definitions m)) r module_pairs q).said
+  role_bound x false None true q h = refl
+  role_bound x false None false q h = absurd (cc)
+
+  -- a name that is bound is known
+  pub bound_known : (x : List ℕ) → contains (all_there bound_there (module_sights m)) x ≡ true → fault.is_unknown (module_role m x) ≡ false
+  bound_known x h = role_bound x (is_builtin x) (lookup (bytes_eq x) (all_there said_there (module_sights m))) (contains (all_there bound_there (module_sights m)) x) refl h
+
   pub module_fine : Fine (said_in m) (variables (module_scope m)) n (module_role m)
   module_fine = record {
     globals = λ x h.
         among_kind is_variable (module_role m) (all_there seen_there (module_sights m)) x
         (sights_have (all_there seen_there (module_sights m)) x
-        ∙ bound_seen (module_sights m) x (known.variable_bound m x h)) h;
+        ∙ bound_seen (module_sights m) x (role_global x (is_builtin x) (lookup (bytes_eq x) (all_there said_there (module_sights m))) (contains (all_there bound_there (module_sights m)) x) refl refl h)) h;
     given = λ x h. role_said x (is_builtin x) (lookup (bytes_eq x) (all_there said_there (module_sights m))) (contains (all_there bound_there (module_sights m)) x) refl h;
+    built = λ x h. role_built x (is_builtin x) (lookup (bytes_eq x) (all_there said_there (module_sights m))) (contains (all_there bound_there (module_sights m)) x) refl refl h;
   }
+
+  -- a variable of the module is bound in it
+  pub module_bound : (x : List ℕ) → is_variable (module_role m x) ≡ true → contains (all_there bound_there (module_sights m)) x ≡ true
+  module_bound x h = role_global x (is_builtin x) (lookup (bytes_eq x) (all_there said_there (module_sights m))) (contains (all_there bound_there (module_sights m)) x) refl refl h
 
   role_own : (x : List ℕ) (b : Bool) (o : Option Role) (c : Bool) → lookup (bytes_eq x) (all_there said_there (module_sights m)) ≡ o → is_own (if b then role.Builtin else said_or_variable o c) ≡ false
   role_own x true o c q = refl
@@ -256,11 +335,23 @@ module _ (m : Suite) (n : ℕ) (right : list_all is_right (suite_definitions m) 
       by true = refl
       by false = ap (λ o. is_variable (said_or_variable o (contains (all_there bound_there (module_sights m)) x))) q ∙ (pairs_found n x (all_there said_there (module_sights m)) (said_from 0 (suite_definitions m)) r module_pairs q).other
 
+-- a name that a function binds is known there
+pub own_known : (roles : Roles) (f : FuncTree) (x : List ℕ) → contains (all_there bound_there (body_sights f)) x ≡ true → fault.is_unknown (function_role roles f x) ≡ false
+own_known roles f x h = by (is_builtin x) (contains (param_names f) x) (contains (all_there listed_there (body_sights f)) x && is_variable (roles x)) (contains (all_there bound_there (body_sights f)) x) h
+  where
+    by : (a b c d : Bool) → d ≡ true → fault.is_unknown (if a then role.Builtin else (if b then role.Param else (if c then role.GlobalVar else (if d then role.Local else roles x)))) ≡ false
+    by true b c d q = refl
+    by false true c d q = refl
+    by false false true d q = refl
+    by false false false true q = refl
+    by false false false false q = absurd (cc)
+
 module _ (said : List ℕ → Option Meaning) (outer : List (List ℕ)) (n : ℕ) (roles : Roles) (fine : Fine said outer n roles) where
   pub function_fine : (f : FuncTree) → Fine said outer n (function_role roles f)
   function_fine f = record {
     globals = λ x h. global_by x (is_builtin x) (contains (param_names f) x) (contains (all_there listed_there (body_sights f)) x && is_variable (roles x)) (contains (all_there bound_there (body_sights f)) x) refl h;
     given = λ x h. given_by x (is_builtin x) (contains (param_names f) x) (contains (all_there listed_there (body_sights f)) x && is_variable (roles x)) (contains (all_there bound_there (body_sights f)) x) h;
+    built = λ x h. built_by x (is_builtin x) (contains (param_names f) x) (contains (all_there listed_there (body_sights f)) x && is_variable (roles x)) (contains (all_there bound_there (body_sights f)) x) refl h;
   }
     where
       inner : List ℕ → Bool → Bool → Bool → Bool → Role
@@ -280,6 +371,13 @@ module _ (said : List ℕ → Option Meaning) (outer : List (List ℕ)) (n : ℕ
       given_by x false false false true h = absurd (cc)
       given_by x false false false false h = fine.given x h
 
+      built_by : (x : List ℕ) (a b c d : Bool) → is_builtin x ≡ a → (if a then role.Builtin else (if b then role.Param else (if c then role.GlobalVar else (if d then role.Local else roles x)))) ≡ role.Builtin → is_builtin x ≡ true
+      built_by x true b c d p h = p
+      built_by x false true c d p h = absurd (cc)
+      built_by x false false true d p h = absurd (cc)
+      built_by x false false false true p h = absurd (cc)
+      built_by x false false false false p h = fine.built x h
+
   -- ---- meanings in a scope with these roles
 
   module _ (seen : List (List ℕ)) where
@@ -292,11 +390,21 @@ module _ (said : List ℕ → Option Meaning) (outer : List (List ℕ)) (n : ℕ
     abbrev meant : List ℕ → Meaning
     meant = meaning_in said outer inside
 
+    role_found : (ns : List (List ℕ)) (x : List ℕ) (b : Bool) → contains ns x ≡ b → lookup (bytes_eq x) (map (λ (p : List ℕ × Role). (p.0, by_role said outer own p.0 p.1)) (map (λ (y : List ℕ). (y, roles y)) ns)) ≡ cond b (Some (by_role said outer own x (roles x))) None
+    role_found [] x true h = absurd (cc)
+    role_found [] x false h = refl
+    role_found (y ∷ ns) x b h = by (bytes_eq x y) refl h (role_found ns x b)
+      where
+        by : (c : Bool) → bytes_eq x y ≡ c → (c || contains ns x) ≡ b → (contains ns x ≡ b → lookup (bytes_eq x) (map (λ (p : List ℕ × Role). (p.0, by_role said outer own p.0 p.1)) (map (λ (y : List ℕ). (y, roles y)) ns)) ≡ cond b (Some (by_role said outer own x (roles x))) None)
+            → cond c (Some (by_role said outer own y (roles y))) (lookup (bytes_eq x) (map (λ (p : List ℕ × Role). (p.0, by_role said outer own p.0 p.1)) (map (λ (y : List ℕ). (y, roles y)) ns))) ≡ cond b (Some (by_role said outer own x (roles x))) None
+        by true q g next = ap (λ z. Some (by_role said outer own z (roles z))) (sym (same_text x y q)) ∙ ap (λ (z : Bool). cond z (Some (by_role said outer own x (roles x))) None) g
+        by false q g next = next g
+
     pub seen_means : (x : List ℕ) → contains (first_sights seen) x ≡ true → meant x ≡ by_role said outer own x (roles x)
-    seen_means x h = known.seen_means said outer roles seen x h
+    seen_means x h = ap (λ o. unwrap_or o meaning.Unknown) (role_found (first_sights seen) x true h)
 
     unseen_means : (x : List ℕ) → contains (first_sights seen) x ≡ false → meant x ≡ meaning.Unknown
-    unseen_means x h = known.unseen_means said outer roles seen x h
+    unseen_means x h = ap (λ o. unwrap_or o meaning.Unknown) (role_found (first_sights seen) x false h)
 
     said_is : (x : List ℕ) → is_said (roles x) ≡ true → is_given n (unwrap_or (said x) meaning.Untyped) ≡ true
     said_is x h = let r = fine.given x h in ap (λ o. is_given n (unwrap_or o meaning.Untyped)) r.1 ∙ r.2
@@ -310,6 +418,20 @@ module _ (said : List ℕ → Option Meaning) (outer : List (List ℕ)) (n : ℕ
     heard_by x role.Import q = given_heard n (unwrap_or (said x) meaning.Untyped) (said_is x (ap is_said q))
     heard_by x role.Builtin q = built_heard n (unwrap_or (builtin_meaning x) meaning.Unknown) (builtin_built x)
     heard_by x role.Unknown q = refl
+
+    known_by : (x : List ℕ) (r : Role) → roles x ≡ r → fault.is_unknown r ≡ false → is_unknown (by_role said outer own x r) ≡ false
+    known_by x role.Param q h = refl
+    known_by x role.Local q h = refl
+    known_by x role.GlobalVar q h = refl
+    known_by x role.Function q h = given_known n (unwrap_or (said x) meaning.Untyped) (said_is x (ap is_said q))
+    known_by x role.Class q h = given_known n (unwrap_or (said x) meaning.Untyped) (said_is x (ap is_said q))
+    known_by x role.Import q h = given_known n (unwrap_or (said x) meaning.Untyped) (said_is x (ap is_said q))
+    known_by x role.Builtin q h = builtin_known x (fine.built x q)
+    known_by x role.Unknown q h = absurd (cc)
+
+    -- a name that is seen and whose role is known is known
+    pub means_known : (x : List ℕ) → contains seen x ≡ true → fault.is_unknown (roles x) ≡ false → is_unknown (meant x) ≡ false
+    means_known x h r = ap is_unknown (seen_means x (sights_have seen x ∙ h)) ∙ known_by x (roles x) refl r
 
     -- NOTHING is meant of which nothing is said
     pub meant_heard : (x : List ℕ) → is_heard n (meant x) ≡ true

@@ -1,6 +1,7 @@
 -- Modules of which nothing is said are typed whole.
 use Rattle.std.proofs.Common.{◌≡◌, ℕ, zero, suc, Bool, true, false, ◌&&◌, cond, List, [], ◌∷◌, ◌++◌, length, map, Option, Some, None, refl, ap, sym, ◌∙◌, subst, if◌then◌else◌}
-use Rattle.std.proofs.lemmas.Bool.{and_from}
+use Rattle.std.proofs.lemmas.Bool.{and_from, or_right}
+use Rattle.std.proofs.lemmas.List.Folds.{list_any-append}
 use Rattle.std.proofs.lemmas.List.{length-map}
 use Rattle.std.proofs.lemmas.Option.{same_Some}
 use Rattle.std.specs.Prelude.{is_some}
@@ -9,24 +10,25 @@ use Rattle.std.specs.Map.{lookup}
 use Rattle.std.specs.Str.{bytes_eq}
 use Rattle.py_syntax.specs.Statements.{Suite, FuncTree}
 use Rattle.py_syntax_diagnostics.specs.declared.diagnostic.Diag.{Diag}
+use Rattle.py_binder.specs.declared.sight.Home.TheVariants.{InModule, InFunction}
 use Rattle.py_binder.specs.Sights.{module_sights, body_sights}
-use Rattle.py_binder.specs.Scope.{Roles, all_there, seen_there, param_names, module_role, function_role, module_scope, functions}
+use Rattle.py_binder.specs.Faults.{function_faults, faults}
+use Rattle.py_binder.specs.Scope.{Roles, contains, scope_of, all_there, seen_there, param_names, module_role, function_role, module_scope, functions}
 use Rattle.py_syntax_diagnostics.specs.Order.{is_before, put_in, by_place}
 use Rattle.py_typed.specs.Sorts.{Sort}
 use Rattle.py_typed.proofs.FitLemmas.{and_left, and_right}
 use Rattle.py_check_context.specs.declared.scope.Meaning.{Meaning}
 use Rattle.py_check_context.specs.Context.{Context, VarSort, var_at}
 use Rattle.py_check_flow.specs.Bindings.{suite_bindings}
-use Rattle.py_check_annotations.specs.Names.{is_untyped}
+use Rattle.py_check_annotations.specs.Names.{is_untyped, any_unknown}
 use Rattle.py_check_names.specs.Outline.{held_by, suite_definitions}
-use Rattle.py_check_names.specs.Meanings.{variables, own_names, said_in, module_meaning}
+use Rattle.py_check_names.specs.Meanings.{variables, own_names, meaning_in, said_in, module_meaning}
 use Rattle.py_check_signatures.specs.Headers.{header, header_said, signature_of}
 use Rattle.py_check_values.specs.Returns as ret
 use Rattle.py_check_places.specs.Places.{Known}
 use Rattle.py_check_definitions.specs.Definitions.{Headed, headed, definitions_said, inner_definitions_said, headed_functions, signatures, headers_said}
-use Rattle.py_check_definitions.specs.Globals.{globals_said}
 use Rattle.py_check_definitions.specs.Starts.{given_sort, start_sort, or_param, param_sort, own_sort}
-use Rattle.py_check.specs.Module.{Environment, context_in, module_start, own_statements, return_of, function_start, body, body_after, bodies_said, global_sorts, statements_said, environment, said, diagnostics}
+use Rattle.py_check.specs.Module.{Environment, context_in, module_start, own_statements, return_of, function_start, body, body_after, sorts_behind, bodies_said, global_sorts, statements_said, environment, said, diagnostics}
 use Rattle.py_check_definitions.proofs.HeldLemmas.{functions_defined}
 use Rattle.py_check_expressions_laws.specs.Laws as law
 use Rattle.py_check_expressions_laws.specs.Laws.{is_voiceless}
@@ -35,8 +37,11 @@ use Rattle.py_check_laws.specs.Statements.{is_judged}
 use Rattle.py_check_laws.specs.Modules.{are_typed, is_typed_whole}
 use Rattle.py_check_laws.proofs.Given.{some_is}
 use Rattle.py_check_laws.proofs.Whole.{AllTyped, quiet_got, loud_block, quiet_block}
+use Rattle.py_check_laws.proofs.KnownParts.{AreKnown, annotation_reads, suite_defined, all_marked}
+use Rattle.py_check_laws.proofs.KnownMarks.{suite_known}
+use Rattle.py_check_laws.proofs.Faultless.{module_quiet, functions_quiet, body_quiet, sights_known}
 use Rattle.py_check_laws.proofs.Marks.{start_typed, suite_marks}
-use Rattle.py_check_laws.proofs.Meant.{is_heard, is_right, Fine, module_fine, function_fine, meant_heard}
+use Rattle.py_check_laws.proofs.Meant.{is_heard, is_right, Fine, module_fine, function_fine, meant_heard, means_known, bound_known, own_known}
 use Rattle.py_check_laws.proofs.Signed.{AllQuiet, all_right, all_quiet, HasTypes, signed, AllSigned, all_signed, signatures_there, voiced, heard_typed}
 
 -- ---- in order
@@ -103,29 +108,30 @@ module _ (e : Environment) (sorts : List VarSort) (f : Headed) where
   pub record BodyTyped : Type 0 where
     pub typed : is_some (body C e.variables sorts f).got ≡ true
     pub locals : (i : ℕ) → law.is_untyped (var_at (body_after C e.variables sorts f).types.locals i) ≡ false
+    pub behind : (i : ℕ) → law.is_untyped (var_at (sorts_behind e sorts f) i) ≡ false
 
-  pub body_typed : Voiced C → ((x : List ℕ) → is_untyped (C.meaning x) ≡ false) → HasTypes f.header → ((i : ℕ) → law.is_untyped (var_at sorts i) ≡ false) → (body C e.variables sorts f).said ≡ [] → BodyTyped
-  body_typed names all types before h =
+  pub body_typed : Voiced C → ((x : List ℕ) → is_untyped (C.meaning x) ≡ false) → AreKnown C.meaning (body_sights f.tree) → HasTypes f.header → ((i : ℕ) → law.is_untyped (var_at sorts i) ≡ false) → (body C e.variables sorts f).said ≡ [] → BodyTyped
+  body_typed names all known types before h =
       let bs = suite_bindings f.tree.body in
       let quiet = suite_marks C (return_of f.header.ret) false start f.tree.body h in
       let each : (x : List ℕ) → law.is_untyped (own_sort C.meaning bs (param_names f.tree) f.header.params x) ≡ false =
-      λ x. own_typed (param_names f.tree) f.header.params types.params x (start_sort C.meaning bs x) (start_typed C.meaning all bs quiet x) in
+      λ x. own_typed (param_names f.tree) f.header.params types.params x (start_sort C.meaning bs x) (start_typed C.meaning all bs (suite_known C.meaning InFunction f.tree.body known) quiet x) in
       let typed : AllTyped start.types = record { locals = typed_map (own_sort C.meaning bs (param_names f.tree) f.header.params) each (own_names f.inside); globals = before } in
       let j = judged f.header.ret types.ret in
-      let g = quiet_got (body C e.variables sorts f) (loud_block C names (return_of f.header.ret) j false start typed f.tree.body) h in
-      let after = quiet_block C names (return_of f.header.ret) j false start typed f.tree.body h in
-      record { typed = some_is (body C e.variables sorts f).got g.0 g.1; locals = after.locals }
+      let g = quiet_got (body C e.variables sorts f) (loud_block C names (return_of f.header.ret) j InFunction false start typed f.tree.body known) h in
+      let after = quiet_block C names (return_of f.header.ret) j InFunction false start typed f.tree.body known h in
+      record { typed = some_is (body C e.variables sorts f).got g.0 g.1; locals = after.locals; behind = after.globals }
 
-module _ (e : Environment) (roles : Roles) (meanings : List ℕ → Meaning) (all : (x : List ℕ) → is_untyped (meanings x) ≡ false) (names : (f : FuncTree) → Voiced (context_in e (headed roles meanings f).inside)) (inner : (f : FuncTree) (x : List ℕ) → is_untyped ((context_in e (headed roles meanings f).inside).meaning x) ≡ false) where
+module _ (e : Environment) (roles : Roles) (meanings : List ℕ → Meaning) (all : (x : List ℕ) → is_untyped (meanings x) ≡ false) (names : (f : FuncTree) → Voiced (context_in e (headed roles meanings f).inside)) (inner : (f : FuncTree) (x : List ℕ) → is_untyped ((context_in e (headed roles meanings f).inside).meaning x) ≡ false) (known : (f : FuncTree) → function_faults roles f ≡ [] → AreKnown (context_in e (headed roles meanings f).inside).meaning (body_sights f)) where
   bodies_typed : (sorts : List VarSort) → ((i : ℕ) → law.is_untyped (var_at sorts i) ≡ false) → (fs : List FuncTree) → AllSigned meanings all roles fs → bodies_said e sorts (map (headed roles meanings) fs) ≡ [] → are_typed e sorts (map (headed roles meanings) fs) ≡ true
   bodies_typed sorts before [] a h = refl
   bodies_typed sorts before (f ∷ fs) a h =
       let hd = headed roles meanings f in
       let one = body (context_in e hd.inside) e.variables sorts hd in
-      let more = bodies_said e sorts (map (headed roles meanings) fs) in
-      let b = body_typed e sorts hd (names f) (inner f) a.here.types before (none_before one.said more h) in
-      three (is_some (signature_of hd.header)) (is_some hd.header.ret) (is_some one.got) (are_typed e sorts (map (headed roles meanings) fs)) (signed hd.header a.here.types) a.here.types.ret b.typed
-      (bodies_typed sorts before fs a.rest (none_behind one.said more h))
+      let more = bodies_said e (sorts_behind e sorts hd) (map (headed roles meanings) fs) in
+      let b = body_typed e sorts hd (names f) (inner f) (known f a.here.names) a.here.types before (none_before one.said more h) in
+      three (is_some (signature_of hd.header)) (is_some hd.header.ret) (is_some one.got) (are_typed e (sorts_behind e sorts hd) (map (headed roles meanings) fs)) (signed hd.header a.here.types) a.here.types.ret b.typed
+      (bodies_typed (sorts_behind e sorts hd) b.behind fs a.rest (none_behind one.said more h))
 
 -- ---- the whole
 
@@ -137,10 +143,14 @@ module _ (m : Suite) (nothing : said m ≡ []) where
   meant = module_meaning m
 
   headers : headers_said m ≡ []
-  headers = none_before (headers_said m) (statements_said e (module_scope m) (headed_functions m) m) (none_before (headers_said m ++ statements_said e (module_scope m) (headed_functions m) m) (globals_said m) nothing)
+  headers = none_before (headers_said m) (statements_said e (module_scope m) (headed_functions m) m) (none_before (headers_said m ++ statements_said e (module_scope m) (headed_functions m) m) (faults m) nothing)
 
   pub statements : statements_said e (module_scope m) (headed_functions m) m ≡ []
-  statements = none_behind (headers_said m) (statements_said e (module_scope m) (headed_functions m) m) (none_before (headers_said m ++ statements_said e (module_scope m) (headed_functions m) m) (globals_said m) nothing)
+  statements = none_behind (headers_said m) (statements_said e (module_scope m) (headed_functions m) m) (none_before (headers_said m ++ statements_said e (module_scope m) (headed_functions m) m) (faults m) nothing)
+
+  -- nothing is wrong with names
+  faultless : faults m ≡ []
+  faultless = none_behind (headers_said m ++ statements_said e (module_scope m) (headed_functions m) m) (faults m) nothing
 
   abbrev pub defined : List Diag
   defined = definitions_said (module_role m) meant [] (suite_definitions m)
@@ -172,9 +182,35 @@ module _ (m : Suite) (nothing : said m ≡ []) where
   pub typed_names : (x : List ℕ) → is_untyped (meant x) ≡ false
   typed_names x = heard_typed n (meant x) (heard x)
 
+  -- each name of the module is known
+  pub top_known : AreKnown meant (module_sights m)
+  top_known =
+      let seen = all_there seen_there (module_sights m) in
+      sights_known (module_role m) meant seen (means_known (said_in m) (variables (module_scope m)) n (module_role m) fine seen) (module_sights m) (λ x h. h) (module_quiet (module_role m) (module_role m) (module_sights m) faultless) (bound_known m n right count)
+
+  -- and each one of a function in which nothing is wrong with names
+  pub inner_known : (f : FuncTree) → function_faults (module_role m) f ≡ [] → AreKnown (context_in e (headed (module_role m) meant f).inside).meaning (body_sights f)
+  inner_known f h =
+      let own = function_role (module_role m) f in
+      let seen = param_names f ++ all_there seen_there (body_sights f) in
+      sights_known own (meaning_in (said_in m) (variables (module_scope m)) (scope_of own seen)) seen
+      (means_known (said_in m) (variables (module_scope m)) n own (function_fine (said_in m) (variables (module_scope m)) n (module_role m) fine f) seen) (body_sights f) (λ x q. behind_params (param_names f) (all_there seen_there (body_sights f)) x q)
+      (body_quiet (module_role m) own (param_names f) (body_sights f) h) (own_known (module_role m) f)
+    where
+      behind_params : (xs ys : List (List ℕ)) (x : List ℕ) → contains ys x ≡ true → contains (xs ++ ys) x ≡ true
+      behind_params xs ys x q = list_any-append (bytes_eq x) xs ys ∙ or_right (contains xs x) (contains ys x) q
+
+  -- and those in the annotations of functions
+  pub definitions_known : AreKnown meant (flat_map annotation_reads (flat_map held_by (suite_definitions m)))
+  definitions_known = all_marked meant (suite_definitions m) right (suite_defined meant m top_known)
+
+  functions_known : AreKnown meant (flat_map annotation_reads (functions m))
+  functions_known = ap (λ fs. any_unknown meant (flat_map annotation_reads fs)) (functions_defined m) ∙ definitions_known
+
   pub all_functions : AllSigned meant typed_names (module_role m) (functions m)
   all_functions =
       all_signed meant typed_names (module_role m) (functions m) (subst (AllQuiet (module_role m) meant) (sym (functions_defined m)) (all_quiet (module_role m) meant [] (suite_definitions m) definitions))
+      functions_known (functions_quiet (module_role m) (module_role m) (module_sights m) faultless)
       (none_before (flat_map (header_said meant) (functions m)) defined (none_before (flat_map (header_said meant) (functions m) ++ defined) (flat_map inner_definitions_said (functions m)) headers))
 
   pub signs : list_all (λ o. is_some o) (signatures m) ≡ true
@@ -199,17 +235,17 @@ module _ (m : Suite) (nothing : said m ≡ []) where
   pub start_all : AllTyped (module_start top e.variables m).types
   start_all = record {
     locals = λ i. refl;
-    globals = typed_map (start_sort meant (suite_bindings m)) (start_typed meant typed_names (suite_bindings m) (suite_marks top ret.outside false (module_start top e.variables m) m own_quiet)) e.variables;
+    globals = typed_map (start_sort meant (suite_bindings m)) (start_typed meant typed_names (suite_bindings m) (suite_known meant InModule m top_known) (suite_marks top ret.outside false (module_start top e.variables m) m own_quiet)) e.variables;
   }
 
   -- THE WHOLE MODULE is typed
   pub typed_whole : is_typed_whole m ≡ true
   typed_whole =
       let k = module_start top e.variables m in
-      let g = quiet_got (own_statements top e.variables m) (loud_block top top_voiced ret.outside refl false k start_all m) own_quiet in
-      let b = quiet_block top top_voiced ret.outside refl false k start_all m own_quiet in
+      let g = quiet_got (own_statements top e.variables m) (loud_block top top_voiced ret.outside refl InModule false k start_all m top_known) own_quiet in
+      let b = quiet_block top top_voiced ret.outside refl InModule false k start_all m top_known own_quiet in
       and_from (is_some (own_statements top e.variables m).got) (are_typed e (global_sorts e (module_scope m) (headed_functions m) m) (headed_functions m)) (some_is (own_statements top e.variables m).got g.0 g.1)
-      (bodies_typed e (module_role m) meant typed_names (λ f x. voiced (signatures m) signs ((inside f).meaning x) (inner_heard f x)) (λ f x. heard_typed n ((inside f).meaning x) (inner_heard f x)) (global_sorts e (module_scope m) (headed_functions m) m) b.globals (functions m) all_functions
+      (bodies_typed e (module_role m) meant typed_names (λ f x. voiced (signatures m) signs ((inside f).meaning x) (inner_heard f x)) (λ f x. heard_typed n ((inside f).meaning x) (inner_heard f x)) inner_known (global_sorts e (module_scope m) (headed_functions m) m) b.globals (functions m) all_functions
       (none_behind (own_statements top e.variables m).said (bodies_said e (global_sorts e (module_scope m) (headed_functions m) m) (headed_functions m)) statements))
 
 pub quiet_module : (m : Suite) → diagnostics m ≡ [] → is_typed_whole m ≡ true

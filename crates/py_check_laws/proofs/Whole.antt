@@ -1,5 +1,5 @@
--- Statements of which nothing is said are typed whole, and leave no name without a type.
-use Rattle.std.proofs.Common.{◌≡◌, ℕ, suc, Bool, true, false, List, [], ◌∷◌, length, Option, Some, None, refl, ap, sym, ◌∙◌, subst, if◌then◌else◌}
+-- Statements of which nothing is said and in which each name is known are typed whole, and leave no name without a type.
+use Rattle.std.proofs.Common.{◌≡◌, ℕ, suc, Bool, true, false, List, [], ◌∷◌, ◌++◌, length, Option, Some, None, refl, ap, sym, ◌∙◌, subst, if◌then◌else◌}
 use Rattle.std.proofs.lemmas.Option.{same_Some}
 use Rattle.std.proofs.lemmas.List.{length-map}
 use Rattle.std.specs.Prelude.{is_some}
@@ -16,6 +16,9 @@ use Rattle.py_typed.specs.Fits.{is_nothing}
 use Rattle.py_typed.specs.Expressions.{TypedExpr, TypedNode, type_of}
 use Rattle.py_typed.specs.Statements as act
 use Rattle.py_typed.specs.Statements.{TypedTarget, TypedAct, TypedStmt, TypedSuite, on_line, suite_of, arms_of}
+use Rattle.py_binder.specs.declared.sight.Manner.TheVariants.{Value, Annotation}
+use Rattle.py_binder.specs.declared.sight.Home.{Home}
+use Rattle.py_binder.specs.Sights.{Sight, reads, maybe_reads, list_reads, arguments_reads, target_sights, stmt_sights, stmt_node_sights, suite_sights, arms_sights}
 use Rattle.py_check_context.specs.declared.scope.Meaning.{Meaning}
 use Rattle.py_check_context.specs.declared.scope.Meaning.TheVariants as meaning
 use Rattle.py_check_context.specs.Context.{Context, VarSort, unset, untyped, has, VarSorts, var_at, Wanted, free, test, along}
@@ -39,7 +42,7 @@ use Rattle.py_check_targets.specs.Targets.{Aim, name_aim, variable_aim, seen_aim
 use Rattle.py_check_places.specs.Shapes.{bind_target}
 use Rattle.py_check_targets.specs.Targets.{target_aims}
 use Rattle.py_check_assignments.specs.Assignments.{value_for, assigns, binds, declares, annotated_value, gives_value, annotates_name, annotates_other, annotates, binds_annotated, updates_one, updates_row, updates}
-use Rattle.py_check_loops.specs.Loops.{value, range_call, range_arguments, span_of, course_by, course, head, loop_of}
+use Rattle.py_check_loops.specs.Loops.{value, range_call, is_range_name, range_arguments, span_of, course_by, course, head, loop_of}
 use Rattle.py_check_loops.specs.Heads.{some_items, for_head, in_for}
 use Rattle.py_check_statements.specs.Bodies.{is_definition, condition, after, node_after, block_after, arms_after, return_wanted, returns, in_loop, statement, node_statement, block, branches}
 use Rattle.py_check_expressions_laws.specs.Laws.{is_voiceless, is_untyped, AllHaveTypes}
@@ -47,9 +50,11 @@ use Rattle.py_check_expressions_laws.proofs.Inside.{either}
 use Rattle.py_check_expressions_laws.proofs.Loud.{IsLoud, loud_is, loud_fails, none_before, none_behind, both_say, loud_both, loud_made, loud_behind, loud_judged, loud_rule, loud_row, loud_positional, loud_typing, loud_arguments}
 use Rattle.py_check_laws.specs.Statements.{is_judged}
 use Rattle.py_check_laws.proofs.Given.{some_is, rule_given, both_given, made_given}
-use Rattle.py_check.proofs.Kept.{fix_cases, is_open, bind_set}
+use Rattle.py_check_laws.proofs.Kept.{fix_cases, is_open, bind_set}
 use Rattle.py_check_laws.proofs.Assigned.{single_bound, row_bound, name_no_row, aims_length, items_are, BoundTo, assigned_is, head_is}
 use Rattle.py_check_laws.proofs.Aims.{beyond}
+use Rattle.py_check_expressions_laws.proofs.Known.{known_left, known_right}
+use Rattle.py_check_laws.proofs.KnownParts.{AreKnown, target_read, leaves_read}
 use Rattle.py_check_laws.proofs.Annotated.{loud_if, loud_annotation}
 
 -- ---- variables
@@ -177,130 +182,153 @@ module _ (C : Context) where
 
     -- ---- parts
 
-    loud_value : (k : Known) → AllTyped k.types → (w : Wanted) (e : ExprTree) → IsLoud (typed_at C k w e)
-    loud_value k all w e = loud_typing C k.types (all_have k.types all) w k.names e
+    front : (xs ys : List Sight) → AreKnown C.meaning (xs ++ ys) → AreKnown C.meaning xs
+    front xs ys u = known_left C.meaning xs ys u
 
-    loud_single : (k : Known) → AllTyped k.types → (x : Option (List ℕ)) (e : ExprTree) → IsLoud (single_aim C k x e)
-    loud_single k all None e = loud_made (value_aim (is_item e)) (typed_at C k free e) (loud_value k all free e)
-    loud_single k all (Some x) e = loud_seen (name_aim k x (C.meaning x)) (aim_there k all x (C.meaning x))
+    back : (xs ys : List Sight) → AreKnown C.meaning (xs ++ ys) → AreKnown C.meaning ys
+    back xs ys u = known_right C.meaning xs ys u
 
-    loud_aims : (k : Known) → AllTyped k.types → (es : List ExprTree) → IsLoud (aims C k es)
-    loud_aims k all [] = loud_is []
-    loud_aims k all (e ∷ more) = loud_row (single_aim C k (name_in e) e) (aims C (beyond C k e) more) (loud_single k all (name_in e) e) (loud_aims (beyond C k e) all more)
+    loud_value : (k : Known) → AllTyped k.types → (w : Wanted) (e : ExprTree) → AreKnown C.meaning (reads Value e) → IsLoud (typed_at C k w e)
+    loud_value k all w e u = loud_typing C k.types (all_have k.types all) w k.names e u
 
-    loud_assigns : (k : Known) → AllTyped k.types → (span : Span) (target e : ExprTree) → IsLoud (assigns C k span target e)
-    loud_assigns k all span target e =
-        loud_rule span (assigned C.classes target) (both (target_aims C k target) (value_for C k target e)) (loud_both (target_aims C k target) (value_for C k target e) (loud_aims k all (leaves target)) (loud_value k all _ e))
+    loud_single : (k : Known) → AllTyped k.types → (x : Option (List ℕ)) (e : ExprTree) → AreKnown C.meaning (reads Value e) → IsLoud (single_aim C k x e)
+    loud_single k all None e u = loud_made (value_aim (is_item e)) (typed_at C k free e) (loud_value k all free e u)
+    loud_single k all (Some x) e u = loud_seen (name_aim k x (C.meaning x)) (aim_there k all x (C.meaning x))
 
-    loud_declares : (k : Known) → AllTyped k.types → (span : Span) (x : List ℕ) (mark : ExprTree) → IsLoud (declares C k span x mark)
-    loud_declares k all span x mark =
+    loud_aims : (k : Known) → AllTyped k.types → (es : List ExprTree) → AreKnown C.meaning (list_reads Value es) → IsLoud (aims C k es)
+    loud_aims k all [] u = loud_is []
+    loud_aims k all (e ∷ more) u =
+        loud_row (single_aim C k (name_in e) e) (aims C (beyond C k e) more) (loud_single k all (name_in e) e (front (reads Value e) (list_reads Value more) u)) (loud_aims (beyond C k e) all more (back (reads Value e) (list_reads Value more) u))
+
+    loud_targets : (k : Known) → AllTyped k.types → (target : ExprTree) → AreKnown C.meaning (target_sights target) → IsLoud (target_aims C k target)
+    loud_targets k all target u = loud_aims k all (leaves target) (leaves_read C.meaning target u)
+
+    loud_assigns : (k : Known) → AllTyped k.types → (span : Span) (target e : ExprTree) → AreKnown C.meaning (target_sights target ++ reads Value e) → IsLoud (assigns C k span target e)
+    loud_assigns k all span target e u =
+        loud_rule span (assigned C.classes target) (both (target_aims C k target) (value_for C k target e)) (loud_both (target_aims C k target) (value_for C k target e) (loud_targets k all target (front (target_sights target) (reads Value e) u)) (loud_value k all _ e (back (target_sights target) (reads Value e) u)))
+
+    loud_declares : (k : Known) → AllTyped k.types → (span : Span) (x : List ℕ) (mark : ExprTree) → AreKnown C.meaning (reads Annotation mark) → IsLoud (declares C k span x mark)
+    loud_declares k all span x mark u =
         let a = seen_aim (name_aim k x (C.meaning x)) in
-        loud_rule span (declared x (is_bound k (C.meaning x))) (both a (annotation C.meaning mark)) (loud_both a (annotation C.meaning mark) (loud_seen (name_aim k x (C.meaning x)) (aim_there k all x (C.meaning x))) (loud_annotation C.meaning meanings_typed mark))
+        loud_rule span (declared x (is_bound k (C.meaning x))) (both a (annotation C.meaning mark)) (loud_both a (annotation C.meaning mark) (loud_seen (name_aim k x (C.meaning x)) (aim_there k all x (C.meaning x))) (loud_annotation C.meaning meanings_typed mark u))
 
-    loud_gives : (k : Known) → AllTyped k.types → (span : Span) (x : List ℕ) (mark e : ExprTree) → IsLoud (gives_value C k span x mark e)
-    loud_gives k all span x mark e =
+    loud_gives : (k : Known) → AllTyped k.types → (span : Span) (x : List ℕ) (mark e : ExprTree) → AreKnown C.meaning (reads Annotation mark ++ reads Value e) → IsLoud (gives_value C k span x mark e)
+    loud_gives k all span x mark e u =
         let a = seen_aim (name_aim k x (C.meaning x)) in
         let b = both a (annotation C.meaning mark) in
         loud_rule span (given C.classes x (is_bound k (C.meaning x))) (both b (annotated_value C k x e))
-        (loud_both b (annotated_value C k x e) (loud_both a (annotation C.meaning mark) (loud_seen (name_aim k x (C.meaning x)) (aim_there k all x (C.meaning x))) (loud_annotation C.meaning meanings_typed mark)) (loud_value k all _ e))
+        (loud_both b (annotated_value C k x e) (loud_both a (annotation C.meaning mark) (loud_seen (name_aim k x (C.meaning x)) (aim_there k all x (C.meaning x))) (loud_annotation C.meaning meanings_typed mark (front (reads Annotation mark) (reads Value e) u))) (loud_value k all _ e (back (reads Annotation mark) (reads Value e) u)))
 
-    loud_annotates_name : (k : Known) → AllTyped k.types → (span : Span) (x : List ℕ) (mark : ExprTree) (e : Option ExprTree) → IsLoud (annotates_name C k span x mark e)
-    loud_annotates_name k all span x mark None = loud_declares k all span x mark
-    loud_annotates_name k all span x mark (Some e) = loud_gives k all span x mark e
+    loud_annotates_name : (k : Known) → AllTyped k.types → (span : Span) (x : List ℕ) (mark : ExprTree) (e : Option ExprTree) → AreKnown C.meaning (reads Annotation mark ++ maybe_reads Value e) → IsLoud (annotates_name C k span x mark e)
+    loud_annotates_name k all span x mark None u = loud_declares k all span x mark (front (reads Annotation mark) [] u)
+    loud_annotates_name k all span x mark (Some e) u = loud_gives k all span x mark e u
 
-    loud_other : (k : Known) → AllTyped k.types → (span : Span) (target mark : ExprTree) (e : Option ExprTree) → IsLoud (annotates_other C k span target mark e)
-    loud_other k all span target mark None =
+    loud_marked_target : (k : Known) → AllTyped k.types → (target mark : ExprTree) → AreKnown C.meaning (target_sights target) → AreKnown C.meaning (reads Annotation mark) → IsLoud (both (target_aims C k target) (annotation C.meaning mark))
+    loud_marked_target k all target mark ut um = loud_both (target_aims C k target) (annotation C.meaning mark) (loud_targets k all target ut) (loud_annotation C.meaning meanings_typed mark um)
+
+    loud_other : (k : Known) → AllTyped k.types → (span : Span) (target mark : ExprTree) (e : Option ExprTree) → AreKnown C.meaning (target_sights target ++ (reads Annotation mark ++ maybe_reads Value e)) → IsLoud (annotates_other C k span target mark e)
+    loud_other k all span target mark None u =
         let a = both (target_aims C k target) (annotation C.meaning mark) in
-        loud_behind a (λ p. with_part p (λ q. fails span no_target)) (loud_both (target_aims C k target) (annotation C.meaning mark) (loud_aims k all (leaves target)) (loud_annotation C.meaning meanings_typed mark)) (λ q. loud_fails span no_target)
-    loud_other k all span target mark (Some e) =
+        let more = (reads Annotation mark ++ maybe_reads Value None) in
+        loud_behind a (λ p. with_part p (λ q. fails span no_target)) (loud_marked_target k all target mark (front (target_sights target) more u) (front (reads Annotation mark) [] (back (target_sights target) more u))) (λ q. loud_fails span no_target)
+    loud_other k all span target mark (Some e) u =
         let a = both (target_aims C k target) (annotation C.meaning mark) in
         let b = both a (typed_at C k free e) in
+        let more = (reads Annotation mark ++ reads Value e) in
         loud_behind b (λ p. with_part p (λ q. fails span no_target))
-        (loud_both a (typed_at C k free e) (loud_both (target_aims C k target) (annotation C.meaning mark) (loud_aims k all (leaves target)) (loud_annotation C.meaning meanings_typed mark)) (loud_value k all free e)) (λ q. loud_fails span no_target)
+        (loud_both a (typed_at C k free e) (loud_marked_target k all target mark (front (target_sights target) more u) (front (reads Annotation mark) (reads Value e) (back (target_sights target) more u))) (loud_value k all free e (back (reads Annotation mark) (reads Value e) (back (target_sights target) more u)))) (λ q. loud_fails span no_target)
 
     other_never : (k : Known) (span : Span) (target mark : ExprTree) (e : Option ExprTree) → (annotates_other C k span target mark e).got ≡ None
     other_never k span target mark None = no_part (both (target_aims C k target) (annotation C.meaning mark)).got span no_target
     other_never k span target mark (Some e) = no_part (both (both (target_aims C k target) (annotation C.meaning mark)) (typed_at C k free e)).got span no_target
 
-    loud_annotates : (k : Known) → AllTyped k.types → (span : Span) (x : Option (List ℕ)) (target mark : ExprTree) (e : Option ExprTree) → IsLoud (annotates C k span x target mark e)
-    loud_annotates k all span None target mark e = loud_other k all span target mark e
-    loud_annotates k all span (Some x) target mark e = loud_annotates_name k all span x mark e
+    loud_annotates : (k : Known) → AllTyped k.types → (span : Span) (x : Option (List ℕ)) (target mark : ExprTree) (e : Option ExprTree) → AreKnown C.meaning (target_sights target ++ (reads Annotation mark ++ maybe_reads Value e)) → IsLoud (annotates C k span x target mark e)
+    loud_annotates k all span None target mark e u = loud_other k all span target mark e u
+    loud_annotates k all span (Some x) target mark e u = loud_annotates_name k all span x mark e (back (target_sights target) (reads Annotation mark ++ maybe_reads Value e) u)
 
-    loud_row_update : (k : Known) → AllTyped k.types → (span : Span) (target e : ExprTree) → IsLoud (updates_row C k span target e)
-    loud_row_update k all span target e =
-        loud_behind (both (target_aims C k target) (typed_at C k free e)) (λ p. with_part p (λ q. fails span no_target)) (loud_both (target_aims C k target) (typed_at C k free e) (loud_aims k all (leaves target)) (loud_value k all free e)) (λ q. loud_fails span no_target)
+    loud_row_update : (k : Known) → AllTyped k.types → (span : Span) (target e : ExprTree) → AreKnown C.meaning (target_sights target ++ reads Value e) → IsLoud (updates_row C k span target e)
+    loud_row_update k all span target e u =
+        loud_behind (both (target_aims C k target) (typed_at C k free e)) (λ p. with_part p (λ q. fails span no_target)) (loud_both (target_aims C k target) (typed_at C k free e) (loud_targets k all target (front (target_sights target) (reads Value e) u)) (loud_value k all free e (back (target_sights target) (reads Value e) u))) (λ q. loud_fails span no_target)
 
-    loud_one_update : (k : Known) → AllTyped k.types → (span : Span) (target : ExprTree) (op : BinOp) (e : ExprTree) → IsLoud (updates_one C k span target op e)
-    loud_one_update k all span target op e =
-        loud_rule span (updated C.classes span op (read_aim C k (name_in target) (is_item target))) (both (typed_at C k free target) (typed_at C k free e)) (loud_both (typed_at C k free target) (typed_at C k free e) (loud_value k all free target) (loud_value k all free e))
+    loud_one_update : (k : Known) → AllTyped k.types → (span : Span) (target : ExprTree) (op : BinOp) (e : ExprTree) → AreKnown C.meaning (target_sights target ++ reads Value e) → IsLoud (updates_one C k span target op e)
+    loud_one_update k all span target op e u =
+        loud_rule span (updated C.classes span op (read_aim C k (name_in target) (is_item target))) (both (typed_at C k free target) (typed_at C k free e)) (loud_both (typed_at C k free target) (typed_at C k free e) (loud_value k all free target (target_read C.meaning target (front (target_sights target) (reads Value e) u))) (loud_value k all free e (back (target_sights target) (reads Value e) u)))
 
-    loud_updates : (k : Known) → AllTyped k.types → (span : Span) (target : ExprTree) (op : BinOp) (e : ExprTree) → IsLoud (updates C k span target op e)
-    loud_updates k all span target op e = loud_if (is_row target) (updates_row C k span target e) (updates_one C k span target op e) (loud_row_update k all span target e) (loud_one_update k all span target op e)
+    loud_updates : (k : Known) → AllTyped k.types → (span : Span) (target : ExprTree) (op : BinOp) (e : ExprTree) → AreKnown C.meaning (target_sights target ++ reads Value e) → IsLoud (updates C k span target op e)
+    loud_updates k all span target op e u = loud_if (is_row target) (updates_row C k span target e) (updates_one C k span target op e) (loud_row_update k all span target e u) (loud_one_update k all span target op e u)
 
-    loud_course : (k : Known) → AllTyped k.types → (o : Option Arguments) (e : ExprTree) → IsLoud (course_by C k o e)
-    loud_course k all None e = loud_made value (typed_at C k free e) (loud_value k all free e)
-    loud_course k all (Some args) e =
+    range_read : (e : ExprTree) (args : Arguments) → range_arguments C e ≡ Some args → AreKnown C.meaning (reads Value e) → AreKnown C.meaning (arguments_reads Value args)
+    range_read (at (tree.Call f given) span) args q u = by (is_range_name C (name_in f)) q
+      where
+        by : (b : Bool) → (if b then Some given else None) ≡ Some args → AreKnown C.meaning (arguments_reads Value args)
+        by true r = subst (λ (z : Arguments). AreKnown C.meaning (arguments_reads Value z)) (same_Some given args r) (back (reads Value f) (arguments_reads Value given) u)
+        by false r = absurd (cc)
+    range_read _ args q u = absurd (cc)
+
+    loud_course : (k : Known) → AllTyped k.types → (o : Option Arguments) (e : ExprTree) → range_arguments C e ≡ o → AreKnown C.meaning (reads Value e) → IsLoud (course_by C k o e)
+    loud_course k all None e q u = loud_made value (typed_at C k free e) (loud_value k all free e u)
+    loud_course k all (Some args) e q u =
         loud_rule (span_of e) (range_call C.classes) (behind (arguments C k.types (along []) 0 k.names args) (positional (span_of e) (has_key args)))
-        (loud_behind (arguments C k.types (along []) 0 k.names args) (positional (span_of e) (has_key args)) (loud_arguments C k.types (all_have k.types all) (along []) 0 k.names args) (λ es. loud_positional (span_of e) (has_key args) es))
+        (loud_behind (arguments C k.types (along []) 0 k.names args) (positional (span_of e) (has_key args)) (loud_arguments C k.types (all_have k.types all) (along []) 0 k.names args (range_read e args q u)) (λ es. loud_positional (span_of e) (has_key args) es))
 
-    loud_head : (k : Known) → AllTyped k.types → (span : Span) (target e : ExprTree) → IsLoud (for_head C k span target e)
-    loud_head k all span target e =
+    loud_head : (k : Known) → AllTyped k.types → (span : Span) (target e : ExprTree) → AreKnown C.meaning (target_sights target) → AreKnown C.meaning (reads Value e) → IsLoud (for_head C k span target e)
+    loud_head k all span target e ut u =
         let parts = both (target_aims C k target) (course C k e) in
         loud_made (λ p. (targets_of p.0, p.1)) (rule span (head C.classes (is_flat target) (is_row target)) parts)
-        (loud_rule span (head C.classes (is_flat target) (is_row target)) parts (loud_both (target_aims C k target) (course C k e) (loud_aims k all (leaves target)) (loud_course k all (range_arguments C e) e)))
+        (loud_rule span (head C.classes (is_flat target) (is_row target)) parts (loud_both (target_aims C k target) (course C k e) (loud_targets k all target ut) (loud_course k all (range_arguments C e) e refl u)))
 
-    loud_condition : (k : Known) → AllTyped k.types → (e : ExprTree) → IsLoud (condition C k e)
-    loud_condition k all e = loud_made truth (typed_at C k test e) (loud_value k all test e)
+    loud_condition : (k : Known) → AllTyped k.types → (e : ExprTree) → AreKnown C.meaning (reads Value e) → IsLoud (condition C k e)
+    loud_condition k all e u = loud_made truth (typed_at C k test e) (loud_value k all test e u)
 
     -- ---- what is bound where nothing is said
 
-    quiet_assign : (k : Known) → AllTyped k.types → (span : Span) (target e : ExprTree) → (assigns C k span target e).said ≡ [] → AllTyped (binds C k span target e).types
-    quiet_assign k all span target e h =
-        let g = quiet_got (assigns C k span target e) (loud_assigns k all span target e) h in
+    quiet_assign : (k : Known) → AllTyped k.types → (span : Span) (target e : ExprTree) → AreKnown C.meaning (target_sights target ++ reads Value e) → (assigns C k span target e).said ≡ [] → AllTyped (binds C k span target e).types
+    quiet_assign k all span target e u h =
+        let g = quiet_got (assigns C k span target e) (loud_assigns k all span target e u) h in
         let r = rule_given span (assigned C.classes target) (both (target_aims C k target) (value_for C k target e)) g.0 g.1 in
         let b = both_given (target_aims C k target) (value_for C k target e) r.0 r.1 in
         let a = assigned_is C.classes target r.0 g.0 r.2 in
         subst (λ (l : Known). AllTyped l.types) (sym (bound_same k target (is_some (assigns C k span target e).got) (option_map type_of (value_for C k target e).got) (type_of r.0.1) (some_is (assigns C k span target e).got g.0 g.1) (ap (option_map type_of) b.1)))
         (typed_bound k all target r.0.0 (aims_length C k (leaves target) r.0.0 b.0) (type_of r.0.1) a.bound)
 
-    quiet_name : (k : Known) → AllTyped k.types → (span : Span) (x : List ℕ) (target mark : ExprTree) (e : Option ExprTree) → name_in target ≡ Some x → (annotates_name C k span x mark e).said ≡ [] → AllTyped (binds_annotated C k span (Some x) target mark e).types
-    quiet_name k all span x target mark None n h =
-        let g = quiet_got (declares C k span x mark) (loud_declares k all span x mark) h in
+    quiet_name : (k : Known) → AllTyped k.types → (span : Span) (x : List ℕ) (target mark : ExprTree) (e : Option ExprTree) → name_in target ≡ Some x → AreKnown C.meaning (reads Annotation mark ++ maybe_reads Value e) → (annotates_name C k span x mark e).said ≡ [] → AllTyped (binds_annotated C k span (Some x) target mark e).types
+    quiet_name k all span x target mark None n u h =
+        let g = quiet_got (declares C k span x mark) (loud_declares k all span x mark (front (reads Annotation mark) [] u)) h in
         subst (λ (l : Known). AllTyped l.types) (sym (bound_same k target (is_some (declares C k span x mark).got) (Some sort.Nothing) sort.Nothing (some_is (declares C k span x mark).got g.0 g.1) refl)) (typed_single k all target sort.Nothing (name_no_row target x n))
-    quiet_name k all span x target mark (Some e) n h =
+    quiet_name k all span x target mark (Some e) n u h =
         let s = gives_value C k span x mark e in
-        let g = quiet_got s (loud_gives k all span x mark e) h in
+        let g = quiet_got s (loud_gives k all span x mark e u) h in
         let parts = both (seen_aim (name_aim k x (C.meaning x))) (annotation C.meaning mark) in
         let r = rule_given span (given C.classes x (is_bound k (C.meaning x))) (both parts (annotated_value C k x e)) g.0 g.1 in
         let b = both_given parts (annotated_value C k x e) r.0 r.1 in
         subst (λ (l : Known). AllTyped l.types) (sym (bound_same k target (is_some s.got) (option_map type_of (annotated_value C k x e).got) (type_of r.0.1) (some_is s.got g.0 g.1) (ap (option_map type_of) b.1))) (typed_single k all target (type_of r.0.1) (name_no_row target x n))
 
-    quiet_annotated : (k : Known) → AllTyped k.types → (span : Span) (x : Option (List ℕ)) (target mark : ExprTree) (e : Option ExprTree) → name_in target ≡ x → (annotates C k span x target mark e).said ≡ [] → AllTyped (binds_annotated C k span x target mark e).types
-    quiet_annotated k all span None target mark e n h = absurd ((loud_other k all span target mark e).says (other_never k span target mark e) h)
-    quiet_annotated k all span (Some x) target mark e n h = quiet_name k all span x target mark e n h
+    quiet_annotated : (k : Known) → AllTyped k.types → (span : Span) (x : Option (List ℕ)) (target mark : ExprTree) (e : Option ExprTree) → name_in target ≡ x → AreKnown C.meaning (target_sights target ++ (reads Annotation mark ++ maybe_reads Value e)) → (annotates C k span x target mark e).said ≡ [] → AllTyped (binds_annotated C k span x target mark e).types
+    quiet_annotated k all span None target mark e n u h = absurd ((loud_other k all span target mark e u).says (other_never k span target mark e) h)
+    quiet_annotated k all span (Some x) target mark e n u h = quiet_name k all span x target mark e n (back (target_sights target) (reads Annotation mark ++ maybe_reads Value e) u) h
 
     kept_name : (k : Known) → AllTyped k.types → (x : Option (List ℕ)) → ((y : List ℕ) → x ≡ Some y → is_open k.types (C.meaning y) ≡ false) → AllTyped (bind_name C false k x None).types
     kept_name k all None h = all
     kept_name k all (Some x) h = subst AllTyped (sym (bind_set false k (C.meaning x) None (h x refl))) all
 
-    quiet_one : (k : Known) → AllTyped k.types → (span : Span) (target : ExprTree) (op : BinOp) (e : ExprTree) → is_row target ≡ false → (updates_one C k span target op e).said ≡ [] → AllTyped (bind_target C false k target None).types
-    quiet_one k all span target op e n h =
-        let g = quiet_got (updates_one C k span target op e) (loud_one_update k all span target op e) h in
+    quiet_one : (k : Known) → AllTyped k.types → (span : Span) (target : ExprTree) (op : BinOp) (e : ExprTree) → is_row target ≡ false → AreKnown C.meaning (target_sights target ++ reads Value e) → (updates_one C k span target op e).said ≡ [] → AllTyped (bind_target C false k target None).types
+    quiet_one k all span target op e n u h =
+        let g = quiet_got (updates_one C k span target op e) (loud_one_update k all span target op e u) h in
         let r = rule_given span (updated C.classes span op (read_aim C k (name_in target) (is_item target))) (both (typed_at C k free target) (typed_at C k free e)) g.0 g.1 in
         let b = both_given (typed_at C k free target) (typed_at C k free e) r.0 r.1 in
         subst (λ (l : Known). AllTyped l.types) (sym (single_bound C false k target None n)) (kept_name k all (name_in target) (λ y q. read_set k target y q r.0.0 b.0))
 
-    quiet_update : (k : Known) → AllTyped k.types → (span : Span) (target : ExprTree) (op : BinOp) (e : ExprTree) → (updates C k span target op e).said ≡ [] → AllTyped (bind_target C false k target None).types
-    quiet_update k all span target op e h = by (is_row target) refl h
+    quiet_update : (k : Known) → AllTyped k.types → (span : Span) (target : ExprTree) (op : BinOp) (e : ExprTree) → AreKnown C.meaning (target_sights target ++ reads Value e) → (updates C k span target op e).said ≡ [] → AllTyped (bind_target C false k target None).types
+    quiet_update k all span target op e u h = by (is_row target) refl h
       where
         by : (b : Bool) → is_row target ≡ b → (if b then updates_row C k span target e else updates_one C k span target op e).said ≡ [] → AllTyped (bind_target C false k target None).types
-        by true q f = absurd ((loud_row_update k all span target e).says (no_part (both (target_aims C k target) (typed_at C k free e)).got span no_target) f)
-        by false q f = quiet_one k all span target op e q f
+        by true q f = absurd ((loud_row_update k all span target e u).says (no_part (both (target_aims C k target) (typed_at C k free e)).got span no_target) f)
+        by false q f = quiet_one k all span target op e q u f
 
-    quiet_head : (k : Known) → AllTyped k.types → (s : StmtTree) (span : Span) (target e : ExprTree) → (for_head C k span target e).said ≡ [] → AllTyped (in_for C k s span target e).types
-    quiet_head k all s span target e h =
+    quiet_head : (k : Known) → AllTyped k.types → (s : StmtTree) (span : Span) (target e : ExprTree) → AreKnown C.meaning (target_sights target) → AreKnown C.meaning (reads Value e) → (for_head C k span target e).said ≡ [] → AllTyped (in_for C k s span target e).types
+    quiet_head k all s span target e ut u h =
         let hd = for_head C k span target e in
-        let g = quiet_got hd (loud_head k all span target e) h in
+        let g = quiet_got hd (loud_head k all span target e ut u) h in
         let parts = both (target_aims C k target) (course C k e) in
         let m = made_given (λ p. (targets_of p.0, p.1)) (rule span (head C.classes (is_flat target) (is_row target)) parts) g.0 g.1 in
         let r = rule_given span (head C.classes (is_flat target) (is_row target)) parts m.0 m.1 in
@@ -317,108 +345,113 @@ module _ (C : Context) where
     quiet_step k s more one two true q f g h = subst (λ (l : Known). AllTyped (block_after C l more).types) (sym (definition_after k s q)) (f h)
     quiet_step k s more one two false q f g h = g h
 
-    module _ (r : ReturnSort) (judged : is_judged r ≡ true) where
+    module _ (r : ReturnSort) (judged : is_judged r ≡ true) (home : Home) where
       loud_value_return : (span : Span) (v : TypedExpr) (s : ReturnSort) → is_judged s ≡ true → IsLoud (value_return C.classes span s v)
       loud_value_return span v ret.outside h = loud_fails span _
       loud_value_return span v ret.untyped h = absurd (cc)
       loud_value_return span v (ret.gives t) h = loud_judged span (due C.classes t v)
 
-      loud_returns : (k : Known) → AllTyped k.types → (span : Span) (e : Option ExprTree) → IsLoud (returns C r k span e)
-      loud_returns k all span None = loud_made (λ u. act.Return None) (bare_return span r) (loud_bare span r judged)
-      loud_returns k all span (Some e) =
+      loud_returns : (k : Known) → AllTyped k.types → (span : Span) (e : Option ExprTree) → AreKnown C.meaning (maybe_reads Value e) → IsLoud (returns C r k span e)
+      loud_returns k all span None u = loud_made (λ u. act.Return None) (bare_return span r) (loud_bare span r judged)
+      loud_returns k all span (Some e) u =
           loud_made (λ v. act.Return (Some v)) (behind (typed_at C k (return_wanted r) e) (λ p. with_part p (value_return C.classes span r)))
-          (loud_behind (typed_at C k (return_wanted r) e) (λ p. with_part p (value_return C.classes span r)) (loud_value k all (return_wanted r) e) (λ v. loud_value_return span v r judged))
+          (loud_behind (typed_at C k (return_wanted r) e) (λ p. with_part p (value_return C.classes span r)) (loud_value k all (return_wanted r) e u) (λ v. loud_value_return span v r judged))
 
       mutual
-        loud_stmt : (loops : Bool) (k : Known) → AllTyped k.types → (s : StmtTree) → IsLoud (statement C r loops k s)
-        loud_stmt loops k all (node.at n span) = loud_made (λ a. on_line a span.line) (node_statement C r loops k span n) (loud_node loops k all span n)
+        loud_stmt : (loops : Bool) (k : Known) → AllTyped k.types → (s : StmtTree) → AreKnown C.meaning (stmt_sights home s) → IsLoud (statement C r loops k s)
+        loud_stmt loops k all (node.at n span) u = loud_made (λ a. on_line a span.line) (node_statement C r loops k span n) (loud_node loops k all span n u)
 
-        loud_node : (loops : Bool) (k : Known) → AllTyped k.types → (span : Span) (n : StmtNode) → IsLoud (node_statement C r loops k span n)
-        loud_node loops k all span (node.Do e) = loud_made act.Do (typed_at C k _ e) (loud_value k all _ e)
-        loud_node loops k all span (node.Assign target e) = loud_assigns k all span target e
-        loud_node loops k all span (node.Annot target mark e) = loud_annotates k all span (name_in target) target mark e
-        loud_node loops k all span (node.Aug target op e) = loud_updates k all span target op e
-        loud_node loops k all span (node.Return e) = loud_returns k all span e
-        loud_node loops k all span node.Pass = loud_is act.Pass
-        loud_node loops k all span (node.Global names) = loud_is act.Pass
-        loud_node loops k all span node.Break = loud_in_loop r C loops span _ act.Break
-        loud_node loops k all span node.Continue = loud_in_loop r C loops span _ act.Continue
-        loud_node loops k all span (node.If arms other) =
+        loud_node : (loops : Bool) (k : Known) → AllTyped k.types → (span : Span) (n : StmtNode) → AreKnown C.meaning (stmt_node_sights home n span) → IsLoud (node_statement C r loops k span n)
+        loud_node loops k all span (node.Do e) u = loud_made act.Do (typed_at C k _ e) (loud_value k all _ e u)
+        loud_node loops k all span (node.Assign target e) u = loud_assigns k all span target e u
+        loud_node loops k all span (node.Annot target mark e) u = loud_annotates k all span (name_in target) target mark e u
+        loud_node loops k all span (node.Aug target op e) u = loud_updates k all span target op e u
+        loud_node loops k all span (node.Return e) u = loud_returns k all span e u
+        loud_node loops k all span node.Pass u = loud_is act.Pass
+        loud_node loops k all span (node.Global names) u = loud_is act.Pass
+        loud_node loops k all span node.Break u = loud_in_loop r C loops span _ act.Break
+        loud_node loops k all span node.Continue u = loud_in_loop r C loops span _ act.Continue
+        loud_node loops k all span (node.If arms other) u =
             let w = arms_after C (setting_out k) arms in
             let s = branches C r loops (setting_out k) arms in
             let t = block C r loops w.at other in
-            loud_made (λ p. act.If (arms_of p.0) (suite_of p.1)) (both s t) (loud_both_then s t (loud_arms loops (setting_out k) all arms) (λ q. loud_block loops w.at (quiet_arms loops (setting_out k) all arms q) other))
-        loud_node loops k all span (node.While e body) =
+            loud_made (λ p. act.If (arms_of p.0) (suite_of p.1)) (both s t) (loud_both_then s t (loud_arms loops (setting_out k) all arms (front (arms_sights home arms) (suite_sights home other) u)) (λ q. loud_block loops w.at (quiet_arms loops (setting_out k) all arms (front (arms_sights home arms) (suite_sights home other) u) q) other (back (arms_sights home arms) (suite_sights home other) u)))
+        loud_node loops k all span (node.While e body) u =
             let l = entering C k (node.at (node.While e body) span) in
             let s = condition C l e in
             let t = block C r true (where_test C l true e) body in
-            loud_made (λ p. act.While p.0 (suite_of p.1)) (both s t) (loud_both s t (loud_condition l all e) (loud_block true (where_test C l true e) all body))
-        loud_node loops k all span (node.For target e body) =
+            loud_made (λ p. act.While p.0 (suite_of p.1)) (both s t) (loud_both s t (loud_condition l all e (front (reads Value e) (suite_sights home body) u)) (loud_block true (where_test C l true e) all body (back (reads Value e) (suite_sights home body) u)))
+        loud_node loops k all span (node.For target e body) u =
             let here = node.at (node.For target e body) span in
             let s = for_head C k span target e in
             let l = in_for C k here span target e in
             let t = block C r true l body in
-            loud_made (λ p. loop_of p.0.0 p.0.1 (suite_of p.1)) (both s t) (loud_both_then s t (loud_head k all span target e) (λ q. loud_block true l (quiet_head k all here span target e q) body))
-        loud_node loops k all span _ = loud_fails span _
+            loud_made (λ p. loop_of p.0.0 p.0.1 (suite_of p.1)) (both s t) (loud_both_then s t (loud_head k all span target e (front (target_sights target) (reads Value e ++ suite_sights home body) u) (front (reads Value e) (suite_sights home body) (back (target_sights target) (reads Value e ++ suite_sights home body) u))) (λ q. loud_block true l (quiet_head k all here span target e (front (target_sights target) (reads Value e ++ suite_sights home body) u) (front (reads Value e) (suite_sights home body) (back (target_sights target) (reads Value e ++ suite_sights home body) u)) q) body (back (reads Value e) (suite_sights home body) (back (target_sights target) (reads Value e ++ suite_sights home body) u))))
+        loud_node loops k all span _ u = loud_fails span _
 
-        pub loud_block : (loops : Bool) (k : Known) → AllTyped k.types → (body : Suite) → IsLoud (block C r loops k body)
-        loud_block loops k all no_stmts = loud_is []
-        loud_block loops k all (stmt_then s more) =
+        pub loud_block : (loops : Bool) (k : Known) → AllTyped k.types → (body : Suite) → AreKnown C.meaning (suite_sights home body) → IsLoud (block C r loops k body)
+        loud_block loops k all no_stmts u = loud_is []
+        loud_block loops k all (stmt_then s more) u =
             let one = statement C r loops k s in
             let rest = block C r loops (after C k s) more in
-            loud_if (is_definition s) (block C r loops k more) (row_then one rest) (loud_block loops k all more) (loud_then one rest (loud_stmt loops k all s) (λ q. loud_block loops (after C k s) (quiet_stmt loops k all s q) more))
+            loud_if (is_definition s) (block C r loops k more) (row_then one rest) (loud_block loops k all more (back (stmt_sights home s) (suite_sights home more) u)) (loud_then one rest (loud_stmt loops k all s (front (stmt_sights home s) (suite_sights home more) u)) (λ q. loud_block loops (after C k s) (quiet_stmt loops k all s (front (stmt_sights home s) (suite_sights home more) u) q) more (back (stmt_sights home s) (suite_sights home more) u)))
 
-        loud_arms : (loops : Bool) (w : Way) → AllTyped w.at.types → (arms : Arms) → IsLoud (branches C r loops w arms)
-        loud_arms loops w all no_arms = loud_is []
-        loud_arms loops w all (arm_then e body more) =
+        loud_arms : (loops : Bool) (w : Way) → AllTyped w.at.types → (arms : Arms) → AreKnown C.meaning (arms_sights home arms) → IsLoud (branches C r loops w arms)
+        loud_arms loops w all no_arms u = loud_is []
+        loud_arms loops w all (arm_then e body more) u =
+            let ue = front (reads Value e) (suite_sights home body ++ arms_sights home more) u in
+            let ub = front (suite_sights home body) (arms_sights home more) (back (reads Value e) (suite_sights home body ++ arms_sights home more) u) in
+            let um = back (suite_sights home body) (arms_sights home more) (back (reads Value e) (suite_sights home body ++ arms_sights home more) u) in
             let s = condition C w.at e in
             let l = where_test C w.at true e in
             let t = block C r loops l body in
             let next = behind_arm C w e (is_closed body) (block_after C l body) in
             let one = made (λ p. (p.0, suite_of p.1)) (both s t) in
-            loud_then one (branches C r loops next more) (loud_made (λ p. (p.0, suite_of p.1)) (both s t) (loud_both s t (loud_condition w.at all e) (loud_block loops l all body)))
-            (λ q. loud_arms loops next (quiet_block loops l all body (none_behind s.said t.said q)) more)
+            loud_then one (branches C r loops next more) (loud_made (λ p. (p.0, suite_of p.1)) (both s t) (loud_both s t (loud_condition w.at all e ue) (loud_block loops l all body ub)))
+            (λ q. loud_arms loops next (quiet_block loops l all body ub (none_behind s.said t.said q)) more um)
 
-        quiet_stmt : (loops : Bool) (k : Known) → AllTyped k.types → (s : StmtTree) → (statement C r loops k s).said ≡ [] → AllTyped (after C k s).types
-        quiet_stmt loops k all (node.at n span) h = quiet_node loops k all span n h
+        quiet_stmt : (loops : Bool) (k : Known) → AllTyped k.types → (s : StmtTree) → AreKnown C.meaning (stmt_sights home s) → (statement C r loops k s).said ≡ [] → AllTyped (after C k s).types
+        quiet_stmt loops k all (node.at n span) u h = quiet_node loops k all span n u h
 
-        quiet_node : (loops : Bool) (k : Known) → AllTyped k.types → (span : Span) (n : StmtNode) → (node_statement C r loops k span n).said ≡ [] → AllTyped (node_after C k span n).types
-        quiet_node loops k all span (node.Assign target e) h = quiet_assign k all span target e h
-        quiet_node loops k all span (node.Annot target mark e) h = quiet_annotated k all span (name_in target) target mark e refl h
-        quiet_node loops k all span (node.Aug target op e) h = quiet_update k all span target op e h
-        quiet_node loops k all span (node.If arms other) h =
+        quiet_node : (loops : Bool) (k : Known) → AllTyped k.types → (span : Span) (n : StmtNode) → AreKnown C.meaning (stmt_node_sights home n span) → (node_statement C r loops k span n).said ≡ [] → AllTyped (node_after C k span n).types
+        quiet_node loops k all span (node.Assign target e) u h = quiet_assign k all span target e u h
+        quiet_node loops k all span (node.Annot target mark e) u h = quiet_annotated k all span (name_in target) target mark e refl u h
+        quiet_node loops k all span (node.Aug target op e) u h = quiet_update k all span target op e u h
+        quiet_node loops k all span (node.If arms other) u h =
             let w = arms_after C (setting_out k) arms in
             let s = branches C r loops (setting_out k) arms in
             let t = block C r loops w.at other in
-            quiet_block loops w.at (quiet_arms loops (setting_out k) all arms (none_before s.said t.said h)) other (none_behind s.said t.said h)
-        quiet_node loops k all span (node.While e body) h =
+            quiet_block loops w.at (quiet_arms loops (setting_out k) all arms (front (arms_sights home arms) (suite_sights home other) u) (none_before s.said t.said h)) other (back (arms_sights home arms) (suite_sights home other) u) (none_behind s.said t.said h)
+        quiet_node loops k all span (node.While e body) u h =
             let l = entering C k (node.at (node.While e body) span) in
             let s = condition C l e in
             let t = block C r true (where_test C l true e) body in
-            quiet_block true (where_test C l true e) all body (none_behind s.said t.said h)
-        quiet_node loops k all span (node.For target e body) h =
+            quiet_block true (where_test C l true e) all body (back (reads Value e) (suite_sights home body) u) (none_behind s.said t.said h)
+        quiet_node loops k all span (node.For target e body) u h =
             let here = node.at (node.For target e body) span in
             let s = for_head C k span target e in
             let l = in_for C k here span target e in
             let t = block C r true l body in
-            quiet_block true l (quiet_head k all here span target e (none_before s.said t.said h)) body (none_behind s.said t.said h)
-        quiet_node loops k all span _ h = all
+            quiet_block true l (quiet_head k all here span target e (front (target_sights target) (reads Value e ++ suite_sights home body) u) (front (reads Value e) (suite_sights home body) (back (target_sights target) (reads Value e ++ suite_sights home body) u)) (none_before s.said t.said h)) body (back (reads Value e) (suite_sights home body) (back (target_sights target) (reads Value e ++ suite_sights home body) u)) (none_behind s.said t.said h)
+        quiet_node loops k all span _ u h = all
 
-        pub quiet_block : (loops : Bool) (k : Known) → AllTyped k.types → (body : Suite) → (block C r loops k body).said ≡ [] → AllTyped (block_after C k body).types
-        quiet_block loops k all no_stmts h = all
-        quiet_block loops k all (stmt_then s more) h =
+        pub quiet_block : (loops : Bool) (k : Known) → AllTyped k.types → (body : Suite) → AreKnown C.meaning (suite_sights home body) → (block C r loops k body).said ≡ [] → AllTyped (block_after C k body).types
+        quiet_block loops k all no_stmts u h = all
+        quiet_block loops k all (stmt_then s more) u h =
             let one = statement C r loops k s in
             let rest = block C r loops (after C k s) more in
-            quiet_step k s more (block C r loops k more) (row_then one rest) (is_definition s) refl (λ q. quiet_block loops k all more q)
-            (λ q. quiet_block loops (after C k s) (quiet_stmt loops k all s (none_before one.said rest.said q)) more (none_behind one.said rest.said q)) h
+            quiet_step k s more (block C r loops k more) (row_then one rest) (is_definition s) refl (λ q. quiet_block loops k all more (back (stmt_sights home s) (suite_sights home more) u) q)
+            (λ q. quiet_block loops (after C k s) (quiet_stmt loops k all s (front (stmt_sights home s) (suite_sights home more) u) (none_before one.said rest.said q)) more (back (stmt_sights home s) (suite_sights home more) u) (none_behind one.said rest.said q)) h
 
-        quiet_arms : (loops : Bool) (w : Way) → AllTyped w.at.types → (arms : Arms) → (branches C r loops w arms).said ≡ [] → AllTyped (arms_after C w arms).at.types
-        quiet_arms loops w all no_arms h = all
-        quiet_arms loops w all (arm_then e body more) h =
+        quiet_arms : (loops : Bool) (w : Way) → AllTyped w.at.types → (arms : Arms) → AreKnown C.meaning (arms_sights home arms) → (branches C r loops w arms).said ≡ [] → AllTyped (arms_after C w arms).at.types
+        quiet_arms loops w all no_arms u h = all
+        quiet_arms loops w all (arm_then e body more) u h =
+            let ub = front (suite_sights home body) (arms_sights home more) (back (reads Value e) (suite_sights home body ++ arms_sights home more) u) in
+            let um = back (suite_sights home body) (arms_sights home more) (back (reads Value e) (suite_sights home body ++ arms_sights home more) u) in
             let s = condition C w.at e in
             let l = where_test C w.at true e in
             let t = block C r loops l body in
             let next = behind_arm C w e (is_closed body) (block_after C l body) in
             let one : Seen (TypedExpr × TypedSuite) = made (λ p. (p.0, suite_of p.1)) (both s t) in
             let rest = branches C r loops next more in
-            quiet_arms loops next (quiet_block loops l all body (none_behind s.said t.said (none_before one.said rest.said h))) more (none_behind one.said rest.said h)
+            quiet_arms loops next (quiet_block loops l all body ub (none_behind s.said t.said (none_before one.said rest.said h))) more um (none_behind one.said rest.said h)

@@ -1,4 +1,3 @@
 pub mod Statements
 pub mod WellTyped
 pub mod Modules
-pub mod Variables

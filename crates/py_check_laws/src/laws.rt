@@ -1,9 +1,9 @@
 //! The laws. The calls do nothing.
-ghost use Rattle.py_check_laws.specs.Modules.{QuietBodiesFixNothing, QuietModuleIsTyped, QuietModuleIsWellTyped, QuietModuleNamesDiffer, QuietModuleStands, QuietModuleTypesVariables};
+ghost use Rattle.py_check_laws.specs.Modules.{QuietModuleFixesTypes, QuietModuleIsTyped, QuietModuleIsWellTyped, QuietModuleNamesDiffer, QuietModuleStands, QuietModuleTypesVariables};
 ghost use Rattle.py_check_laws.specs.Statements.{QuietBlockIsTyped, TypedBlockIsWellTyped};
-ghost use Rattle.py_check_laws.specs.Variables.{AnnotationsGiveTypes, BindingsGiveTypes, ModuleFixesTypes, OnlyBindingsGiveTypes, TypesStay};
 
-/// Where no name in reach is without a type, a block of which nothing is said is typed whole, and no name is without a type behind it.
+/// Where no name in reach is without a type and each name in a block is known, a block of which nothing is said is typed whole, and no
+/// name is without a type behind it.
 pub fn what_is_not_typed_in_a_block_has_said_why()
     ensures { QuietBlockIsTyped }
 {}
@@ -11,32 +11,6 @@ pub fn what_is_not_typed_in_a_block_has_said_why()
 /// What is typed in a block is well typed, and what typing knows behind it is known there.
 pub fn what_is_typed_in_a_block_is_well_typed()
     ensures { TypedBlockIsWellTyped }
-{}
-
-/// Behind any statements a variable that had a type, or had none for good, is as it was.
-pub fn variables_keep_their_types()
-    ensures { TypesStay }
-{}
-
-/// Statements that do not bind a name leave its variable as it is: with a variable that keeps what it has, its type is what its
-/// first binding in the text gives.
-pub fn only_bindings_give_types()
-    ensures { OnlyBindingsGiveTypes }
-{}
-
-/// Behind statements that bind the name of a variable, none of them a `try`, it has a type, or has none for good.
-pub fn bindings_give_types()
-    ensures { BindingsGiveTypes }
-{}
-
-/// Behind the own statements of a module without a `try` each of its variables has a type, or has none for good.
-pub fn statements_of_a_module_fix_types()
-    ensures { ModuleFixesTypes }
-{}
-
-/// A variable of a module whose first binding is annotated has the type of that annotation.
-pub fn annotations_give_types()
-    ensures { AnnotationsGiveTypes }
 {}
 
 /// A module of which nothing is said is typed whole: no part of its typed tree stands for what has no typed form.
@@ -49,9 +23,9 @@ pub fn variables_of_a_quiet_module_have_types()
     ensures { QuietModuleTypesVariables }
 {}
 
-/// In a module of which nothing is said the body of a function changes the type of no variable of the module.
-pub fn bodies_of_a_quiet_module_fix_no_types()
-    ensures { QuietBodiesFixNothing }
+/// In a module of which nothing is said the module's own statements fix the types of its variables: no body of a function changes one.
+pub fn statements_of_a_quiet_module_fix_types()
+    ensures { QuietModuleFixesTypes }
 {}
 
 /// In a module of which nothing is said the module's own statements and the bodies of its functions are well typed.
