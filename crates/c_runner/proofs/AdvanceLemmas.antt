@@ -22,11 +22,10 @@ use Rattle.c_runner_deeds.specs.declared.ending.Ending.{Ending}
 use Rattle.c_runner_deeds.specs.declared.ending.Ending.TheVariants as ending
 use Rattle.c_runner.specs.declared.refusal.Refusal.{Refusal}
 use Rattle.c_runner.specs.declared.refusal.Refusal.TheVariants.{InputFault, WriteFault, Memory}
-use Rattle.c_runner_deeds.specs.declared.state.State.{State}
 use Rattle.c_runner.specs.Advancing.{HandsFront, HandsAll, Fetches, UsesLines, StaysNear, Moves, ReadsOn, Stalls, Advances, refusal_of_read}
 use Rattle.c_runner_deeds.specs.Handing.{HandsOn}
 use Rattle.c_runner.specs.Ran.{line_count}
-use Rattle.c_runner_deeds.specs.States.{Rest, state_of, next_of, Leads}
+use Rattle.c_runner_deeds.specs.States.{Rest, state_of, next_of, Leads, Seen}
 use Rattle.c_runner.specs.Waiting.{input_step, Asks, Steps, before, behind, Receives}
 use Rattle.c_runner.proofs.Running.{no_front, no_rest}
 
@@ -65,11 +64,11 @@ fetch_failed reader reader' held held' out_tells sink sink' Untouched in_tells l
 )
 
 -- ---- a step that asks for a line
-pub asks_of : (does : MachineState → Next) (old asked : State) (why : Pause) (target : Option ℕ) → why ≡ Waits target → Steps does (Err why) old asked → Asks does target old asked
+pub asks_of : (does : MachineState → Next) (old asked : Seen) (why : Pause) (target : Option ℕ) → why ≡ Waits target → Steps does (Err why) old asked → Asks does target old asked
 asks_of does old asked why target is steps = subst (λ p. Steps does (Err p) old asked) is steps
 
 -- ---- a step that asks for nothing
-pub moves_at_once : (does : MachineState → Next) (old new : State) (reader : ReaderState) (out_tells : Bool) (sink : List ℕ) (Untouched : Type 0) (in_tells : Bool) (left : List ℕ) (ending : Option Ending) → Untouched → Leads does ending old new → Moves does old new reader reader out_tells sink sink Untouched in_tells left left ending
+pub moves_at_once : (does : MachineState → Next) (old new : Seen) (reader : ReaderState) (out_tells : Bool) (sink : List ℕ) (Untouched : Type 0) (in_tells : Bool) (left : List ℕ) (ending : Option Ending) → Untouched → Leads does ending old new → Moves does old new reader reader out_tells sink sink Untouched in_tells left left ending
 moves_at_once does old new reader out_tells sink Untouched in_tells left ending same step = record {
   kept = old.output;
   hands = ([], refl, λ t. sym (append-nil sink), λ none. same);
@@ -239,7 +238,7 @@ some_used reader reader' taken used cut none =
     let some = piece_some (reader.held ++ (taken ++ [])) used (pieces (reader'.held ++ [])) (cut [] AtEof (λ e. (refl, refl))) in
     absurd (omega (arith, some, ap length none))
 
-stays_near : (item : Item) (target : Option ℕ) (o : Option Ending) (mid new : State) (reader reader' : ReaderState) (taken : List ℕ) → Receives target item o mid new → (found : Found item reader reader' taken) → (o ≡ Some ending.Over) ⊎ StaysNear reader reader' taken found.uses.used
+stays_near : (item : Item) (target : Option ℕ) (o : Option Ending) (mid new : Seen) (reader reader' : ReaderState) (taken : List ℕ) → Receives target item o mid new → (found : Found item reader reader' taken) → (o ≡ Some ending.Over) ⊎ StaysNear reader reader' taken found.uses.used
 stays_near (Line text) target o mid new reader reader' taken receives found = inr (record { near = λ h. found.near; quiet = some_used reader reader' taken found.uses.used found.cuts })
 stays_near Bad target o mid new reader reader' taken receives found = inr (record { near = λ h. found.near; quiet = some_used reader reader' taken found.uses.used found.cuts })
 stays_near Eof target o mid new reader reader' taken receives found = inr (record {
@@ -269,7 +268,7 @@ next_unwritten None output t u = u
 next_unwritten (Some e) output t u = u
 
 -- a line that is there adds no output
-received_output : (target : Option ℕ) (item : Item) (o : Option Ending) (mid new : State) → Receives target item o mid new → new.output ≡ mid.output
+received_output : (target : Option ℕ) (item : Item) (o : Option Ending) (mid new : Seen) → Receives target item o mid new → new.output ≡ mid.output
 received_output target item o mid new receives =
     let rest : Rest = record { items = items.Eof; handed = []; made = [] } in
     let s = state_of (record rest { items = before item items.Eof }) mid in
@@ -293,11 +292,11 @@ ended_ready reader e = rw e (by (list_any is_line_feed reader.held) (nat_lt most
     by false far = refl
 
 -- what was handed on before
-handed_same : (old : State) (kept handed sent made : List ℕ) (lines : Items) → old.output ≡ sent ++ kept → state_of (record { items = lines; handed = handed; made = made }) old ≡ state_of (record { items = lines; handed = handed ++ sent; made = made }) (record old { output = kept })
+handed_same : (old : Seen) (kept handed sent made : List ℕ) (lines : Items) → old.output ≡ sent ++ kept → state_of (record { items = lines; handed = handed; made = made }) old ≡ state_of (record { items = lines; handed = handed ++ sent; made = made }) (record old { output = kept })
 handed_same old kept handed sent made lines e =
     ap (λ l. record (state_of (record { items = lines; handed = handed; made = made }) old) { output = l }) (ap (λ l. handed ++ l) e ∙ sym (append_assoc handed sent kept))
 
-moves_from : (does : MachineState → Next) (old new : State) (target : Option ℕ) (item : Item) (reader reader' : ReaderState) (out_tells : Bool) (sink sink' : List ℕ) (Untouched : Type 0) (in_tells : Bool) (left left' kept : List ℕ) (o : Option Ending) → Asks does target old old → HandsOn out_tells sink sink' old.output kept Untouched → Takes reader in_tells left left' (Found item reader reader') → (IsTrue in_tells → EndIsSeen reader left → EndIsSeen reader' left') → (is_ready reader ≡ false → kept ≡ []) → Receives target item o (record old { output = kept }) new → Moves does old new reader reader' out_tells sink sink' Untouched in_tells left left' o
+moves_from : (does : MachineState → Next) (old new : Seen) (target : Option ℕ) (item : Item) (reader reader' : ReaderState) (out_tells : Bool) (sink sink' : List ℕ) (Untouched : Type 0) (in_tells : Bool) (left left' kept : List ℕ) (o : Option Ending) → Asks does target old old → HandsOn out_tells sink sink' old.output kept Untouched → Takes reader in_tells left left' (Found item reader reader') → (IsTrue in_tells → EndIsSeen reader left → EndIsSeen reader' left') → (is_ready reader ≡ false → kept ≡ []) → Receives target item o (record old { output = kept }) new → Moves does old new reader reader' out_tells sink sink' Untouched in_tells left left' o
 moves_from does old new target item reader reader' out_tells sink sink' Untouched in_tells left left' kept o asks hands takes seen emptied receives =
     let found = takes.outcome in
     record {
@@ -323,14 +322,14 @@ moves_from does old new target item reader reader' out_tells sink sink' Untouche
       );
     }
 
-pub moves_on : (does : MachineState → Next) (old asked new : State) (target : Option ℕ) (item : Item) (reader reader' : ReaderState) (out_tells : Bool) (sink sink' : List ℕ) (Untouched : Type 0) (in_tells : Bool) (left left' kept : List ℕ) (o : Option Ending) → Asks does target old asked → HandsOn out_tells sink sink' asked.output kept Untouched → Takes reader in_tells left left' (Found item reader reader') → (IsTrue in_tells → EndIsSeen reader left → EndIsSeen reader' left') → (is_ready reader ≡ false → kept ≡ []) → Receives target item o (record asked { output = kept }) new → Moves does old new reader reader' out_tells sink sink' Untouched in_tells left left' o
+pub moves_on : (does : MachineState → Next) (old asked new : Seen) (target : Option ℕ) (item : Item) (reader reader' : ReaderState) (out_tells : Bool) (sink sink' : List ℕ) (Untouched : Type 0) (in_tells : Bool) (left left' kept : List ℕ) (o : Option Ending) → Asks does target old asked → HandsOn out_tells sink sink' asked.output kept Untouched → Takes reader in_tells left left' (Found item reader reader') → (IsTrue in_tells → EndIsSeen reader left → EndIsSeen reader' left') → (is_ready reader ≡ false → kept ≡ []) → Receives target item o (record asked { output = kept }) new → Moves does old new reader reader' out_tells sink sink' Untouched in_tells left left' o
 moves_on does old asked new target item reader reader' out_tells sink sink' Untouched in_tells left left' kept o asks hands takes seen emptied receives =
     subst (λ s. Moves does s new reader reader' out_tells sink sink' Untouched in_tells left left' o) asks.same
     (moves_from does asked new target item reader reader' out_tells sink sink' Untouched in_tells left left' kept o (subst (λ s. Asks does target s asked) (sym asks.same) asks) hands takes seen emptied receives)
 
 -- ---- a step that got no line
 -- memory ran out where a line was asked for
-stalls : (does : MachineState → Next) (old : State) (target : Option ℕ) (reader : ReaderState) (out_tells : Bool) (sink sink' : List ℕ) (Untouched : Type 0) (in_tells : Bool) (left left' : List ℕ) (P : List ℕ → Type 0) → Asks does target old old → HandsFront out_tells sink sink' old.output Untouched → Takes reader in_tells left left' P → ((taken : List ℕ) → P taken → IsForOneLine reader taken) → (is_ready reader ≡ false → HandsAll out_tells sink sink' old.output Untouched) → Stalls does old reader out_tells sink sink' Untouched in_tells left left'
+stalls : (does : MachineState → Next) (old : Seen) (target : Option ℕ) (reader : ReaderState) (out_tells : Bool) (sink sink' : List ℕ) (Untouched : Type 0) (in_tells : Bool) (left left' : List ℕ) (P : List ℕ → Type 0) → Asks does target old old → HandsFront out_tells sink sink' old.output Untouched → Takes reader in_tells left left' P → ((taken : List ℕ) → P taken → IsForOneLine reader taken) → (is_ready reader ≡ false → HandsAll out_tells sink sink' old.output Untouched) → Stalls does old reader out_tells sink sink' Untouched in_tells left left'
 stalls does old target reader out_tells sink sink' Untouched in_tells left left' P asks hands takes one all = record {
   hands = hands;
   takes = record { taken = takes.taken; given = takes.given; within = λ h. takes.within };
@@ -342,14 +341,14 @@ stalls does old target reader out_tells sink sink' Untouched in_tells left left'
     by false r = inr (record { hands = all r; target = target; asks = asks.leads; one = one takes.taken takes.outcome })
 
 -- memory ran out where none was asked for
-pub stalls_at_once : (does : MachineState → Next) (old : State) (reader : ReaderState) (out_tells : Bool) (sink : List ℕ) (Untouched : Type 0) (in_tells : Bool) (left : List ℕ) → Untouched → Stalls does old reader out_tells sink sink Untouched in_tells left left
+pub stalls_at_once : (does : MachineState → Next) (old : Seen) (reader : ReaderState) (out_tells : Bool) (sink : List ℕ) (Untouched : Type 0) (in_tells : Bool) (left : List ℕ) → Untouched → Stalls does old reader out_tells sink sink Untouched in_tells left left
 stalls_at_once does old reader out_tells sink Untouched in_tells left same = record {
   hands = record { front = λ t. TakesFront-none sink sink old.output refl; alone = λ none. same };
   takes = record { taken = []; given = λ t. refl; within = λ h. omega (arith, h) };
   why = inl refl;
 }
 
-failed_from : (does : MachineState → Next) (old new : State) (target : Option ℕ) (reader reader' : ReaderState) (kept : List ℕ) (out_tells : Bool) (sink sink' : List ℕ) (Untouched : Type 0) (in_tells : Bool) (left left' : List ℕ) (e : Refusal) → Asks does target old old → Fetches reader reader' old.output kept out_tells sink sink' Untouched in_tells left left' (Err e) → Advances does old new reader reader' out_tells sink sink' Untouched in_tells left left' (Err e)
+failed_from : (does : MachineState → Next) (old new : Seen) (target : Option ℕ) (reader reader' : ReaderState) (kept : List ℕ) (out_tells : Bool) (sink sink' : List ℕ) (Untouched : Type 0) (in_tells : Bool) (left left' : List ℕ) (e : Refusal) → Asks does target old old → Fetches reader reader' old.output kept out_tells sink sink' Untouched in_tells left left' (Err e) → Advances does old new reader reader' out_tells sink sink' Untouched in_tells left left' (Err e)
 failed_from does old new target reader reader' kept out_tells sink sink' Untouched in_tells left left' InputFault asks fetches = record {
   hands = fetches.0;
   takes = fetches.1;
@@ -360,13 +359,13 @@ failed_from does old new target reader reader' kept out_tells sink sink' Untouch
 failed_from does old new target reader reader' kept out_tells sink sink' Untouched in_tells left left' Memory asks fetches =
     stalls does old target reader out_tells sink sink' Untouched in_tells left left' (IsForOneLine reader) asks fetches.0 fetches.1 (λ taken one. one) fetches.2
 
-pub advance_failed : (does : MachineState → Next) (old asked new : State) (target : Option ℕ) (reader reader' : ReaderState) (kept : List ℕ) (out_tells : Bool) (sink sink' : List ℕ) (Untouched : Type 0) (in_tells : Bool) (left left' : List ℕ) (e : Refusal) → Asks does target old asked → Fetches reader reader' asked.output kept out_tells sink sink' Untouched in_tells left left' (Err e) → Advances does old new reader reader' out_tells sink sink' Untouched in_tells left left' (Err e)
+pub advance_failed : (does : MachineState → Next) (old asked new : Seen) (target : Option ℕ) (reader reader' : ReaderState) (kept : List ℕ) (out_tells : Bool) (sink sink' : List ℕ) (Untouched : Type 0) (in_tells : Bool) (left left' : List ℕ) (e : Refusal) → Asks does target old asked → Fetches reader reader' asked.output kept out_tells sink sink' Untouched in_tells left left' (Err e) → Advances does old new reader reader' out_tells sink sink' Untouched in_tells left left' (Err e)
 advance_failed does old asked new target reader reader' kept out_tells sink sink' Untouched in_tells left left' e asks fetches =
     subst (λ s. Advances does s new reader reader' out_tells sink sink' Untouched in_tells left left' (Err e)) asks.same
     (failed_from does asked new target reader reader' kept out_tells sink sink' Untouched in_tells left left' e (subst (λ s. Asks does target s asked) (sym asks.same) asks) fetches)
 
 -- a line came, and there was no memory for it
-pub receive_refused : (does : MachineState → Next) (old asked new : State) (target : Option ℕ) (item : Item) (reader reader' : ReaderState) (kept : List ℕ) (out_tells : Bool) (sink sink' : List ℕ) (Untouched : Type 0) (in_tells : Bool) (left left' : List ℕ) → Asks does target old asked → HandsOn out_tells sink sink' asked.output kept Untouched → Takes reader in_tells left left' (Found item reader reader') → (is_ready reader ≡ false → kept ≡ []) → Advances does old new reader reader' out_tells sink sink' Untouched in_tells left left' (Err Memory)
+pub receive_refused : (does : MachineState → Next) (old asked new : Seen) (target : Option ℕ) (item : Item) (reader reader' : ReaderState) (kept : List ℕ) (out_tells : Bool) (sink sink' : List ℕ) (Untouched : Type 0) (in_tells : Bool) (left left' : List ℕ) → Asks does target old asked → HandsOn out_tells sink sink' asked.output kept Untouched → Takes reader in_tells left left' (Found item reader reader') → (is_ready reader ≡ false → kept ≡ []) → Advances does old new reader reader' out_tells sink sink' Untouched in_tells left left' (Err Memory)
 receive_refused does old asked new target item reader reader' kept out_tells sink sink' Untouched in_tells left left' asks hands takes emptied =
     subst (λ s. Advances does s new reader reader' out_tells sink sink' Untouched in_tells left left' (Err Memory)) asks.same
     (stalls does asked target reader out_tells sink sink' Untouched in_tells left left' (Found item reader reader') (subst (λ s. Asks does target s asked) (sym asks.same) asks)

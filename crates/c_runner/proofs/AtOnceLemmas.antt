@@ -14,10 +14,9 @@ use Rattle.c_core.specs.declared.primitive.TaggedPrim.TheVariants as tagged
 use Rattle.c_core.specs.Machine.{MachineState, refs_in}
 use Rattle.c_core.specs.Step.{Next, Goes, Effect, Says, applied, called, if_calm, if_some, next_line, primitive_step, with_cells, with_target}
 use Rattle.c_core.proofs.ReleaseLemmas.{release-nothing}
-use Rattle.c_runner_deeds.specs.declared.state.State.{State}
 use Rattle.c_runner_deeds.specs.Deeds.{performed, tagged_done, then_tried, two_done, two_ints}
 use Rattle.c_runner_deeds.specs.Parts.{int64_effect, two_effect, two_natives}
-use Rattle.c_runner_deeds.specs.States.{Rest, state_of}
+use Rattle.c_runner_deeds.specs.States.{Rest, state_of, Seen}
 use Rattle.c_runner_deeds.proofs.CallLemmas.{int64_called}
 use Rattle.c_runner_deeds.proofs.DeedLemmas.{tagged_called}
 use Rattle.cell_heap.specs.declared.word.Word.{Word}
@@ -40,7 +39,7 @@ no_box : (r : Result (ℤ × ℤ) Fault) (e : Effect) → then_tried (λ q. two_
 no_box (Ok q) e is = cc
 no_box (Err f) e is = cc
 
-module _ (rest : Rest) (old : State) (code : Code) (x : Option ℕ) (args : List CArg) (calm : old.pending ≡ None) (w : Word) where
+module _ (rest : Rest) (old : Seen) (code : Code) (x : Option ℕ) (args : List CArg) (calm : old.pending ≡ None) (w : Word) where
   abbrev s : MachineState
   s = state_of rest old
 

@@ -20,10 +20,9 @@ use Rattle.c_core.specs.Machine.{MachineState, refs_of}
 use Rattle.c_core.specs.Step as step
 use Rattle.c_core.specs.Step.{Next, Goes, Ends, Faulted, if_calm, if_some, if_there, if_result, if_none_left, if_in_order, if_return, if_passed, function_called, function_step, entered, returned}
 use Rattle.c_runner_deeds.specs.declared.state.Frame.{Frame}
-use Rattle.c_runner_deeds.specs.declared.state.State.{State}
 use Rattle.c_runner_deeds.specs.Parts.{if_argument}
 use Rattle.c_runner.specs.Parts.{unless_fault, back_in, handed_back}
-use Rattle.c_runner_deeds.specs.States.{Rest, IsSmall, frame_of, waiting, state_of, with_target}
+use Rattle.c_runner_deeds.specs.States.{Rest, IsSmall, frame_of, waiting, state_of, with_target, Seen}
 use Rattle.cell_heap.specs.declared.word.Word.{Word}
 use Rattle.cell_heap.specs.Contents as contents
 use Rattle.c_runner_deeds.proofs.FrameLemmas.{target_set}
@@ -124,7 +123,7 @@ none_of None e = refl
 none_of (Some a) e = absurd (cc)
 
 -- a function is not called where an argument may not be passed
-pub refused : (rest : Rest) (old : State) (code : Code) (g : CFunc) (f : ℕ) (target : Option ℕ) (args : List CArg) (ps : List Declared) (o : Option Fault) (why : Fault) (vars : List Word) → old.pending ≡ None → slice_get code.funcs f ≡ Some g → ps ≡ take g.params g.vars → ((go : List machine.Word → Next) → if_passed true (state_of rest old) (map (λ v. v.1) ps) args go ≡ unless_fault o (state_of rest old) (go (map contents.word_of vars))) → o ≡ Some why → function_called true (state_of rest old) code target args (Some f) ≡ Ends (Faulted why) (state_of rest old)
+pub refused : (rest : Rest) (old : Seen) (code : Code) (g : CFunc) (f : ℕ) (target : Option ℕ) (args : List CArg) (ps : List Declared) (o : Option Fault) (why : Fault) (vars : List Word) → old.pending ≡ None → slice_get code.funcs f ≡ Some g → ps ≡ take g.params g.vars → ((go : List machine.Word → Next) → if_passed true (state_of rest old) (map (λ v. v.1) ps) args go ≡ unless_fault o (state_of rest old) (go (map contents.word_of vars))) → o ≡ Some why → function_called true (state_of rest old) code target args (Some f) ≡ Ends (Faulted why) (state_of rest old)
 refused rest old code g f target args ps o why vars calm e is pass failed =
     let s = state_of rest old in
     let go : List machine.Word → Next = λ ws. Goes (entered true s target f (entry_words ws g)) in
@@ -135,7 +134,7 @@ refused rest old code g f target args ps o why vars calm e is pass failed =
     ∙ ap (λ h. unless_fault h s (go (map contents.word_of vars))) failed
 
 -- it is called where each may be passed
-pub enters : (rest : Rest) (old new : State) (code : Code) (g : CFunc) (f : ℕ) (target : Option ℕ) (args : List CArg) (ps : List Declared) (o : Option Fault) (vars : List Word) → old.pending ≡ None → slice_get code.funcs f ≡ Some g → ps ≡ take g.params g.vars → ((go : List machine.Word → Next) → if_passed true (state_of rest old) (map (λ v. v.1) ps) args go ≡ unless_fault o (state_of rest old) (go (map contents.word_of vars))) → o ≡ None → state_of rest new ≡ entered true (state_of rest old) target f (entry_words (map contents.word_of vars) g) → function_called true (state_of rest old) code target args (Some f) ≡ Goes (state_of rest new)
+pub enters : (rest : Rest) (old new : Seen) (code : Code) (g : CFunc) (f : ℕ) (target : Option ℕ) (args : List CArg) (ps : List Declared) (o : Option Fault) (vars : List Word) → old.pending ≡ None → slice_get code.funcs f ≡ Some g → ps ≡ take g.params g.vars → ((go : List machine.Word → Next) → if_passed true (state_of rest old) (map (λ v. v.1) ps) args go ≡ unless_fault o (state_of rest old) (go (map contents.word_of vars))) → o ≡ None → state_of rest new ≡ entered true (state_of rest old) target f (entry_words (map contents.word_of vars) g) → function_called true (state_of rest old) code target args (Some f) ≡ Goes (state_of rest new)
 enters rest old new code g f target args ps o vars calm e is pass none last =
     let s = state_of rest old in
     let go : List machine.Word → Next = λ ws. Goes (entered true s target f (entry_words ws g)) in
@@ -147,7 +146,7 @@ enters rest old new code g f target args ps o vars calm e is pass none last =
     ∙ ap Goes (sym last)
 
 -- the innermost frame that waits goes on
-pub handed : (rest : Rest) (old : State) (caller callee dest owner top : Frame) (below : List Frame) (w : Word) → old.below ≡ below ++ caller ∷ [] → callee ≡ old.top → dest ≡ caller → owner ≡ record dest { ledger = more_of (refs_of (contents.word_of w)) dest.ledger } → top ≡ with_target callee.into w owner → handed_back (contents.word_of w) (state_of rest old) ≡ state_of rest (record old { top = top; below = below })
+pub handed : (rest : Rest) (old : Seen) (caller callee dest owner top : Frame) (below : List Frame) (w : Word) → old.below ≡ below ++ caller ∷ [] → callee ≡ old.top → dest ≡ caller → owner ≡ record dest { ledger = more_of (refs_of (contents.word_of w)) dest.ledger } → top ≡ with_target callee.into w owner → handed_back (contents.word_of w) (state_of rest old) ≡ state_of rest (record old { top = top; below = below })
 handed rest old caller callee dest owner top below w e callee_is dest_is owner_is top_is =
     let s = state_of rest old in
     let owned : Frame → Frame = λ f. record f { ledger = more_of (refs_of (contents.word_of w)) f.ledger } in
@@ -159,7 +158,7 @@ handed rest old caller callee dest owner top below w e callee_is dest_is owner_i
     ∙ ap (λ f. state_of rest (record old { top = f; below = below })) last
 
 -- the ledger of that frame can be counted
-pub caller_small : (old : State) (caller : Frame) (below : List Frame) → IsSmall old → old.below ≡ below ++ caller ∷ [] → (c : ℕ) → times caller.ledger c < 2 ^ 128
+pub caller_small : (old : Seen) (caller : Frame) (below : List Frame) → IsSmall old → old.below ≡ below ++ caller ∷ [] → (c : ℕ) → times caller.ledger c < 2 ^ 128
 caller_small old caller below few e c =
     let all : owned_below (waiting old.below) c ≡ times caller.ledger c + owned_below (waiting below) c = ap (λ fs. owned_below fs c) (ap waiting e ∙ waiting-push below caller) in
     omega (arith, few.ledgers c, all)
@@ -169,7 +168,7 @@ return_at s w [] go some = absurd (some refl)
 return_at s w (f ∷ fs) go some = refl
 
 -- a frame that returns to another one
-pub returns_to : (rest : Rest) (old : State) (w : machine.Word) (next : Next) → old.below ≢ [] → if_in_order true (state_of rest old) w (state_of rest old).pending (if_result true (state_of rest old) w (λ l. if_none_left true (state_of rest old) l (Goes (handed_back w (state_of rest old))))) ≡ next → returned true (state_of rest old) w ≡ next
+pub returns_to : (rest : Rest) (old : Seen) (w : machine.Word) (next : Next) → old.below ≢ [] → if_in_order true (state_of rest old) w (state_of rest old).pending (if_result true (state_of rest old) w (λ l. if_none_left true (state_of rest old) l (Goes (handed_back w (state_of rest old))))) ≡ next → returned true (state_of rest old) w ≡ next
 returns_to rest old w next some is =
     let s = state_of rest old in
     ap (if_in_order true s w s.pending) (return_at s w (waiting old.below) _ (λ e. some (none_waits old.below e))) ∙ is

@@ -1,3 +1,4 @@
+pub mod OwnLemmas
 pub mod LiveLemmas
 pub mod FrameLemmas
 pub mod StateLemmas

@@ -1,5 +1,5 @@
 -- Lines that are done at once.
-use Rattle.std.proofs.Common.{◌≡◌, refl, sym, ap, subst, ◌∙◌, ℕ, zero, suc, ◌+◌, Bool, true, false, cond, List, Option, Some, None}
+use Rattle.std.proofs.Common.{◌≡◌, refl, sym, ap, subst, ◌∙◌, ℕ, zero, suc, ◌+◌, Bool, true, false, cond, Option, Some, None}
 use Rattle.std.specs.Prelude.{ℤ, IfSome, map, slice_get}
 use Rattle.std.specs.Option.{option_and_then, option_map}
 use Rattle.c_core.specs.declared.code.CFunc.{CFunc}
@@ -15,9 +15,8 @@ use Rattle.c_core.specs.Step as machine_step
 use Rattle.c_core.specs.Step.{Next, Goes, at_place, chosen, decremented, decremented_if_set, incremented, equals_error, if_some, jumped, label_at, literal_word, next_line, step_at, with_var}
 use Rattle.c_runner.specs.AtOnce.{Done, Wrote, Went, place_chosen, place_uncounted, place_behind}
 use Rattle.c_runner_deeds.specs.declared.state.Frame.{Frame}
-use Rattle.c_runner_deeds.specs.declared.state.State.{State}
 use Rattle.c_runner_deeds.specs.Parts.{is_there}
-use Rattle.c_runner_deeds.specs.States.{Rest, state_of, with_target}
+use Rattle.c_runner_deeds.specs.States.{Rest, state_of, with_target, Seen}
 use Rattle.c_runner_deeds.proofs.FrameLemmas.{there, target_set}
 use Rattle.c_runner_deeds.proofs.StateLemmas.{word_at}
 use Rattle.c_runner_table.specs.declared.naming.Target.{Target}
@@ -35,7 +34,7 @@ if_is None P f = tt
 if_is (Some a) P f = f a refl
 
 -- ---- what is done
-pub done_as : (does to : MachineState → Next) (b : Bool) (old new : State) → ((rest : Rest) → to (state_of rest old) ≡ does (state_of rest old)) → Done does b old new → Done to b old new
+pub done_as : (does to : MachineState → Next) (b : Bool) (old new : Seen) → ((rest : Rest) → to (state_of rest old) ≡ does (state_of rest old)) → Done does b old new → Done to b old new
 done_as does to true old new e h = (λ rest. e rest ∙ h.0 rest, h.1, h.2)
 done_as does to false old new e h = h
 
@@ -43,7 +42,7 @@ target_func : (x : Option ℕ) (w : Word) (f : Frame) → (with_target x w f).fu
 target_func None w f = refl
 target_func (Some x) w f = refl
 
-module _ (does : MachineState → Next) (old new : State) (b : Bool) where
+module _ (does : MachineState → Next) (old new : Seen) (b : Bool) where
   pub wrote : (x : Option ℕ) (o : Option Word) → IfSome o (λ w. (rest : Rest) → does (state_of rest old) ≡ Goes (next_line (machine_step.with_target x (word_of w) (state_of rest old)))) → Wrote x o b old new → Done does b old new
   wrote x None says h = subst (λ d. Done does d old new) (sym h.0) h.1
   wrote x (Some w) says h =
@@ -63,7 +62,7 @@ module _ (does : MachineState → Next) (old new : State) (b : Bool) where
       )
 
 -- ---- lines
-module _ (code : Code) (g : CFunc) (old : State) (function : slice_get code.funcs old.top.func ≡ Some g) where
+module _ (code : Code) (g : CFunc) (old : Seen) (function : slice_get code.funcs old.top.func ≡ Some g) where
   -- the word of another variable, and that of a literal
   pub moves : (line : Line) (x y : ℕ) (w : Word) → line ≡ Move x y → slice_get old.top.vars y ≡ Some w → is_there old.cells (word_of w) ≡ true → (rest : Rest) → step_at true code (state_of rest old) (Some line) ≡ Goes (next_line (with_var x (word_of w) (state_of rest old)))
   moves line x y w is e f rest =

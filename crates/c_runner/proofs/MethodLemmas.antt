@@ -23,13 +23,12 @@ use Rattle.c_core.specs.Machine as machine
 use Rattle.c_core.specs.Machine.{InstCell, MachineState}
 use Rattle.c_core.specs.Primitives.{AnInstance}
 use Rattle.c_core.specs.Step.{Next, Goes, Ends, Faulted, if_calm, if_some, if_true, if_variable, if_passed, entered, method_of, method_step, method_called, takes_and_gives, function_step}
-use Rattle.c_runner_deeds.specs.declared.state.State.{State}
 use Rattle.c_runner_table.specs.declared.naming.Methods.{Methods}
 use Rattle.c_runner.specs.Methods.{function_for, method_begins}
 use Rattle.c_runner_deeds.specs.Objects.{instance_in, object_of}
 use Rattle.c_runner_deeds.specs.Parts.{if_argument}
 use Rattle.c_runner.specs.Parts.{unless_fault}
-use Rattle.c_runner_deeds.specs.States.{Rest, state_of}
+use Rattle.c_runner_deeds.specs.States.{Rest, state_of, Seen}
 use Rattle.c_runner_table.specs.Targets.{functions_of, methods_of}
 use Rattle.slot_arena.specs.declared.key.Key.{Key}
 use Rattle.cell_heap.specs.declared.word.Word.{Word}
@@ -139,7 +138,7 @@ module _ (code : Code) (class : ℕ) where
     trait_found fs known = some_there n (slice_get k.traits place) fs (traits_at (Some fs) known) ∙ at_place
 
 -- ---- the object
-module _ (rest : Rest) (old : State) (code : Code) (target o : ℕ) (args : List ℕ) (entry : CClass → Option (List ℕ)) where
+module _ (rest : Rest) (old : Seen) (code : Code) (target o : ℕ) (args : List ℕ) (entry : CClass → Option (List ℕ)) where
   abbrev s : MachineState
   s = state_of rest old
 
@@ -168,7 +167,7 @@ module _ (rest : Rest) (old : State) (code : Code) (target o : ℕ) (args : List
   of_class q calm e = by_class calm ∙ ap (λ r. found s r (λ q. with (Cell q.0 (InstCell q.1.0 q.1.1)))) e
 
 -- ---- the function
-module _ (rest : Rest) (old : State) (code : Code) (target : ℕ) (args : List ℕ) where
+module _ (rest : Rest) (old : Seen) (code : Code) (target : ℕ) (args : List ℕ) where
   abbrev t : MachineState
   t = state_of rest old
 
@@ -203,7 +202,7 @@ module _ (rest : Rest) (old : State) (code : Code) (target : ℕ) (args : List �
     pub not_passed : (why : Fault) → r ≡ Some why → begins o ≡ Ends (Faulted why) t
     not_passed why failed = passes ∙ ap (λ p. unless_fault p t (enters f g (map contents.word_of words))) failed
 
-    pub method_entered : (new : State) → r ≡ None → state_of rest new ≡ entered true t (Some target) f (entry_words (map contents.word_of words) g) → begins o ≡ Goes (state_of rest new)
+    pub method_entered : (new : Seen) → r ≡ None → state_of rest new ≡ entered true t (Some target) f (entry_words (map contents.word_of words) g) → begins o ≡ Goes (state_of rest new)
     method_entered new none last =
         passes ∙ ap (λ p. unless_fault p t (enters f g (map contents.word_of words))) none ∙ ap Goes (sym last)
 

@@ -13,9 +13,8 @@ use Rattle.c_core.specs.Laws.{Reaches, Here, RunExists, RunKeepsCounts, RunStays
 use Rattle.c_core.specs.WellFormed.{WellFormed}
 use Rattle.c_runner_deeds.specs.declared.ending.Ending.{Ending}
 use Rattle.c_runner.specs.declared.report.Report.{Report}
-use Rattle.c_runner_deeds.specs.declared.state.State.{State}
 use Rattle.c_runner_deeds.specs.Handing.{HandsOn, has_bytes}
-use Rattle.c_runner_deeds.specs.States.{ending_of, Rest, IsSmall, first_rest, state_of, next_of}
+use Rattle.c_runner_deeds.specs.States.{ending_of, Rest, IsSmall, first_rest, state_of, next_of, Seen}
 use Rattle.c_runner.specs.Report.{live_cells, Reports}
 use Rattle.c_runner.proofs.StepLemmas.{Keeps, KeepsTo, step_keeps, some_left, one_taken, one_further, grows, reaches_on, goes_on}
 
@@ -43,7 +42,7 @@ rest_after lines handed made = record { items = lines; handed = handed; made = m
 
 -- a run of at most so many more steps goes on from a state, where these lines are left, the sink took what was handed on, and whether
 -- there was any output is known
-pub record Running (tells : Bool) (before now : List ℕ) (code : Code) (turns : ℕ) (items : Items) (left : ℕ) (any : Bool) (Untouched : Type 0) (state : State) (lines : Items) : Type 0 where
+pub record Running (tells : Bool) (before now : List ℕ) (code : Code) (turns : ℕ) (items : Items) (left : ℕ) (any : Bool) (Untouched : Type 0) (state : Seen) (lines : Items) : Type 0 where
   pub handed : List ℕ
   pub made : List ℕ
   pub taken : IsTrue tells → now ≡ before ++ handed
@@ -54,7 +53,7 @@ pub record Running (tells : Bool) (before now : List ℕ) (code : Code) (turns :
   pub reaches : Reaches code steps (start code turns items) (state_of (rest_after lines handed made) state)
   pub goes : go_on (step code) left (Goes (state_of (rest_after lines handed made) state)) ≡ machine_run turns items code
 
-pub at_start : (tells : Bool) (before : List ℕ) (code : Code) (turns left : ℕ) (items : Items) (Untouched : Type 0) (state : State) → Untouched → ((i : Items) → state_of (first_rest i) state ≡ start code turns i) → left ≡ most_steps turns code → Running tells before before code turns items left false Untouched state items
+pub at_start : (tells : Bool) (before : List ℕ) (code : Code) (turns left : ℕ) (items : Items) (Untouched : Type 0) (state : Seen) → Untouched → ((i : Items) → state_of (first_rest i) state ≡ start code turns i) → left ≡ most_steps turns code → Running tells before before code turns items left false Untouched state items
 at_start tells before code turns left items Untouched state same is count = record {
   handed = [];
   made = [];
@@ -68,7 +67,7 @@ at_start tells before code turns left items Untouched state same is count = reco
 }
 
 -- a run stopped so in a state, where these lines are left, and the sink took what was handed on
-pub record Stopped (tells : Bool) (before now : List ℕ) (any : Bool) (Untouched : Type 0) (state : State) (lines : Items) (ending : MachineEnding) (stop : Stop) : Type 0 where
+pub record Stopped (tells : Bool) (before now : List ℕ) (any : Bool) (Untouched : Type 0) (state : Seen) (lines : Items) (ending : MachineEnding) (stop : Stop) : Type 0 where
   pub handed : List ℕ
   pub made : List ℕ
   pub taken : IsTrue tells → now ≡ before ++ handed
@@ -76,7 +75,7 @@ pub record Stopped (tells : Bool) (before now : List ℕ) (any : Bool) (Untouche
   pub any_is : any ≡ has_bytes (handed ++ state.output)
   pub is : stop ≡ record { ending = ending; state = state_of (rest_after lines handed made) state }
 
-module _ (tells : Bool) (before now : List ℕ) (code : Code) (turns : ℕ) (items : Items) (left : ℕ) (any : Bool) (Untouched : Type 0) (state : State) (lines : Items) (running : Running tells before now code turns items left any Untouched state lines) where
+module _ (tells : Bool) (before now : List ℕ) (code : Code) (turns : ℕ) (items : Items) (left : ℕ) (any : Bool) (Untouched : Type 0) (state : Seen) (lines : Items) (running : Running tells before now code turns items left any Untouched state lines) where
   abbrev rest : Rest
   rest = rest_after lines running.handed running.made
 
@@ -86,7 +85,7 @@ module _ (tells : Bool) (before now : List ℕ) (code : Code) (turns : ℕ) (ite
       some_left code left (state_of rest state) run.0 (running.goes ∙ run.1)
 
   -- some steps that wrote nothing
-  pub strides : (n : ℕ) (new : State) → ((r : Rest) → Reaches code n (state_of r state) (state_of r new)) → new.output ≡ state.output → n ≤ left → Running tells before now code turns items (left - n) any Untouched new lines
+  pub strides : (n : ℕ) (new : Seen) → ((r : Rest) → Reaches code n (state_of r state) (state_of r new)) → new.output ≡ state.output → n ≤ left → Running tells before now code turns items (left - n) any Untouched new lines
   strides n new steps same le = record {
     handed = running.handed;
     made = running.made;
@@ -151,7 +150,7 @@ module _ (tells : Bool) (before now : List ℕ) (code : Code) (turns : ℕ) (ite
       cc
 
   -- a step, before which some of what was held was handed on, and behind which these objects were made
-  module _ (after : List ℕ) (Still StillUntouched : Type 0) (both : Untouched → Still → StillUntouched) (kept : List ℕ) (hands : HandsOn tells now after state.output kept Still) (new : State) (next : Items) (grown : List ℕ) where
+  module _ (after : List ℕ) (Still StillUntouched : Type 0) (both : Untouched → Still → StillUntouched) (kept : List ℕ) (hands : HandsOn tells now after state.output kept Still) (new : Seen) (next : Items) (grown : List ℕ) where
     abbrev all_handed : List ℕ
     all_handed = running.handed ++ hands.0
 
@@ -200,7 +199,7 @@ module _ (tells : Bool) (before now : List ℕ) (code : Code) (turns : ℕ) (ite
     }
 
 -- ---- where a run stopped
-module _ (tells : Bool) (before now : List ℕ) (any : Bool) (Untouched : Type 0) (state : State) (lines : Items) (ending : MachineEnding) (stop : Stop) (stopped : Stopped tells before now any Untouched state lines ending stop) where
+module _ (tells : Bool) (before now : List ℕ) (any : Bool) (Untouched : Type 0) (state : Seen) (lines : Items) (ending : MachineEnding) (stop : Stop) (stopped : Stopped tells before now any Untouched state lines ending stop) where
   -- of the whole output a front was taken, or all
   pub front_at_end : (after : List ℕ) → (IsTrue tells → TakesFront now after state.output) → IsTrue tells → TakesFront before after stop.state.output
   front_at_end after front t =

@@ -29,38 +29,37 @@ use Rattle.c_runner_deeds.specs.declared.ending.Ending.TheVariants as ending
 use Rattle.c_runner_table.specs.declared.naming.Callee.{Callee}
 use Rattle.c_runner_table.specs.declared.naming.Callee.TheVariants as callee
 use Rattle.c_runner_table.specs.declared.naming.Target.{Target}
-use Rattle.c_runner_deeds.specs.declared.state.State.{State}
-use Rattle.c_runner_deeds.specs.States.{Rest, frame_of, state_of, Follows, Leads}
+use Rattle.c_runner_deeds.specs.States.{Rest, frame_of, state_of, Follows, Leads, Seen}
 use Rattle.c_runner_table.specs.Targets.{callee_among, callee_of, target_of}
 use Rattle.c_runner.specs.Waiting.{Steps}
 use Rattle.c_runner.specs.Parts.{callee_called, plain_step, quiet_step}
 
 -- a line is asked for with no argument
-pub input_crowded : (code : Code) (target : Option ℕ) (args : List CArg) (old : State) → eqb (length args) 0 ≡ false → Leads (λ s. primitive_step true s code target args (Io Input)) (Some (ending.Fault fault.Kind)) old old
+pub input_crowded : (code : Code) (target : Option ℕ) (args : List CArg) (old : Seen) → eqb (length args) 0 ≡ false → Leads (λ s. primitive_step true s code target args (Io Input)) (Some (ending.Fault fault.Kind)) old old
 input_crowded code target [] old e = absurd (cc)
 input_crowded code target (a ∷ args) old e = λ rest. (rest.made, refl)
 
 -- ---- a step that makes no object, and a step that is another one
-pub quiet : (does to : MachineState → Next) (ending : Option Ending) (old new : State) → ((rest : Rest) → to (state_of rest old) ≡ does (state_of rest old)) → Follows does ending old new → Leads to ending old new
+pub quiet : (does to : MachineState → Next) (ending : Option Ending) (old new : Seen) → ((rest : Rest) → to (state_of rest old) ≡ does (state_of rest old)) → Follows does ending old new → Leads to ending old new
 quiet does to ending old new e h = λ rest. (rest.made, e rest ∙ h rest)
 
-pub leads_as : (does to : MachineState → Next) (ending : Option Ending) (old new : State) → ((rest : Rest) → to (state_of rest old) ≡ does (state_of rest old)) → Leads does ending old new → Leads to ending old new
+pub leads_as : (does to : MachineState → Next) (ending : Option Ending) (old new : Seen) → ((rest : Rest) → to (state_of rest old) ≡ does (state_of rest old)) → Leads does ending old new → Leads to ending old new
 leads_as does to ending old new e h = λ rest. let led = h rest in (led.0, e rest ∙ led.1)
 
-pub steps_as : (does to : MachineState → Next) (old new : State) (r : Result (Option Ending) Pause) → ((rest : Rest) → to (state_of rest old) ≡ does (state_of rest old)) → Steps does r old new → Steps to r old new
+pub steps_as : (does to : MachineState → Next) (old new : Seen) (r : Result (Option Ending) Pause) → ((rest : Rest) → to (state_of rest old) ≡ does (state_of rest old)) → Steps does r old new → Steps to r old new
 steps_as does to old new (Ok ending) e h = leads_as does to ending old new e h
 steps_as does to old new (Err (Waits target)) e h = record { same = h.same; place = h.place; leads = λ rest. e rest ∙ h.leads rest }
 steps_as does to old new (Err Memory) e h = tt
 
 -- whether a primitive may be called now
-module _ (code : Code) (target : Option ℕ) (args : List CArg) (p : Primitive) (old : State) (b : Bool) (may : (rest : Rest) (go : Next) → if_may_stand true (state_of rest old) (row_of p).while_pending go ≡ cond b go (faulted true (state_of rest old) fault.Kind)) where
+module _ (code : Code) (target : Option ℕ) (args : List CArg) (p : Primitive) (old : Seen) (b : Bool) (may : (rest : Rest) (go : Next) → if_may_stand true (state_of rest old) (row_of p).while_pending go ≡ cond b go (faulted true (state_of rest old) fault.Kind)) where
   stands_so : (rest : Rest) → called true (state_of rest old) code target args p ≡ cond b (primitive_step true (state_of rest old) code target args p) (faulted true (state_of rest old) fault.Kind)
   stands_so rest = may rest (primitive_step true (state_of rest old) code target args p)
 
   pub may_not_stand : b ≡ false → Leads (λ s. called true s code target args p) (Some (ending.Fault fault.Kind)) old old
   may_not_stand is = λ rest. (rest.made, stands_so rest ∙ ap (λ d. cond d (primitive_step true (state_of rest old) code target args p) (faulted true (state_of rest old) fault.Kind)) is)
 
-  pub may_stand : (new : State) (r : Result (Option Ending) Pause) → b ≡ true → Steps (λ s. primitive_step true s code target args p) r old new → Steps (λ s. called true s code target args p) r old new
+  pub may_stand : (new : Seen) (r : Result (Option Ending) Pause) → b ≡ true → Steps (λ s. primitive_step true s code target args p) r old new → Steps (λ s. called true s code target args p) r old new
   may_stand new r is h =
       steps_as (λ s. primitive_step true s code target args p) (λ s. called true s code target args p) old new r
       (λ rest. stands_so rest ∙ ap (λ d. cond d (primitive_step true (state_of rest old) code target args p) (faulted true (state_of rest old) fault.Kind)) is) h
@@ -80,15 +79,15 @@ is_quiet code s target args (Io o) no_dict no_list no_instance no_io = absurd (n
 is_quiet code s target args _ no_dict no_list no_instance no_io = refl
 
 -- the line that comes next
-pub no_line : (code : Code) (old : State) → line_at code (frame_of old.top) ≡ None → Leads (step.step code) (Some (ending.Fault fault.Kind)) old old
+pub no_line : (code : Code) (old : Seen) → line_at code (frame_of old.top) ≡ None → Leads (step.step code) (Some (ending.Fault fault.Kind)) old old
 no_line code old e = λ rest. (rest.made, ap (step.step_at true code (state_of rest old)) e)
 
-pub one_line : (code : Code) (old new : State) (line : Line) (r : Result (Option Ending) Pause) → line_at code (frame_of old.top) ≡ Some line → Steps (λ s. step.step_at true code s (Some line)) r old new → Steps (step.step code) r old new
+pub one_line : (code : Code) (old new : Seen) (line : Line) (r : Result (Option Ending) Pause) → line_at code (frame_of old.top) ≡ Some line → Steps (λ s. step.step_at true code s (Some line)) r old new → Steps (step.step code) r old new
 one_line code old new line r e h =
     steps_as (λ s. step.step_at true code s (Some line)) (step.step code) old new r (λ rest. ap (step.step_at true code (state_of rest old)) e) h
 
 -- ---- a line that calls
-module _ (rest : Rest) (old : State) (code : Code) (x : Option ℕ) (name : List ℕ) (args : List CArg) where
+module _ (rest : Rest) (old : Seen) (code : Code) (x : Option ℕ) (name : List ℕ) (args : List CArg) where
   abbrev t : MachineState
   t = state_of rest old
 
@@ -131,22 +130,22 @@ module _ (code : Code) (g : CFunc) (line : Line) (x : Option ℕ) (name : List �
   callee_is : (o : Option Callee) → target.callee ≡ o → callee_of code.funcs name ≡ o
   callee_is o e = sym (ap (λ u. u.callee) (known ∙ ap (target_of code (label_places g.lines)) is)) ∙ e
 
-  pub calls_nothing : (rest : Rest) (old : State) → target.callee ≡ None → step.step_at true code (state_of rest old) (Some line) ≡ Ends (Faulted fault.Kind) (state_of rest old)
+  pub calls_nothing : (rest : Rest) (old : Seen) → target.callee ≡ None → step.step_at true code (state_of rest old) (Some line) ≡ Ends (Faulted fault.Kind) (state_of rest old)
   calls_nothing rest old e =
       ap (λ l. step.step_at true code (state_of rest old) (Some l)) is ∙ no_callee rest old code x name args (primitive_named name) (callee_is None e)
 
-  pub call_is : (rest : Rest) (old : State) (slice : List CArg) (k : Callee) → target.callee ≡ Some k → slice ≡ args → step.step_at true code (state_of rest old) (Some line) ≡ callee_called code x slice k (state_of rest old)
+  pub call_is : (rest : Rest) (old : Seen) (slice : List CArg) (k : Callee) → target.callee ≡ Some k → slice ≡ args → step.step_at true code (state_of rest old) (Some line) ≡ callee_called code x slice k (state_of rest old)
   call_is rest old slice k e same =
       ap (λ l. step.step_at true code (state_of rest old) (Some l)) is
       ∙ callee_step rest old code x name args (primitive_named name) k (callee_is (Some k) e)
       ∙ ap (λ a. callee_called code x a k (state_of rest old)) (sym same)
 
-  pub calls : (old new : State) (slice : List CArg) (k : Callee) (r : Result (Option Ending) Pause) → target.callee ≡ Some k → slice ≡ args → Steps (callee_called code x slice k) r old new → Steps (λ s. step.step_at true code s (Some line)) r old new
+  pub calls : (old new : Seen) (slice : List CArg) (k : Callee) (r : Result (Option Ending) Pause) → target.callee ≡ Some k → slice ≡ args → Steps (callee_called code x slice k) r old new → Steps (λ s. step.step_at true code s (Some line)) r old new
   calls old new slice k r e same h =
       steps_as (callee_called code x slice k) (λ s. step.step_at true code s (Some line)) old new r (λ rest. call_is rest old slice k e same) h
 
 -- a line that calls a method makes no object
-pub line_calls : (code : Code) (line as_is : Line) (does : MachineState → Next) (ending : Option Ending) (old new : State) → line ≡ as_is → ((rest : Rest) → step.step_at true code (state_of rest old) (Some as_is) ≡ does (state_of rest old)) → Follows does ending old new → Leads (λ s. step.step_at true code s (Some line)) ending old new
+pub line_calls : (code : Code) (line as_is : Line) (does : MachineState → Next) (ending : Option Ending) (old new : Seen) → line ≡ as_is → ((rest : Rest) → step.step_at true code (state_of rest old) (Some as_is) ≡ does (state_of rest old)) → Follows does ending old new → Leads (λ s. step.step_at true code s (Some line)) ending old new
 line_calls code line as_is does ending old new is same h =
     quiet does (λ s. step.step_at true code s (Some line)) ending old new (λ rest. ap (λ l. step.step_at true code (state_of rest old) (Some l)) is ∙ same rest) h
 

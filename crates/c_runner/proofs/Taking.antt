@@ -28,11 +28,10 @@ use Rattle.c_runner.specs.declared.refusal.Refusal.TheVariants as refusal
 use Rattle.c_runner.specs.declared.report.Report.{Report}
 use Rattle.c_runner.specs.declared.report.RunError.{RunError}
 use Rattle.c_runner.specs.declared.report.RunError.TheVariants.{InputFault, WriteFault, Memory}
-use Rattle.c_runner_deeds.specs.declared.state.State.{State}
 use Rattle.c_runner.specs.Advancing.{HandsFront, UsesLines, StaysNear, Moves, BreaksOff, ReadsOn, Stalls, Advances, error_after, faults_of_input, faults_of_output}
 use Rattle.c_runner_deeds.specs.Handing.{HandsOn, has_bytes}
 use Rattle.c_runner.specs.Ran.{AreGiven, Ran, line_count, lines_used, lines_end, TookLines, TookNear, TookUpTo, TookSome, Took, given_items, faults_of_out}
-use Rattle.c_runner_deeds.specs.States.{Rest, ending_of, first_rest, state_of}
+use Rattle.c_runner_deeds.specs.States.{Rest, ending_of, first_rest, state_of, Seen}
 use Rattle.c_runner.specs.Report.{live_cells}
 use Rattle.c_runner.proofs.StepLemmas.{one_further, reached}
 use Rattle.c_runner.proofs.AdvanceLemmas.{no_piece, no_byte, never_broken, some_line, first_long, less_than_read, input_goes, input_skips}
@@ -83,7 +82,7 @@ near_nothing : Near fresh [] []
 near_nothing = record { near = omega arith; quiet = λ none. refl }
 
 -- a step took more
-read_more : (tells : Bool) (before now after : List ℕ) (reader reader' : ReaderState) (read used : List ℕ) (old new : State) (does : MachineState → Next) (out_tells : Bool) (sink sink' : List ℕ) (Untouched : Type 0) (ending : Option Ending) → Read tells before now reader read used → (moves : Moves does old new reader reader' out_tells sink sink' Untouched tells now after ending) → Read tells before after reader' (read ++ moves.taken) (used ++ moves.uses.used)
+read_more : (tells : Bool) (before now after : List ℕ) (reader reader' : ReaderState) (read used : List ℕ) (old new : Seen) (does : MachineState → Next) (out_tells : Bool) (sink sink' : List ℕ) (Untouched : Type 0) (ending : Option Ending) → Read tells before now reader read used → (moves : Moves does old new reader reader' out_tells sink sink' Untouched tells now after ending) → Read tells before after reader' (read ++ moves.taken) (used ++ moves.uses.used)
 read_more tells before now after reader reader' read used old new does out_tells sink sink' Untouched ending so_far moves = record {
   given = λ t. so_far.given t ∙ ap (λ c. read ++ c) (moves.given t) ∙ sym (append_assoc read moves.taken after);
   split =
@@ -180,7 +179,7 @@ module _ (code : Code) (turns : ℕ) (items : Items) (tells : Bool) (sink sink' 
   moment_as Usual Other follows m = record { state = m.state; steps = m.steps; comes = m.comes; sent = m.sent; usual = follows m.state m.usual }
 
   -- where a run goes on and nothing is held
-  moment_now : (left : ℕ) (any : Bool) (Untouched : Type 0) (state : State) (lines : Items) (Usual : MachineState → Type 0) → (running : Running tells sink sink' code turns items left any Untouched state lines) → state.output ≡ [] → Usual (state_of (rest_after lines running.handed running.made) state) → Moment code turns items tells sink sink' Usual
+  moment_now : (left : ℕ) (any : Bool) (Untouched : Type 0) (state : Seen) (lines : Items) (Usual : MachineState → Type 0) → (running : Running tells sink sink' code turns items left any Untouched state lines) → state.output ≡ [] → Usual (state_of (rest_after lines running.handed running.made) state) → Moment code turns items tells sink sink' Usual
   moment_now left any Untouched state lines Usual running empty usual = record {
     state = state_of (rest_after lines running.handed running.made) state;
     steps = running.steps;
@@ -209,7 +208,7 @@ read_for tells before now reader read used so_far whole near future e s =
 
 -- ---- a run whose input is read
 -- whatever follows the bytes that were read
-abbrev pub Goes_on : Bool → List ℕ → List ℕ → Code → ℕ → ℕ → Bool → Type 0 → State → ReaderState → List ℕ → Type 0
+abbrev pub Goes_on : Bool → List ℕ → List ℕ → Code → ℕ → ℕ → Bool → Type 0 → Seen → ReaderState → List ℕ → Type 0
 Goes_on tells before now code turns left any Untouched state reader read =
     (future : List ℕ) (e : InputEnd) → Suits reader future e → Running tells before now code turns (input_items (read ++ future) e) left any Untouched state (items_left reader future e)
 
@@ -219,7 +218,7 @@ Sent tells sink sink' code turns reader read =
     (future : List ℕ) (e : InputEnd) → Suits reader future e → Before turns (input_items (read ++ future) e) code tells sink sink' (read ++ future) read
 
 -- what is known of a run between two steps
-pub record Going (out_tells : Bool) (sink sink' : List ℕ) (Untouched : Type 0) (in_tells : Bool) (before now : List ℕ) (code : Code) (turns left : ℕ) (any : Bool) (state : State) (reader : ReaderState) : Type 0 where
+pub record Going (out_tells : Bool) (sink sink' : List ℕ) (Untouched : Type 0) (in_tells : Bool) (before now : List ℕ) (code : Code) (turns left : ℕ) (any : Bool) (state : Seen) (reader : ReaderState) : Type 0 where
   pub read : List ℕ
   pub used : List ℕ
   pub so_far : Read in_tells before now reader read used
@@ -236,7 +235,7 @@ abbrev pub IsLast : Items → Stop → List ℕ → List ℕ → MachineState �
 IsLast items stop bytes read s = (stop ≡ record { ending = Ended source.Over; state = s }) ⊎ ReadFor items s.items bytes read
 
 -- and where it stopped so
-pub record Halted (out_tells : Bool) (sink sink' : List ℕ) (Untouched : Type 0) (in_tells : Bool) (before now : List ℕ) (code : Code) (turns : ℕ) (any : Bool) (state : State) (reader : ReaderState) (ending : Ending) : Type 0 where
+pub record Halted (out_tells : Bool) (sink sink' : List ℕ) (Untouched : Type 0) (in_tells : Bool) (before now : List ℕ) (code : Code) (turns : ℕ) (any : Bool) (state : Seen) (reader : ReaderState) (ending : Ending) : Type 0 where
   pub read : List ℕ
   pub used : List ℕ
   pub so_far : Read in_tells before now reader read used
@@ -255,7 +254,7 @@ first_moment tells sink code turns bytes e = record {
   usual = record { near = omega arith; none = λ none. refl };
 }
 
-pub begins : (out_tells : Bool) (sink : List ℕ) (Untouched : Type 0) (in_tells : Bool) (before : List ℕ) (code : Code) (turns left : ℕ) (state : State) (reader : ReaderState) → Untouched → reader ≡ fresh → ((i : Items) → state_of (first_rest i) state ≡ start code turns i) → left ≡ most_steps turns code → Going out_tells sink sink Untouched in_tells before before code turns left false state reader
+pub begins : (out_tells : Bool) (sink : List ℕ) (Untouched : Type 0) (in_tells : Bool) (before : List ℕ) (code : Code) (turns left : ℕ) (state : Seen) (reader : ReaderState) → Untouched → reader ≡ fresh → ((i : Items) → state_of (first_rest i) state ≡ start code turns i) → left ≡ most_steps turns code → Going out_tells sink sink Untouched in_tells before before code turns left false state reader
 begins out_tells sink Untouched in_tells before code turns left state reader same is_fresh is count =
     rw is_fresh (record {
       read = [];
@@ -267,13 +266,13 @@ begins out_tells sink Untouched in_tells before code turns left state reader sam
       goes = λ future e s. at_start out_tells sink code turns left (input_items future e) Untouched state same is count;
     })
 
-module _ (out_tells : Bool) (sink sink' : List ℕ) (Untouched : Type 0) (in_tells : Bool) (before now : List ℕ) (code : Code) (turns left : ℕ) (any : Bool) (state : State) (reader : ReaderState) (going : Going out_tells sink sink' Untouched in_tells before now code turns left any state reader) where
+module _ (out_tells : Bool) (sink sink' : List ℕ) (Untouched : Type 0) (in_tells : Bool) (before now : List ℕ) (code : Code) (turns left : ℕ) (any : Bool) (state : Seen) (reader : ReaderState) (going : Going out_tells sink sink' Untouched in_tells before now code turns left any state reader) where
   -- one way in which the input may go on
   pub a_run : Running out_tells sink sink' code turns (input_items (going.read ++ []) AtEof) left any Untouched state (items_left reader [] AtEof)
   a_run = going.goes [] AtEof (λ r. (refl, refl))
 
   -- some steps that wrote nothing and took nothing
-  pub strode : (n : ℕ) (new : State) → ((r : Rest) → Reaches code n (state_of r state) (state_of r new)) → new.output ≡ state.output → n ≤ left → Going out_tells sink sink' Untouched in_tells before now code turns (left - n) any new reader
+  pub strode : (n : ℕ) (new : Seen) → ((r : Rest) → Reaches code n (state_of r state) (state_of r new)) → new.output ≡ state.output → n ≤ left → Going out_tells sink sink' Untouched in_tells before now code turns (left - n) any new reader
   strode n new steps same le = record {
     read = going.read;
     used = going.used;
@@ -285,7 +284,7 @@ module _ (out_tells : Bool) (sink sink' : List ℕ) (Untouched : Type 0) (in_tel
   }
 
   -- a step
-  module _ (sink'' after : List ℕ) (Still StillUntouched : Type 0) (both : Untouched → Still → StillUntouched) (new : State) (reader' : ReaderState) (any' : Bool) (is : any' ≡ (any || has_bytes new.output)) (more : 1 ≤ left) where
+  module _ (sink'' after : List ℕ) (Still StillUntouched : Type 0) (both : Untouched → Still → StillUntouched) (new : Seen) (reader' : ReaderState) (any' : Bool) (is : any' ≡ (any || has_bytes new.output)) (more : 1 ≤ left) where
     was : (taken future : List ℕ) (e : InputEnd) → (IsTrue reader.ended → IsTrue reader'.ended) → (IsTrue reader.ended → taken ≡ []) → Suits reader' future e → Running out_tells sink sink' code turns (input_items ((going.read ++ taken) ++ future) e) left any Untouched state (items_left reader (taken ++ future) e)
     was taken future e ended quiet s =
         subst (λ c. Running out_tells sink sink' code turns (input_items c e) left any Untouched state (items_left reader (taken ++ future) e)) (sym (append_assoc going.read taken future))
@@ -402,8 +401,8 @@ module _ (out_tells : Bool) (sink sink' : List ℕ) (Untouched : Type 0) (in_tel
             }
 
   -- some of what is held is handed on
-  pub hands_further : (sink'' output : List ℕ) (Still StillUntouched : Type 0) → (Untouched → Still → StillUntouched) → HandsOn out_tells sink' sink'' state.output output Still → Going out_tells sink sink'' StillUntouched in_tells before now code turns left any (record state { output = output }) reader
-  hands_further sink'' output Still StillUntouched both hands = record {
+  with_handed : (sink'' output : List ℕ) (Still StillUntouched : Type 0) → (Untouched → Still → StillUntouched) → HandsOn out_tells sink' sink'' state.output output Still → Going out_tells sink sink'' StillUntouched in_tells before now code turns left any (record state { output = output }) reader
+  with_handed sink'' output Still StillUntouched both hands = record {
     read = going.read;
     used = going.used;
     so_far = going.so_far;
@@ -414,6 +413,10 @@ module _ (out_tells : Bool) (sink sink' : List ℕ) (Untouched : Type 0) (in_tel
     goes = λ future e s.
         handed_on out_tells sink sink' code turns (input_items (going.read ++ future) e) left any Untouched state (items_left reader future e) (going.goes future e s) sink'' output Still StillUntouched both hands;
   }
+
+  pub hands_further : (next : Seen) (sink'' : List ℕ) (Still StillUntouched : Type 0) → (Untouched → Still → StillUntouched) → HandsOn out_tells sink' sink'' state.output next.output Still → next ≡ record state { output = next.output } → Going out_tells sink sink'' StillUntouched in_tells before now code turns left any next reader
+  hands_further next sink'' Still StillUntouched both hands others =
+      subst (λ (n : Seen). Going out_tells sink sink'' StillUntouched in_tells before now code turns left any n reader) (sym others) (with_handed sink'' next.output Still StillUntouched both hands)
 
 -- ---- what a call says of the run
 abbrev pub Answered : Bool → ℕ → ℕ → List ℕ → List ℕ → Code → ℕ → Bool → List ℕ → List ℕ → Type 0 → Result Report RunError → Type 0
@@ -525,7 +528,7 @@ module _ (in_tells : Bool) (faults faults' : ℕ) (left : List ℕ) (code : Code
         ),
       )
 
-  module _ (sink' now : List ℕ) (Untouched : Type 0) (any : Bool) (state : State) (reader : ReaderState) where
+  module _ (sink' now : List ℕ) (Untouched : Type 0) (any : Bool) (state : Seen) (reader : ReaderState) where
     -- between two steps: some of what is held may have gone to the sink, and some bytes may have been taken
     module _ (steps_left : ℕ) (going : Going out_tells sink sink' Untouched in_tells left now code turns steps_left any state reader) where
       abbrev now_items : Items
@@ -692,7 +695,7 @@ module _ (in_tells : Bool) (faults faults' : ℕ) (left : List ℕ) (code : Code
           )
 
       -- a step was not made
-      pub answers_failed : (new : State) (reader' : ReaderState) (sink'' after : List ℕ) (Still StillUntouched : Type 0) → (Untouched → Still → StillUntouched) → (e : Refusal) → faults' ≡ faults_of_input {T = Option Ending} (Err e) faults → 1 ≤ steps_left → Advances (step code) state new reader reader' out_tells sink' sink'' Still in_tells now after (Err e) → Answered in_tells faults faults' left after code turns out_tells sink sink'' StillUntouched (Err (error_after any e))
+      pub answers_failed : (new : Seen) (reader' : ReaderState) (sink'' after : List ℕ) (Still StillUntouched : Type 0) → (Untouched → Still → StillUntouched) → (e : Refusal) → faults' ≡ faults_of_input {T = Option Ending} (Err e) faults → 1 ≤ steps_left → Advances (step code) state new reader reader' out_tells sink' sink'' Still in_tells now after (Err e) → Answered in_tells faults faults' left after code turns out_tells sink sink'' StillUntouched (Err (error_after any e))
       answers_failed new reader' sink'' after Still StillUntouched both refusal.InputFault counted more advances = answers_broken sink'' after Still StillUntouched both counted more advances
       answers_failed new reader' sink'' after Still StillUntouched both refusal.WriteFault counted more advances = answers_unsent sink'' after Still StillUntouched both counted advances.0 advances.1
       answers_failed new reader' sink'' after Still StillUntouched both refusal.Memory counted more advances = answers_stalled sink'' after Still StillUntouched both counted more advances

@@ -20,9 +20,8 @@ use Rattle.c_runner.specs.declared.refusal.Refusal.{Refusal}
 use Rattle.c_runner.specs.declared.refusal.Refusal.TheVariants.{InputFault, WriteFault, Memory}
 use Rattle.c_runner.specs.declared.report.RunError.{RunError}
 use Rattle.c_runner.specs.declared.report.RunError.TheVariants as error
-use Rattle.c_runner_deeds.specs.declared.state.State.{State}
 use Rattle.c_runner_deeds.specs.Handing.{HandsOn}
-use Rattle.c_runner_deeds.specs.States.{Rest, state_of, next_of}
+use Rattle.c_runner_deeds.specs.States.{Rest, state_of, next_of, Seen}
 use Rattle.c_runner.specs.Ran.{line_count}
 use Rattle.c_runner.specs.Waiting.{input_step}
 
@@ -90,7 +89,7 @@ pub record StaysNear (reader reader' : ReaderState) (taken used : List ℕ) : Ty
 
 -- A step leads from the old state to the new one, whatever follows the bytes that were taken, whatever was handed on before, and whatever
 -- objects were made; it may make one. Where bytes were taken all output was handed on before
-pub record Moves (does : MachineState → Next) (old new : State) (reader reader' : ReaderState) (out_tells : Bool) (sink sink' : List ℕ) (Untouched : Type 0) (in_tells : Bool) (left left' : List ℕ) (ending : Option Ending) : Type 0 where
+pub record Moves (does : MachineState → Next) (old new : Seen) (reader reader' : ReaderState) (out_tells : Bool) (sink sink' : List ℕ) (Untouched : Type 0) (in_tells : Bool) (left left' : List ℕ) (ending : Option Ending) : Type 0 where
   pub kept : List ℕ
   pub hands : HandsOn out_tells sink sink' old.output kept Untouched
   pub taken : List ℕ
@@ -106,26 +105,26 @@ pub record Moves (does : MachineState → Next) (old new : State) (reader reader
   pub leads : (future : List ℕ) (e : InputEnd) → Suits reader' future e → (handed made : List ℕ) → (later : List ℕ) × (does (state_of (record { items = items_left reader (taken ++ future) e; handed = handed; made = made }) old) ≡ next_of ending (state_of (record { items = items_left reader' future e; handed = handed ++ hands.0; made = later }) new))
 
 -- a read failed, all that was held was handed on before, and the machine stops there
-pub record BreaksOff (does : MachineState → Next) (old : State) (reader : ReaderState) (out_tells : Bool) (sink sink' : List ℕ) (Untouched : Type 0) (in_tells : Bool) (left left' : List ℕ) : Type 0 where
+pub record BreaksOff (does : MachineState → Next) (old : Seen) (reader : ReaderState) (out_tells : Bool) (sink sink' : List ℕ) (Untouched : Type 0) (in_tells : Bool) (left left' : List ℕ) : Type 0 where
   pub hands : HandsAll out_tells sink sink' old.output Untouched
   pub takes : Takes reader in_tells left left' (Refuses Failed reader)
   pub unready : is_ready reader ≡ false
   pub stops : (handed made : List ℕ) → does (state_of (record { items = Broken; handed = handed; made = made }) old) ≡ Ends (Ended source.Broken) (state_of (record { items = Broken; handed = handed; made = made }) old)
 
 -- the machine reads a line there, all that was held was handed on, and what was taken is for that line
-pub record ReadsOn (does : MachineState → Next) (old : State) (reader : ReaderState) (out_tells : Bool) (sink sink' : List ℕ) (Untouched : Type 0) (taken : List ℕ) : Type 0 where
+pub record ReadsOn (does : MachineState → Next) (old : Seen) (reader : ReaderState) (out_tells : Bool) (sink sink' : List ℕ) (Untouched : Type 0) (taken : List ℕ) : Type 0 where
   pub hands : HandsAll out_tells sink sink' old.output Untouched
   pub target : Option ℕ
   pub asks : (rest : Rest) → does (state_of rest old) ≡ input_step target (state_of rest old)
   pub one : IsForOneLine reader taken
 
 -- memory ran out in a step: where bytes were taken, they were for a line that the machine reads
-pub record Stalls (does : MachineState → Next) (old : State) (reader : ReaderState) (out_tells : Bool) (sink sink' : List ℕ) (Untouched : Type 0) (in_tells : Bool) (left left' : List ℕ) : Type 0 where
+pub record Stalls (does : MachineState → Next) (old : Seen) (reader : ReaderState) (out_tells : Bool) (sink sink' : List ℕ) (Untouched : Type 0) (in_tells : Bool) (left left' : List ℕ) : Type 0 where
   pub hands : HandsFront out_tells sink sink' old.output Untouched
   pub takes : TakesSome reader in_tells left left'
   pub why : (takes.taken ≡ []) ⊎ ReadsOn does old reader out_tells sink sink' Untouched takes.taken
 
-abbrev pub Advances : (MachineState → Next) → State → State → ReaderState → ReaderState → Bool → List ℕ → List ℕ → Type 0 → Bool → List ℕ → List ℕ → Result (Option Ending) Refusal → Type 0
+abbrev pub Advances : (MachineState → Next) → Seen → Seen → ReaderState → ReaderState → Bool → List ℕ → List ℕ → Type 0 → Bool → List ℕ → List ℕ → Result (Option Ending) Refusal → Type 0
 Advances does old new reader reader' out_tells sink sink' Untouched in_tells left left' (Ok ending) =
     Moves does old new reader reader' out_tells sink sink' Untouched in_tells left left' ending
 Advances does old new reader reader' out_tells sink sink' Untouched in_tells left left' (Err InputFault) =

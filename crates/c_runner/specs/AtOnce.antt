@@ -6,24 +6,23 @@ use Rattle.c_core.specs.declared.code.Line.TheVariants.{Label, Goto, If, IfError
 use Rattle.c_core.specs.Machine as machine
 use Rattle.c_core.specs.Machine.{ShortInt, CharWord, NoneObject, TrueObject, FalseObject, MachineState}
 use Rattle.c_core.specs.Step.{Next, equals_error}
-use Rattle.c_runner_deeds.specs.declared.state.State.{State}
-use Rattle.c_runner_deeds.specs.States.{Follows, with_target}
+use Rattle.c_runner_deeds.specs.States.{Follows, with_target, Seen}
 use Rattle.c_runner_table.specs.declared.naming.Target.{Target}
 use Rattle.cell_heap.specs.declared.word.Word.{Word}
 
 -- what a line does was done, and the run goes on in the same function, with the same output; or nothing was done
-abbrev pub Done : (MachineState → Next) → Bool → State → State → Type 0
+abbrev pub Done : (MachineState → Next) → Bool → Seen → Seen → Type 0
 Done does true old new = Follows does None old new × (new.top.func ≡ old.top.func) × (new.output ≡ old.output)
 Done does false old new = new ≡ old
 
 -- a word, if there is one, was written to a target, and the run goes on at the next line
-abbrev pub Wrote : Option ℕ → Option Word → Bool → State → State → Type 0
+abbrev pub Wrote : Option ℕ → Option Word → Bool → Seen → Seen → Type 0
 Wrote target None is_done old new = (is_done ≡ false) × (new ≡ old)
 Wrote target (Some w) is_done old new =
     (is_done ≡ true) × (let top = with_target target w old.top in new ≡ record old { top = record top { place = top.place + 1 } })
 
 -- the run goes on at a place, if there is one
-abbrev pub Went : Option ℕ → Bool → State → State → Type 0
+abbrev pub Went : Option ℕ → Bool → Seen → Seen → Type 0
 Went None is_done old new = (is_done ≡ false) × (new ≡ old)
 Went (Some place) is_done old new = (is_done ≡ true) × (new ≡ record old { top = record old.top { place = place } })
 

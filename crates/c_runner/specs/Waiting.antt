@@ -9,21 +9,20 @@ use Rattle.c_runner_lines.specs.declared.item.Item.TheVariants.{Line, Bad, Eof, 
 use Rattle.c_runner.specs.declared.pause.Pause.{Pause}
 use Rattle.c_runner.specs.declared.pause.Pause.TheVariants.{Memory, Waits}
 use Rattle.c_runner_deeds.specs.declared.ending.Ending.{Ending}
-use Rattle.c_runner_deeds.specs.declared.state.State.{State}
-use Rattle.c_runner_deeds.specs.States.{Rest, state_of, next_of, Leads}
+use Rattle.c_runner_deeds.specs.States.{Rest, state_of, next_of, Leads, Seen}
 
 -- the machine reads the next line of input, whose text goes to a variable, if it goes to one
 abbrev pub input_step : Option ℕ → MachineState → Next
 input_step target s = applied true s target s.top.ledger [] (line_read s.items)
 
 -- a line of input is asked for: nothing was done yet, and what the machine does is reading it
-pub record Asks (does : MachineState → Next) (target : Option ℕ) (old new : State) : Type 0 where
+pub record Asks (does : MachineState → Next) (target : Option ℕ) (old new : Seen) : Type 0 where
   pub same : new ≡ old
   pub place : old.top.place + 1 < 2 ^ 64
   pub leads : (rest : Rest) → does (state_of rest old) ≡ input_step target (state_of rest old)
 
 -- what a step answers; without memory nothing is said
-abbrev pub Steps : (MachineState → Next) → Result (Option Ending) Pause → State → State → Type 0
+abbrev pub Steps : (MachineState → Next) → Result (Option Ending) Pause → Seen → Seen → Type 0
 Steps does (Ok ending) old new = Leads does ending old new
 Steps does (Err (Waits target)) old new = Asks does target old new
 Steps does (Err Memory) old new = ⊤
@@ -43,6 +42,6 @@ behind Eof next = items.Eof
 behind Over next = items.Over
 
 -- a line that was asked for is there: what the machine does leads from the old state to the new one
-abbrev pub Receives : Option ℕ → Item → Option Ending → State → State → Type 0
+abbrev pub Receives : Option ℕ → Item → Option Ending → Seen → Seen → Type 0
 Receives target item ending old new =
     (rest : Rest) → input_step target (state_of (record rest { items = before item rest.items }) old) ≡ next_of ending (state_of (record rest { items = behind item rest.items }) new)

@@ -1,13 +1,15 @@
 //! Calls that are answered at once: of primitives on two numbers that have no cell, native integers or short `int`s, where the answer has
 //! none either. They are most calls of most programs, and need none of what other calls may come to.
-ghost use Rattle.std.specs.Prelude.{◌≡◌, ℕ, Option, Some, Ok, map, IfSome, true};
+ghost use Rattle.std.specs.Prelude.{◌≡◌, [], ℕ, Option, Some, Ok, map, IfSome, true};
 ghost use Rattle.std.specs.Option.{option_and_then};
 ghost use Rattle.c_core.specs.declared.code.Code as machine_code;
 ghost use Rattle.c_core.specs.Step.{Goes, Says, called, next_line, with_target, native_or, tagged_effect};
 ghost use Rattle.c_runner_deeds.specs.Deeds.{int_at, two_ints, two_done, tagged_done};
 ghost use Rattle.c_runner_deeds.specs.Parts.{native_at, two_natives, two_effect};
-ghost use Rattle.c_runner_deeds.specs.States.{Rest, state_of};
+ghost use Rattle.c_runner_deeds.specs.States.{Rest, state_of, seen};
+ghost use Rattle.c_runner_deeds.specs.Ours.{maybe_refs};
 ghost use Rattle.cell_heap.specs.Contents.{word_of};
+ghost use Rattle.cell_heap.specs.Numbered.{numbered};
 
 use c_core::{CArg, Int64Prim, Prim, TaggedPrim};
 use c_runner_deeds::{State, truth};
@@ -16,9 +18,10 @@ use value_core::{Arith, i64_add, i64_floor_div, i64_modulo, i64_mul, i64_sub, is
 
 /// The word that a call of a primitive answers, where the call can be answered at once.
 pub(crate) fn answer_at_once(state: &State, primitive: Prim, args: &[CArg]) -> Option<Word>
-    ensures { IfSome result (λ word. (rest : Rest) (code : machine_code.Code) (target : Option ℕ) →
-        (let s = state_of rest state.now in
+    ensures says { IfSome result (λ word. (rest : Rest) (code : machine_code.Code) (target : Option ℕ) →
+        (let s = state_of rest (seen state.now) in
         called true s code target args.now primitive ≡ Goes (next_line (with_target target (word_of word) s)))) }
+    ensures plain { maybe_refs result ≡ [] }
 {
     if state.pending.is_some() {
         return None;
@@ -32,8 +35,9 @@ pub(crate) fn answer_at_once(state: &State, primitive: Prim, args: &[CArg]) -> O
 
 /// The word that a primitive on two native integers answers, where it answers one.
 fn native_answer(state: &State, operation: Int64Prim, args: &[CArg]) -> Option<Word>
-    ensures { IfSome result (λ word. option_and_then (λ q. two_effect operation q.0 q.1) (two_natives (map word_of state.now.top.vars) args.now)
+    ensures says { IfSome result (λ word. option_and_then (λ q. two_effect operation q.0 q.1) (two_natives (map word_of state.now.top.vars) args.now)
         ≡ Some (Says (word_of word))) }
+    ensures plain { maybe_refs result ≡ [] }
 {
     match two_natives(state, args) {
         None => None,
@@ -72,7 +76,8 @@ fn native(state: &State, argument: &CArg) -> Option<i64>
 
 /// The word that comes of a primitive on two native integers, where it does not fail.
 fn of_natives(operation: Int64Prim, a: i64, b: i64) -> Option<Word>
-    ensures { IfSome result (λ word. two_effect operation a b ≡ Some (Says (word_of word))) }
+    ensures says { IfSome result (λ word. two_effect operation a b ≡ Some (Says (word_of word))) }
+    ensures plain { maybe_refs result ≡ [] }
 {
     match operation {
         Int64Prim::Add => Some(Word::I64(i64_add(a, b))),
@@ -89,7 +94,8 @@ fn of_natives(operation: Int64Prim, a: i64, b: i64) -> Option<Word>
 
 /// The word of a native integer, where there is one.
 fn native_word(number: Result<i64, Arith>) -> Option<Word>
-    ensures { IfSome result (λ word. native_or number ≡ Says (word_of word)) }
+    ensures says { IfSome result (λ word. native_or number ≡ Says (word_of word)) }
+    ensures plain { maybe_refs result ≡ [] }
 {
     match number {
         Ok(n) => Some(Word::I64(n)),
@@ -99,7 +105,8 @@ fn native_word(number: Result<i64, Arith>) -> Option<Word>
 
 /// The word that a primitive on two short `int`s answers, where it is a truth or a short `int` itself.
 fn short_answer(state: &State, operation: TaggedPrim, args: &[CArg]) -> Option<Word>
-    ensures { IfSome result (λ word. tagged_done operation state.now.cells (map word_of state.now.top.vars) args.now ≡ Ok (Says (word_of word))) }
+    ensures says { IfSome result (λ word. tagged_done operation (numbered state.now.cells) (map word_of state.now.top.vars) args.now ≡ Ok (Says (word_of word))) }
+    ensures plain { maybe_refs result ≡ [] }
 {
     match two_shorts(state, args) {
         None => None,
@@ -109,7 +116,7 @@ fn short_answer(state: &State, operation: TaggedPrim, args: &[CArg]) -> Option<W
 
 /// The two `int`s that the arguments are, where both are short.
 fn two_shorts(state: &State, args: &[CArg]) -> Option<(i64, i64)>
-    ensures { IfSome result (λ found. two_ints state.now.cells (map word_of state.now.top.vars) args.now ≡ Ok (found.0, found.1)) }
+    ensures { IfSome result (λ found. two_ints (numbered state.now.cells) (map word_of state.now.top.vars) args.now ≡ Ok (found.0, found.1)) }
 {
     match args {
         [first, second] => match short(state, first) {
@@ -125,7 +132,7 @@ fn two_shorts(state: &State, args: &[CArg]) -> Option<(i64, i64)>
 
 /// The `int` that an argument is, where it is short.
 fn short(state: &State, argument: &CArg) -> Option<i64>
-    ensures { IfSome result (λ n. int_at state.now.cells (map word_of state.now.top.vars) (Some argument.now) ≡ Ok n) }
+    ensures { IfSome result (λ n. int_at (numbered state.now.cells) (map word_of state.now.top.vars) (Some argument.now) ≡ Ok n) }
 {
     let CArg::Var(x) = argument else {
         return None;
@@ -138,7 +145,8 @@ fn short(state: &State, argument: &CArg) -> Option<i64>
 
 /// The word that comes of a primitive on two short `int`s, where it is a truth or a short `int` itself.
 fn of_shorts(operation: TaggedPrim, a: i64, b: i64) -> Option<Word>
-    ensures { IfSome result (λ word. two_done operation a b ≡ Ok (Says (word_of word))) }
+    ensures says { IfSome result (λ word. two_done operation a b ≡ Ok (Says (word_of word))) }
+    ensures plain { maybe_refs result ≡ [] }
 {
     match operation {
         TaggedPrim::Add => short_word(i128::from(a) + i128::from(b)),
@@ -152,7 +160,8 @@ fn of_shorts(operation: TaggedPrim, a: i64, b: i64) -> Option<Word>
 
 /// The word of a short `int`, where it is one.
 fn short_word(n: i128) -> Option<Word>
-    ensures { IfSome result (λ word. tagged_effect n ≡ Says (word_of word)) }
+    ensures says { IfSome result (λ word. tagged_effect n ≡ Says (word_of word)) }
+    ensures plain { maybe_refs result ≡ [] }
 {
     if is_short(n) {
         Some(Word::Short(n as i64))

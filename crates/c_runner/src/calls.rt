@@ -6,7 +6,7 @@ ghost use Rattle.c_core.specs.declared.primitive.Primitive.TheVariants as prim;
 ghost use Rattle.c_core.specs.Primitives.{row_of};
 ghost use Rattle.c_core.specs.Step.{Next, if_may_stand, faulted, primitive_step, called};
 ghost use Rattle.c_runner.specs.Parts.{quiet_step};
-ghost use Rattle.c_runner_deeds.specs.States.{Rest, Follows, IsSmall, state_of};
+ghost use Rattle.c_runner_deeds.specs.States.{Rest, Follows, IsSmall, state_of, seen};
 ghost use Rattle.c_runner_table.specs.Targets.{named_of};
 ghost use Rattle.c_runner.specs.Waiting.{Steps};
 
@@ -30,10 +30,10 @@ pub(crate) fn call_primitive(
     target: Option<usize>,
     args: &[CArg],
 ) -> Result<Option<Ending>, Pause>
-    requires small { IsSmall state.old }
+    requires small { IsSmall (seen state.old) }
     requires place { state.old.top.place + 1 < 2 ^ 64 }
     requires named { named ≡ named_of code.now args.now }
-    ensures { Steps (λ s. called true s code.now target args.now primitive) result state.old state.new }
+    ensures { Steps (λ s. called true s code.now target args.now primitive) result (seen state.old) (seen state.new) }
 {
     if !may_stand(state, primitive) {
         return Ok(Some(Ending::Fault(Fault::Kind)));
@@ -44,7 +44,7 @@ pub(crate) fn call_primitive(
 /// Whether a primitive may be called now.
 fn may_stand(state: &State, primitive: Prim) -> bool
     ensures { (rest : Rest) (go : Next) →
-        (let s = state_of rest state.now in
+        (let s = state_of rest (seen state.now) in
         if_may_stand true s (row_of primitive).while_pending go ≡ cond result go (faulted true s fault.Kind)) }
 {
     match state.pending {
@@ -63,10 +63,10 @@ fn perform(
     target: Option<usize>,
     args: &[CArg],
 ) -> Result<Option<Ending>, Pause>
-    requires small { IsSmall state.old }
+    requires small { IsSmall (seen state.old) }
     requires place { state.old.top.place + 1 < 2 ^ 64 }
     requires named { named ≡ named_of code.now args.now }
-    ensures { Steps (λ s. primitive_step true s code.now target args.now primitive) result state.old state.new }
+    ensures { Steps (λ s. primitive_step true s code.now target args.now primitive) result (seen state.old) (seen state.new) }
 {
     match primitive {
         Prim::Dict(operation) => Ok(call_dict(state, alloc, operation, target, args)?),
@@ -89,11 +89,11 @@ fn perform_quietly(
     target: Option<usize>,
     args: &[CArg],
 ) -> Result<Option<Ending>, Memory>
-    requires small { IsSmall state.old }
+    requires small { IsSmall (seen state.old) }
     requires place { state.old.top.place + 1 < 2 ^ 64 }
     requires named { named ≡ named_of code.now args.now }
     ensures { IfOk result (λ ending. Follows
-        (quiet_step code.now target args.now primitive) ending state.old state.new) }
+        (quiet_step code.now target args.now primitive) ending (seen state.old) (seen state.new)) }
 {
     match primitive {
         Prim::Int64(operation) => state.call_int64(alloc, operation, target, args),
@@ -122,7 +122,7 @@ fn call_io(
 ) -> Result<Option<Ending>, Pause>
     requires place { state.old.top.place + 1 < 2 ^ 64 }
     ensures { (code : machine_code.Code) → Steps
-        (λ s. primitive_step true s code target args.now (prim.Io operation)) result state.old state.new }
+        (λ s. primitive_step true s code target args.now (prim.Io operation)) result (seen state.old) (seen state.new) }
 {
     match operation {
         IoPrim::Write => Ok(state.call_write(args)?),

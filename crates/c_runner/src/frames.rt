@@ -6,12 +6,14 @@ ghost use Rattle.c_core.specs.Machine as machine;
 ghost use Rattle.c_core.specs.Step as machine_step;
 ghost use Rattle.c_core.specs.Step.{Next, function_called, entered, returned, if_passed, if_in_order, if_result, if_none_left, Ends, Faulted};
 ghost use Rattle.c_runner.specs.Parts.{unless_fault, waits_for, handed_back};
-ghost use Rattle.c_runner_deeds.specs.States.{Rest, Follows, IsSmall, state_of};
-ghost use Rattle.cell_heap.specs.Contents.{number_of, word_of};
+ghost use Rattle.c_runner_deeds.specs.States.{Rest, Follows, IsSmall, state_of, seen};
+ghost use Rattle.c_runner_deeds.specs.Ours.{IsOurWord};
+ghost use Rattle.cell_heap.specs.Contents.{name_of, number_of, word_of, words_refs};
+ghost use Rattle.cell_heap.specs.Ours.{IsOurs, AreOurs};
 
 use crate::start::push_error_values;
 use c_core::{CArg, CFunc, Code, Fault, Kind};
-use c_runner_deeds::{Ending, Frame, State, equals_error, is_error};
+use c_runner_deeds::{Ending, Frame, State, equals_error, is_error, number_of};
 use c_runner_ledger::Ledger;
 use cell_heap::{Content, Key, Word};
 use std::alloc::Global;
@@ -29,7 +31,7 @@ pub(crate) fn enter(
 ) -> Result<Option<Ending>, Memory>
     requires { state.old.top.place + 1 < 2 ^ 64 }
     ensures { IfOk result (λ ending. Follows
-        (λ s. function_called true s code.now target args.now (Some func)) ending state.old state.new) }
+        (λ s. function_called true s code.now target args.now (Some func)) ending (seen state.old) (seen state.new)) }
 {
     if state.pending.is_some() {
         return Ok(Some(Ending::Fault(Fault::Kind)));
@@ -64,9 +66,10 @@ pub(crate) fn begin(
     target: Option<usize>,
     mut vars: Many<Word>,
 ) -> Result<(), Memory>
-    requires { state.old.top.place + 1 < 2 ^ 64 }
+    requires place { state.old.top.place + 1 < 2 ^ 64 }
+    requires ours { AreOurs state.old.cells (words_refs vars) }
     ensures { OnOk result ((rest : Rest) →
-        state_of rest state.new ≡ entered true (state_of rest state.old) target func (entry_words (map word_of vars) function.now)) }
+        state_of rest (seen state.new) ≡ entered true (state_of rest (seen state.old)) target func (entry_words (map word_of vars) function.now)) }
 {
     push_error_values(&mut vars, other_vars(function))?;
     wait_for(
@@ -83,8 +86,9 @@ pub(crate) fn begin(
 
 /// Lets a frame run, for which the one that ran waits at its next line.
 fn wait_for(state: &mut State, callee: Frame) -> Result<(), Memory>
-    requires { state.old.top.place + 1 < 2 ^ 64 }
-    ensures { OnOk result ((rest : Rest) → state_of rest state.new ≡ waits_for callee (state_of rest state.old)) }
+    requires place { state.old.top.place + 1 < 2 ^ 64 }
+    requires ours { AreOurs state.old.cells (words_refs callee.vars) }
+    ensures { OnOk result ((rest : Rest) → state_of rest (seen state.new) ≡ waits_for callee (state_of rest (seen state.old))) }
 {
     state.top.place += 1;
     let caller = mem::replace(&mut state.top, callee);
@@ -100,9 +104,10 @@ fn pass(
     words: &mut Many<Word>,
 ) -> Result<Option<Fault>, Memory>
     requires { words.old ≡ [] }
-    ensures { IfOk result (λ fault. (rest : Rest) (go : List machine.Word → Next) →
-        if_passed true (state_of rest state.now) (map (λ v. v.1) parameters.now) args.now go
-        ≡ unless_fault fault (state_of rest state.now) (go (map word_of words.new))) }
+    ensures passed { IfOk result (λ fault. (rest : Rest) (go : List machine.Word → Next) →
+        if_passed true (state_of rest (seen state.now)) (map (λ v. v.1) parameters.now) args.now go
+        ≡ unless_fault fault (state_of rest (seen state.now)) (go (map word_of words.new))) }
+    ensures ours { IfOk result (λ _. AreOurs state.now.cells (words_refs words.new)) }
 {
     for (i, parameter) in parameters.iter().enumerate() {
         let Some(argument) = args.get(i) else {
@@ -121,9 +126,9 @@ fn pass(
 
 /// Returns the word of a variable: to the frame that waits, or from the module, which ends.
 pub(crate) fn leave(state: &mut State, x: usize) -> Result<Option<Ending>, Memory>
-    requires { IsSmall state.old }
+    requires { IsSmall (seen state.old) }
     ensures { IfOk result (λ ending. Follows
-        (λ s. machine_step.word_of true s x (returned true s)) ending state.old state.new) }
+        (λ s. machine_step.word_of true s x (returned true s)) ending (seen state.old) (seen state.new)) }
 {
     let Some(word) = state.top.vars.get(x) else {
         return Ok(Some(Ending::Fault(Fault::Kind)));
@@ -144,7 +149,7 @@ pub(crate) fn leave(state: &mut State, x: usize) -> Result<Option<Ending>, Memor
 /// How the module ends that returns a word.
 fn end(state: &State, word: Word) -> Result<Ending, Memory>
     requires { state.now.below ≡ [] }
-    ensures { IfOk result (λ ending. Follows (λ s. returned true s (word_of word)) (Some ending) state.now state.now) }
+    ensures { IfOk result (λ ending. Follows (λ s. returned true s (word_of word)) (Some ending) (seen state.now) (seen state.now)) }
 {
     match state.pending {
         None => Ok(end_calmly(state, word)),
@@ -159,7 +164,7 @@ fn end(state: &State, word: Word) -> Result<Ending, Memory>
 fn end_raised(state: &State, key: Key) -> Result<Ending, Memory>
     requires below { state.now.below ≡ [] }
     requires pending { state.now.pending ≡ Some key }
-    ensures { IfOk result (λ ending. Follows (λ s. returned true s (machine.CharWord 2)) (Some ending) state.now state.now) }
+    ensures { IfOk result (λ ending. Follows (λ s. returned true s (machine.CharWord 2)) (Some ending) (seen state.now) (seen state.now)) }
 {
     let Ok(content) = state.cells.content(key) else {
         return Ok(Ending::Fault(Fault::Dead));
@@ -178,7 +183,7 @@ fn end_raised(state: &State, key: Key) -> Result<Ending, Memory>
 fn end_calmly(state: &State, word: Word) -> Ending
     requires below { state.now.below ≡ [] }
     requires pending { state.now.pending ≡ None }
-    ensures { Follows (λ s. returned true s (word_of word)) (Some result) state.now state.now }
+    ensures { Follows (λ s. returned true s (word_of word)) (Some result) (seen state.now) (seen state.now) }
 {
     match word {
         Word::Char(1) => {
@@ -195,8 +200,9 @@ fn end_calmly(state: &State, word: Word) -> Ending
 /// Why a frame may not return a word: it is an error value and no exception is pending, or the other way round, its cell
 /// is gone or not owned, or something else is owned.
 fn return_fault(state: &State, word: Word) -> Option<Fault>
+    requires { IsOurWord state.now.cells word }
     ensures { (rest : Rest) (next : Next) →
-        (let s = state_of rest state.now in
+        (let s = state_of rest (seen state.now) in
         if_in_order true s (word_of word) s.pending (if_result true s (word_of word) (λ l. if_none_left true s l next))
         ≡ unless_fault result s next) }
 {
@@ -218,7 +224,7 @@ fn return_fault(state: &State, word: Word) -> Option<Fault>
 /// Whether a word may be returned now: an error value with a pending exception, any other with none, -113 with either.
 fn is_in_order(state: &State, word: Word) -> bool
     ensures { (rest : Rest) (next : Next) →
-        (let s = state_of rest state.now in
+        (let s = state_of rest (seen state.now) in
         if_in_order true s (word_of word) s.pending next ≡ cond result next (Ends (Faulted fault.Kind) s)) }
 {
     match state.pending {
@@ -229,16 +235,17 @@ fn is_in_order(state: &State, word: Word) -> bool
 
 /// Why a frame may not return the reference to a cell.
 fn cell_fault(state: &State, key: Key) -> Option<Fault>
+    requires { IsOurs state.now.cells (name_of key) }
     ensures { (rest : Rest) (next : Next) →
-        (let s = state_of rest state.now in
+        (let s = state_of rest (seen state.now) in
         if_result true s (machine.ObjectCell (number_of key)) (λ l. if_none_left true s l next)
         ≡ unless_fault result s next) }
 {
     if !state.is_live(key) {
         Some(Fault::Dead)
-    } else if !state.top.ledger.owns(key.serial()) {
+    } else if !state.top.ledger.owns(number_of(key)) {
         Some(Fault::NotOwned)
-    } else if !state.top.ledger.owns_only(key.serial()) {
+    } else if !state.top.ledger.owns_only(number_of(key)) {
         Some(Fault::Leak)
     } else {
         None
@@ -247,9 +254,10 @@ fn cell_fault(state: &State, key: Key) -> Option<Fault>
 
 /// Lets the frame that waits go on. It has the word in the variable that it asked for, and owns its reference.
 fn hand_back(state: &mut State, word: Word) -> Result<(), Memory>
-    requires small { IsSmall state.old }
+    requires small { IsSmall (seen state.old) }
     requires waits { state.old.below ≢ [] }
-    ensures { OnOk result ((rest : Rest) → handed_back (word_of word) (state_of rest state.old) ≡ state_of rest state.new) }
+    requires ours { IsOurWord state.old.cells word }
+    ensures { OnOk result ((rest : Rest) → handed_back (word_of word) (state_of rest (seen state.old)) ≡ state_of rest (seen state.new)) }
 {
     let Some(caller) = state.below.pop() else {
         return Ok(());

@@ -4,7 +4,7 @@ ghost use Rattle.c_core.specs.declared.code.Code as machine_code;
 ghost use Rattle.c_core.specs.declared.primitive.Primitive.TheVariants as prim;
 ghost use Rattle.c_core.specs.declared.primitive.IoPrim.TheVariants as io;
 ghost use Rattle.c_core.specs.Step.{primitive_step};
-ghost use Rattle.c_runner_deeds.specs.States.{IsSmall};
+ghost use Rattle.c_runner_deeds.specs.States.{IsSmall, seen};
 ghost use Rattle.c_runner.specs.Waiting.{Steps, Receives};
 
 use crate::pause::Pause;
@@ -23,7 +23,7 @@ pub(crate) fn ask_for_line(
 ) -> Result<Option<Ending>, Pause>
     requires place { state.now.top.place + 1 < 2 ^ 64 }
     ensures { (code : machine_code.Code) → Steps
-        (λ s. primitive_step true s code target args.now (prim.Io io.Input)) result state.now state.now }
+        (λ s. primitive_step true s code target args.now (prim.Io io.Input)) result (seen state.now) (seen state.now) }
 {
     if args.is_empty() {
         Err(Pause::Waits(target))
@@ -39,9 +39,9 @@ pub(crate) fn receive(
     target: Option<usize>,
     item: Item,
 ) -> Result<Option<Ending>, Memory>
-    requires small { IsSmall state.old }
+    requires small { IsSmall (seen state.old) }
     requires place { state.old.top.place + 1 < 2 ^ 64 }
-    ensures { IfOk result (λ ending. Receives target item ending state.old state.new) }
+    ensures { IfOk result (λ ending. Receives target item ending (seen state.old) (seen state.new)) }
 {
     match item {
         Item::Line(text) => state.make_cell(target, Content::Str(Letters::of(text))),

@@ -1,6 +1,6 @@
 //! Lines that are done at once, one after the other: they take no memory, end no run, and change no more than the place and the variables
 //! of the frame that runs, and the turns that are left.
-ghost use Rattle.std.specs.Prelude.{◌≡◌, ◌+◌, ◌^◌, ◌<◌, ◌≤◌, true, cond, Some, map, slice_get, IfSome};
+ghost use Rattle.std.specs.Prelude.{◌≡◌, [], ◌+◌, ◌^◌, ◌<◌, ◌≤◌, true, cond, Some, map, slice_get, IfSome};
 ghost use Rattle.std.specs.Option.{option_map, option_and_then};
 ghost use Rattle.c_core.specs.Functions.{label_places};
 ghost use Rattle.c_core.specs.Laws.{Reaches};
@@ -9,9 +9,12 @@ ghost use Rattle.c_core.specs.Step.{if_calm, step_at, turned};
 ghost use Rattle.c_runner.specs.AtOnce.{Done, Wrote, Went};
 ghost use Rattle.c_runner.specs.AtOnce as at_once;
 ghost use Rattle.c_runner_deeds.specs.Parts.{is_there};
-ghost use Rattle.c_runner_deeds.specs.States.{Rest, state_of};
+ghost use Rattle.c_runner_deeds.specs.States.{Rest, state_of, seen};
 ghost use Rattle.c_runner_table.specs.Targets.{target_of, table_of};
+ghost use Rattle.c_runner_deeds.specs.Ours.{maybe_refs};
 ghost use Rattle.cell_heap.specs.Contents.{word_of};
+ghost use Rattle.cell_heap.specs.Ours.{AreOurs};
+ghost use Rattle.cell_heap.specs.Numbered.{numbered};
 
 use crate::at_once::answer_at_once;
 use c_core::{CFunc, CLit, Code, Line};
@@ -22,7 +25,7 @@ use cell_heap::Word;
 /// Does the next lines, as long as each can be done at once, but no more than so many, and says how many it did.
 pub(crate) fn do_lines(state: &mut State, code: &Code, table: &Tables, most: usize) -> usize
     requires table { table.now ≡ table_of code.now }
-    ensures reaches { (rest : Rest) → Reaches code.now result (state_of rest state.old) (state_of rest state.new) }
+    ensures reaches { (rest : Rest) → Reaches code.now result (state_of rest (seen state.old)) (state_of rest (seen state.new)) }
     ensures output { state.new.output ≡ state.old.output }
     ensures most { result ≤ most }
 {
@@ -50,7 +53,7 @@ fn do_line(state: &mut State, code: &Code, function: &CFunc, line: &Line, target
     requires place { state.old.top.place + 1 < 2 ^ 64 }
     requires function { slice_get code.now.funcs state.old.top.func ≡ Some function.now }
     requires target { target ≡ target_of code.now (label_places function.now.lines) line.now }
-    ensures { Done (λ s. step_at true code.now s (Some line.now)) result state.old state.new }
+    ensures { Done (λ s. step_at true code.now s (Some line.now)) result (seen state.old) (seen state.new) }
 {
     match line {
         Line::Move(x, y) => {
@@ -78,8 +81,9 @@ fn do_line(state: &mut State, code: &Code, function: &CFunc, line: &Line, target
 
 /// Writes a word, if there is one, and goes on to the next line.
 fn write(state: &mut State, target: Option<usize>, word: Option<Word>) -> bool
-    requires { state.old.top.place + 1 < 2 ^ 64 }
-    ensures { Wrote target word result state.old state.new }
+    requires place { state.old.top.place + 1 < 2 ^ 64 }
+    requires ours { AreOurs state.old.cells (maybe_refs word) }
+    ensures { Wrote target word result (seen state.old) (seen state.new) }
 {
     match word {
         None => false,
@@ -93,7 +97,7 @@ fn write(state: &mut State, target: Option<usize>, word: Option<Word>) -> bool
 
 /// Goes on at a place, if there is one.
 fn go_to(state: &mut State, place: Option<usize>) -> bool
-    ensures { Went place result state.old state.new }
+    ensures { Went place result (seen state.old) (seen state.new) }
 {
     match place {
         None => false,
@@ -107,7 +111,8 @@ fn go_to(state: &mut State, place: Option<usize>) -> bool
 /// The word of a variable, where its cell is there if it has one.
 fn word_there(state: &State, x: usize) -> Option<Word>
     ensures value { IfSome result (λ word. slice_get state.now.top.vars x ≡ Some word) }
-    ensures there { IfSome result (λ word. is_there state.now.cells (word_of word) ≡ true) }
+    ensures there { IfSome result (λ word. is_there (numbered state.now.cells) (word_of word) ≡ true) }
+    ensures ours { AreOurs state.now.cells (maybe_refs result) }
 {
     let Some(word) = state.top.vars.get(x) else {
         return None;
@@ -122,8 +127,9 @@ fn word_there(state: &State, x: usize) -> Option<Word>
 
 /// The word of a literal in a variable of a function.
 fn literal_word(function: &CFunc, x: usize, literal: CLit) -> Option<Word>
-    ensures { option_map word_of result
+    ensures word { option_map word_of result
         ≡ option_and_then (λ k. machine_step.literal_word k literal) (option_map (λ v. v.1) (slice_get function.now.vars x)) }
+    ensures plain { maybe_refs result ≡ [] }
 {
     match kind_of(function, x) {
         None => None,
@@ -134,7 +140,7 @@ fn literal_word(function: &CFunc, x: usize, literal: CLit) -> Option<Word>
 /// Spends a turn, if there is one and no exception is pending, and goes on to the next line.
 fn spend_turn(state: &mut State) -> bool
     requires { state.old.top.place + 1 < 2 ^ 64 }
-    ensures { Done (λ s. if_calm true s s.pending (turned true s s.turns)) result state.old state.new }
+    ensures { Done (λ s. if_calm true s s.pending (turned true s s.turns)) result (seen state.old) (seen state.new) }
 {
     if state.pending.is_some() || state.turns == 0 {
         return false;

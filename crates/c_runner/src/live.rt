@@ -4,12 +4,14 @@ ghost use Rattle.std.specs.Option.{option_copied};
 ghost use Rattle.c_runner.specs.Report as report;
 ghost use Rattle.c_runner.specs.Report.{live_cells, name_of_class};
 ghost use Rattle.c_runner.specs.Live.{live_at};
-ghost use Rattle.cell_heap.specs.Contents.{number_of, content_of};
+ghost use Rattle.cell_heap.specs.Contents.{name_of, number_of, content_of};
+ghost use Rattle.cell_heap.specs.Ours.{IsOurs};
+ghost use Rattle.cell_heap.specs.Numbered.{numbered};
 
 use crate::report::{LiveCell, Report};
 use c_core::{CClass, Code};
-use c_runner_deeds::{Ending, State};
-use cell_heap::{Content, Heap, Key};
+use c_runner_deeds::{Cells, Ending, State};
+use cell_heap::{Content, Key};
 use std::alloc::Global;
 use value_core::{Many, Memory, Text};
 
@@ -17,9 +19,9 @@ use value_core::{Many, Memory, Text};
 pub(crate) fn live(
     alloc: Global,
     classes: &[CClass],
-    cells: &Heap,
+    cells: &Cells,
 ) -> Result<Many<LiveCell>, Memory>
-    ensures { IfOk result (λ live. live ≡ live_cells classes.now cells.now) }
+    ensures { IfOk result (λ live. live ≡ live_cells classes.now (numbered cells.now)) }
 {
     let keys = cells.keys(alloc)?;
     let mut live = Many::new(alloc);
@@ -36,10 +38,11 @@ pub(crate) fn live(
 fn live_cell(
     alloc: Global,
     classes: &[CClass],
-    cells: &Heap,
+    cells: &Cells,
     key: Key,
 ) -> Result<Option<LiveCell>, Memory>
-    ensures { IfOk result (λ live. live ≡ live_at classes.now cells.now (number_of key)) }
+    requires { IsOurs cells.now (name_of key) }
+    ensures { IfOk result (λ live. live ≡ live_at classes.now (numbered cells.now) (number_of key)) }
 {
     let Ok(content) = cells.content(key) else {
         return Ok(None);
@@ -87,7 +90,7 @@ pub(crate) fn report_of(
     has_output: bool,
 ) -> Result<Report, Memory>
     ensures ending { IfOk result (λ report. report.ending ≡ ending) }
-    ensures live { IfOk result (λ report. report.live ≡ live_cells code.now.classes state.now.cells) }
+    ensures live { IfOk result (λ report. report.live ≡ live_cells code.now.classes (numbered state.now.cells)) }
     ensures turns { IfOk result (λ report. report.turns_left ≡ state.now.turns) }
     ensures output { IfOk result (λ report. report.has_output ≡ has_output) }
 {

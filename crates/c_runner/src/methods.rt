@@ -11,9 +11,10 @@ ghost use Rattle.c_core.specs.Step as machine_step;
 ghost use Rattle.c_core.specs.Step.{Next, if_passed, method_called};
 ghost use Rattle.c_runner.specs.Methods.{function_for, method_begins, class_calls};
 ghost use Rattle.c_runner.specs.Parts.{unless_fault};
-ghost use Rattle.c_runner_deeds.specs.States.{Rest, Follows, state_of};
+ghost use Rattle.c_runner_deeds.specs.States.{Rest, Follows, state_of, seen};
 ghost use Rattle.c_runner_table.specs.Targets.{methods_of};
-ghost use Rattle.cell_heap.specs.Contents.{word_of};
+ghost use Rattle.cell_heap.specs.Contents.{word_of, words_refs};
+ghost use Rattle.cell_heap.specs.Ours.{AreOurs};
 
 use crate::frames::{begin, parameters, room_for_vars};
 use c_core::{CFunc, Code, Fault, Kind};
@@ -37,7 +38,7 @@ pub(crate) fn call_own_method(
     requires place { state.old.top.place + 1 < 2 ^ 64 }
     requires classes { classes.now ≡ methods_of code.now }
     ensures { IfOk result (λ ending. Follows
-        (λ s. method_called true s code.now target object args.now (method_at number)) ending state.old state.new) }
+        (λ s. method_called true s code.now target object args.now (method_at number)) ending (seen state.old) (seen state.new)) }
 {
     match receiver(state, object) {
         Err(fault) => Ok(Some(Ending::Fault(fault))),
@@ -63,7 +64,7 @@ pub(crate) fn call_trait_method(
     requires place { state.old.top.place + 1 < 2 ^ 64 }
     requires classes { classes.now ≡ methods_of code.now }
     ensures { IfOk result (λ ending. Follows
-        (λ s. method_called true s code.now target object args.now (trait_method_at name.now number)) ending state.old state.new) }
+        (λ s. method_called true s code.now target object args.now (trait_method_at name.now number)) ending (seen state.old) (seen state.new)) }
 {
     match receiver(state, object) {
         Err(fault) => Ok(Some(Ending::Fault(fault))),
@@ -77,7 +78,7 @@ pub(crate) fn call_trait_method(
 /// The class, by its number, of the object whose method is called, where no exception is pending.
 fn receiver(state: &State, object: usize) -> Result<usize, Fault>
     ensures { (rest : Rest) (code : machine_code.Code) (target : ℕ) (args : List ℕ) (entry : machine_class.CClass → Option (List ℕ)) →
-        (let s = state_of rest state.now in
+        (let s = state_of rest (seen state.now) in
         method_called true s code target object args entry ≡ class_calls code target (object ∷ args) entry result s) }
 {
     if state.pending.is_some() {
@@ -101,7 +102,7 @@ fn call_method(
     args: &[usize],
 ) -> Result<Option<Ending>, Memory>
     requires { state.old.top.place + 1 < 2 ^ 64 }
-    ensures { IfOk result (λ ending. Follows (method_begins code.now target (object ∷ args.now) func) ending state.old state.new) }
+    ensures { IfOk result (λ ending. Follows (method_begins code.now target (object ∷ args.now) func) ending (seen state.old) (seen state.new)) }
 {
     let Some(func) = func else {
         return Ok(Some(Ending::Fault(Fault::Kind)));
@@ -131,7 +132,7 @@ fn takes_and_gives(
     function: &CFunc,
 ) -> bool
     ensures { (rest : Rest) (object : ℕ) → result
-        ≡ machine_step.takes_and_gives true (state_of rest state.now) code.now target (object ∷ args.now) function.now }
+        ≡ machine_step.takes_and_gives true (state_of rest (seen state.now)) code.now target (object ∷ args.now) function.now }
 {
     args.len() + 1 == parameters(function).len()
         && state.kind_of_variable(code, target) == Some(function.ret)
@@ -147,9 +148,10 @@ fn pass_variables(
     words: &mut Many<Word>,
 ) -> Result<Option<Fault>, Memory>
     requires { words.old ≡ [] }
-    ensures { IfOk result (λ fault. (rest : Rest) (go : List machine.Word → Next) →
-        if_passed true (state_of rest state.now) (map (λ v. v.1) parameters.now) (map machine_arg.Var (object ∷ args.now)) go
-        ≡ unless_fault fault (state_of rest state.now) (go (map word_of words.new))) }
+    ensures passed { IfOk result (λ fault. (rest : Rest) (go : List machine.Word → Next) →
+        if_passed true (state_of rest (seen state.now)) (map (λ v. v.1) parameters.now) (map machine_arg.Var (object ∷ args.now)) go
+        ≡ unless_fault fault (state_of rest (seen state.now)) (go (map word_of words.new))) }
+    ensures ours { IfOk result (λ _. AreOurs state.now.cells (words_refs words.new)) }
 {
     for (i, parameter) in parameters.iter().enumerate() {
         let Some(x) = variable_at(object, args, i) else {

@@ -2,7 +2,7 @@
 ghost use Rattle.std.specs.Prelude.{◌≡◌};
 ghost use Rattle.c_core.specs.Step.{step};
 ghost use Rattle.c_runner.specs.Advancing.{Fetches, Advances, faults_of_input, faults_of_output};
-ghost use Rattle.c_runner_deeds.specs.States.{IsSmall};
+ghost use Rattle.c_runner_deeds.specs.States.{IsSmall, seen};
 ghost use Rattle.c_runner_table.specs.Targets.{table_of};
 
 use crate::input::receive;
@@ -27,8 +27,8 @@ pub(crate) fn advance<I: Source, O: Sink>(
     out: &mut O,
 ) -> Result<Option<Ending>, Refusal>
     requires table { table.now ≡ table_of code.now }
-    requires small { IsSmall state.old }
-    ensures advances { Advances (step code.now) state.old state.new reader.old reader.new
+    requires small { IsSmall (seen state.old) }
+    ensures advances { Advances (step code.now) (seen state.old) (seen state.new) reader.old reader.new
         O.tells (O.taken out.old) (O.taken out.new) (out.new ≡ out.old)
         I.tells (I.left input.old) (I.left input.new) result }
     ensures counted { I.faults input.new ≡ faults_of_input result (I.faults input.old) }

@@ -1,8 +1,11 @@
-ghost use Rattle.std.specs.Prelude.{◌≡◌, ◌<◌, ◌≤◌, Bool, [], Some, IsTrue, IsErrOf};
-ghost use Rattle.outside_core.specs.Counts.{Rose};
+ghost use Rattle.std.specs.Prelude.{◌≡◌, ◌<◌, ◌≤◌, ◌++◌, Bool, [], Some, IsTrue, IsErrOf, OnOk, OnErr};
+ghost use Rattle.outside_core.specs.Bytes.{TakesFront};
+ghost use Rattle.outside_core.specs.Counts.{Rose, count_after};
 ghost use Rattle.value_core.specs.Items.{Items};
 ghost use Rattle.c_core.specs.Run.{Stop, machine_run, most_turns, most_steps, most_lines};
 ghost use Rattle.c_core.specs.WellFormed.{WellFormed};
+ghost use Rattle.c_runner_deeds.specs.Handing.{HandsOn};
+ghost use Rattle.c_runner_deeds.specs.States.{seen};
 ghost use Rattle.c_runner.specs.Ran.{AreGiven, Ran, Took, faults_of_out};
 
 use crate::lines::do_lines;
@@ -11,9 +14,10 @@ use crate::reading::advance;
 use crate::report::{Report, RunError};
 use crate::start::start;
 use c_core::{CFunc, Code, run_exists, run_keeps_counts, run_stays_small};
+use c_runner_deeds::State;
 use c_runner_lines::LineReader;
 use c_runner_table::table;
-use outside_core::{Sink, Source};
+use outside_core::{Sink, Source, WriteFault};
 use std::alloc::Global;
 
 /// So many steps are made at once at most.
@@ -22,7 +26,8 @@ const MOST_AT_ONCE: usize = 65_536;
 /// Runs a well-formed code for so many turns, on the lines of the input. What the program writes goes to `out`,
 /// whenever 65536 bytes have come together, before each read of the input, and what is left before the answer; where it writes nothing, nothing
 /// happens to `out`. It is never told to pass on what it got: the answer says whether there was any. The input is read only for a line that is
-/// asked for, and of the bytes behind the lines that were used at most 4095 are taken; no line is used behind a call that `out` refused.
+/// asked for. In all no more than one byte more is taken of it than may be used; where no read fails and no line stands too far along, at most
+/// 4095 bytes are taken behind the lines that were used, and none where no line was used. No line is used behind a call that `out` refused.
 pub fn run<I: Source, O: Sink>(
     alloc: Global,
     code: &Code,
@@ -61,13 +66,39 @@ pub fn run<I: Source, O: Sink>(
         };
         has_output = state.output.has_any(has_output);
         match ending {
-            None => state.output.hand_on_if_full(out)?,
+            None => hand_on_if_full(&mut state, out)?,
             Some(ending) => {
-                state.output.hand_on(out)?;
+                hand_on(&mut state, out)?;
                 return Ok(report_of(&state, alloc, code, ending, has_output)?);
             }
         }
     }
+}
+
+/// Hands on what is held of the output, where there is enough of it.
+fn hand_on_if_full<O: Sink>(state: &mut State, out: &mut O) -> Result<(), WriteFault>
+    ensures counted { O.faults out.new ≡ count_after result (O.faults out.old) }
+    ensures taken { OnOk result
+        (HandsOn O.tells (O.taken out.old) (O.taken out.new) state.old.output state.new.output (out.new ≡ out.old)) }
+    ensures front { OnErr result (IsTrue O.tells →
+        TakesFront (O.taken out.old) (O.taken out.new) state.old.output) }
+    ensures alone { state.old.output ≡ [] → out.new ≡ out.old }
+    ensures others { seen state.new ≡ record (seen state.old) { output = state.new.output } }
+{
+    state.output.hand_on_if_full(out)
+}
+
+/// Hands on all that is held of the output.
+fn hand_on<O: Sink>(state: &mut State, out: &mut O) -> Result<(), WriteFault>
+    ensures counted { O.faults out.new ≡ count_after result (O.faults out.old) }
+    ensures taken { OnOk result (IsTrue O.tells →
+        O.taken out.new ≡ O.taken out.old ++ state.old.output) }
+    ensures front { OnErr result (IsTrue O.tells →
+        TakesFront (O.taken out.old) (O.taken out.new) state.old.output) }
+    ensures alone { state.old.output ≡ [] → out.new ≡ out.old }
+    ensures others { seen state.new ≡ record (seen state.old) { output = state.new.output } }
+{
+    state.output.hand_on(out)
 }
 
 /// How many steps are made at once at most, where so many are left: fewer.

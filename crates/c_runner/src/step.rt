@@ -6,7 +6,7 @@ ghost use Rattle.c_core.specs.Functions.{label_places};
 ghost use Rattle.c_core.specs.Step.{Goes, literal_word, with_var, next_line, if_calm, if_some, if_there, word_of, jumped, chosen, turned, step, step_at};
 ghost use Rattle.c_runner.specs.Parts.{callee_called, plain_step, jumped_by_error};
 ghost use Rattle.c_runner_deeds.specs.Parts.{is_there};
-ghost use Rattle.c_runner_deeds.specs.States.{Follows, IsSmall};
+ghost use Rattle.c_runner_deeds.specs.States.{Follows, IsSmall, seen};
 ghost use Rattle.c_runner_table.specs.Targets.{named_of, target_of, methods_of, table_of};
 ghost use Rattle.c_runner.specs.Waiting.{Steps};
 
@@ -31,8 +31,8 @@ pub(crate) fn step(
     table: &Tables,
 ) -> Result<Option<Ending>, Pause>
     requires table { table.now ≡ table_of code.now }
-    requires small { IsSmall state.old }
-    ensures { Steps (step code.now) result state.old state.new }
+    requires small { IsSmall (seen state.old) }
+    ensures { Steps (step code.now) result (seen state.old) (seen state.new) }
 {
     let Some(function) = code.funcs.get(state.top.func) else {
         return Ok(Some(Ending::Fault(Fault::Kind)));
@@ -55,12 +55,12 @@ fn line_step(
     line: &Line,
     target: Target,
 ) -> Result<Option<Ending>, Pause>
-    requires small { IsSmall state.old }
+    requires small { IsSmall (seen state.old) }
     requires place { state.old.top.place + 1 < 2 ^ 64 }
     requires classes { classes.now ≡ methods_of code.now }
     requires function { slice_get code.now.funcs state.old.top.func ≡ Some function.now }
     requires target { target ≡ target_of code.now (label_places function.now.lines) line.now }
-    ensures { Steps (λ s. step_at true code.now s (Some line.now)) result state.old state.new }
+    ensures { Steps (λ s. step_at true code.now s (Some line.now)) result (seen state.old) (seen state.new) }
 {
     match line {
         Line::Call(x, _, args) => match target.callee {
@@ -108,11 +108,11 @@ fn plain_line(
     line: &Line,
     target: Target,
 ) -> Result<Option<Ending>, Memory>
-    requires small { IsSmall state.old }
+    requires small { IsSmall (seen state.old) }
     requires place { state.old.top.place + 1 < 2 ^ 64 }
     requires function { slice_get code.now.funcs state.old.top.func ≡ Some function.now }
     requires target { target ≡ target_of code.now (label_places function.now.lines) line.now }
-    ensures { IfOk result (λ ending. Follows (λ s. plain_step code.now s line.now) ending state.old state.new) }
+    ensures { IfOk result (λ ending. Follows (λ s. plain_step code.now s line.now) ending (seen state.old) (seen state.new)) }
 {
     match line {
         Line::Label => Ok(go_on(state)),
@@ -142,10 +142,10 @@ fn call(
     target: Option<usize>,
     args: &[CArg],
 ) -> Result<Option<Ending>, Pause>
-    requires small { IsSmall state.old }
+    requires small { IsSmall (seen state.old) }
     requires place { state.old.top.place + 1 < 2 ^ 64 }
     requires named { named ≡ named_of code.now args.now }
-    ensures { Steps (callee_called code.now target args.now callee) result state.old state.new }
+    ensures { Steps (callee_called code.now target args.now callee) result (seen state.old) (seen state.new) }
 {
     match callee {
         Callee::Primitive(primitive) => {
@@ -158,7 +158,7 @@ fn call(
 /// Goes on to the next line.
 fn go_on(state: &mut State) -> Option<Ending>
     requires { state.old.top.place + 1 < 2 ^ 64 }
-    ensures { Follows (λ s. Goes (next_line s)) result state.old state.new }
+    ensures { Follows (λ s. Goes (next_line s)) result (seen state.old) (seen state.new) }
 {
     state.top.place += 1;
     None
@@ -168,7 +168,7 @@ fn go_on(state: &mut State) -> Option<Ending>
 fn copy(state: &mut State, x: usize, y: usize) -> Option<Ending>
     requires { state.old.top.place + 1 < 2 ^ 64 }
     ensures { Follows (λ s. word_of true s y (λ w. if_there true s w (λ a. Goes (next_line (with_var x w s)))))
-        result state.old state.new }
+        result (seen state.old) (seen state.new) }
 {
     let Some(word) = state.top.vars.get(y) else {
         return Some(Ending::Fault(Fault::Kind));
@@ -187,7 +187,7 @@ fn assign(state: &mut State, kind: Option<Kind>, x: usize, literal: CLit) -> Opt
     requires { state.old.top.place + 1 < 2 ^ 64 }
     ensures { Follows (λ s. if_some true s fault.Kind
         (option_and_then (λ k. literal_word k literal) kind)
-        (λ w. Goes (next_line (with_var x w s)))) result state.old state.new }
+        (λ w. Goes (next_line (with_var x w s)))) result (seen state.old) (seen state.new) }
 {
     match kind {
         None => Some(Ending::Fault(Fault::Kind)),
@@ -204,7 +204,7 @@ fn assign(state: &mut State, kind: Option<Kind>, x: usize, literal: CLit) -> Opt
 
 /// Goes on at the place of a label, if the label is there.
 fn jump(state: &mut State, place: Option<usize>) -> Option<Ending>
-    ensures { Follows (λ s. jumped true s place) result state.old state.new }
+    ensures { Follows (λ s. jumped true s place) result (seen state.old) (seen state.new) }
 {
     match place {
         None => Some(Ending::Fault(Fault::Kind)),
@@ -222,7 +222,7 @@ fn choose(
     first: Option<usize>,
     second: Option<usize>,
 ) -> Option<Ending>
-    ensures { Follows (λ s. word_of true s x (chosen true s first second)) result state.old state.new }
+    ensures { Follows (λ s. word_of true s x (chosen true s first second)) result (seen state.old) (seen state.new) }
 {
     let Some(word) = state.top.vars.get(x) else {
         return Some(Ending::Fault(Fault::Kind));
@@ -241,7 +241,7 @@ fn choose_by_error(
     first: Option<usize>,
     second: Option<usize>,
 ) -> Option<Ending>
-    ensures { Follows (λ s. word_of true s x (jumped_by_error s first second)) result state.old state.new }
+    ensures { Follows (λ s. word_of true s x (jumped_by_error s first second)) result (seen state.old) (seen state.new) }
 {
     let Some(word) = state.top.vars.get(x) else {
         return Some(Ending::Fault(Fault::Kind));
@@ -256,7 +256,7 @@ fn choose_by_error(
 /// Spends a turn, where no exception is pending. Without one the run is cut.
 fn spend_turn(state: &mut State) -> Option<Ending>
     requires { state.old.top.place + 1 < 2 ^ 64 }
-    ensures { Follows (λ s. if_calm true s s.pending (turned true s s.turns)) result state.old state.new }
+    ensures { Follows (λ s. if_calm true s s.pending (turned true s s.turns)) result (seen state.old) (seen state.new) }
 {
     if state.pending.is_some() {
         return Some(Ending::Fault(Fault::Kind));

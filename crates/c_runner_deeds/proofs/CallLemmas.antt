@@ -16,9 +16,8 @@ use Rattle.c_core.specs.Ledgers.{Ledger}
 use Rattle.c_core.specs.Machine.{Word, ShortInt, BigInt, TaggedError, Native, CharWord, ObjectCell, NoneObject, TrueObject, FalseObject, NoObject, MachineState}
 use Rattle.c_core.specs.Primitives.{Parameter, Borrows, Is, Anything}
 use Rattle.c_core.specs.Step.{Next, Effect, Says, if_some, if_true, if_there, if_argument, if_arguments, faulted, applied, primitive_step}
-use Rattle.c_runner_deeds.specs.declared.state.State.{State}
 use Rattle.c_runner_deeds.specs.Parts.{native_of, char_of, native_at, char_at, one_native, both, two_natives, one_char, int64_effect}
-use Rattle.c_runner_deeds.specs.States.{Rest, state_of}
+use Rattle.c_runner_deeds.specs.States.{Seen, Rest, state_of}
 
 module _ (s : MachineState) where
   abbrev kind_fault : Next
@@ -124,7 +123,7 @@ module _ (s : MachineState) where
   then_applied x (Some a) f = refl
 
 -- ---- calls
-module _ (rest : Rest) (old : State) (code : Code) (x : Option ℕ) (args : List CArg) where
+module _ (rest : Rest) (old : Seen) (code : Code) (x : Option ℕ) (args : List CArg) where
   abbrev t : MachineState
   t = state_of rest old
 

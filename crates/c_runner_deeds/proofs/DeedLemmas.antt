@@ -44,12 +44,11 @@ use Rattle.c_core.specs.Primitives.{Parameter, Borrows, Is, ANumber, AText, row_
 use Rattle.c_core.specs.Step as step
 use Rattle.c_core.specs.Strings.{counted_length, is_long_decimal, text_less, text_length, text_item}
 use Rattle.c_runner_deeds.specs.declared.state.Frame.{Frame}
-use Rattle.c_runner_deeds.specs.declared.state.State.{State}
 use Rattle.c_runner_deeds.specs.declared.deed.Deed.{Deed}
 use Rattle.c_runner_deeds.specs.declared.deed.Deed.TheVariants as deed
 use Rattle.c_runner_deeds.specs.Parts.{cell_argument, argument_of, one_native, one_char, only_text}
 use Rattle.c_runner_deeds.specs.declared.ending.Ending.{Ending}
-use Rattle.c_runner_deeds.specs.States.{Rest, Follows, state_of, with_target}
+use Rattle.c_runner_deeds.specs.States.{Seen, Rest, Follows, state_of, with_target}
 use Rattle.slot_arena.specs.declared.key.Key.{Key}
 use Rattle.cell_heap.specs.declared.word.Word as heap_word
 use Rattle.cell_heap.specs.declared.word.Word.TheVariants as heap
@@ -58,9 +57,9 @@ use Rattle.c_runner_deeds.proofs.CallLemmas.{one_found, char_only}
 use Rattle.c_runner_deeds.proofs.FrameLemmas.{target_set}
 
 -- a cell of a number is made, which the frame owns and the target refers to
-pub int_made : (rest : Rest) (old : State) (target : Option ℕ) (n : ℤ) (key : Key) (number : ℕ) (cells : Cells Content) (ledger : List ℕ) (top : Frame) → number ≡ number_of key → number_of key ≡ length old.cells → cells ≡ make (IntCell n) old.cells → ledger ≡ more number old.top.ledger → top ≡ with_target target (heap.Big key) (record old.top { ledger = ledger }) → applied true (state_of rest old) target old.top.ledger [] (MakesInt n) ≡ Goes (state_of rest (record old { cells = cells; top = record top { place = top.place + 1 } }))
+pub int_made : (rest : Rest) (old : Seen) (target : Option ℕ) (n : ℤ) (key : Key) (number : ℕ) (cells : Cells Content) (ledger : List ℕ) (top : Frame) → number ≡ number_of key → number_of key ≡ length old.cells → cells ≡ make (IntCell n) old.cells → ledger ≡ more number old.top.ledger → top ≡ with_target target (heap.Big key) (record old.top { ledger = ledger }) → applied true (state_of rest old) target old.top.ledger [] (MakesInt n) ≡ Goes (state_of rest (record old { cells = cells; top = record top { place = top.place + 1 } }))
 int_made rest old target n key number cells ledger top serial_is key_is cells_is ledger_is top_is =
-    let made : State = record old { cells = make (IntCell n) old.cells; top = record old.top { ledger = more (length old.cells) old.top.ledger } } in
+    let made : Seen = record old { cells = make (IntCell n) old.cells; top = record old.top { ledger = more (length old.cells) old.top.ledger } } in
     let to : List ℕ → Frame = λ d. with_target target (heap.Big key) (record old.top { ledger = d }) in
     ap (λ m. Goes (next_line (step.with_target target (BigInt m) (state_of rest made)))) (sym key_is)
     ∙ ap (λ t. Goes (next_line t)) (target_set rest made target (heap.Big key))
@@ -381,7 +380,7 @@ no_item xs i le = grind (arith, le, slice_get_cases xs i)
 
 -- ---- calls by deeds
 -- a primitive does what the runner does by a deed
-pub does_deed : {E : Type 0} (p : Primitive) (target : Option ℕ) (args : List CArg) (old new : State) (r : Result (Option Ending) E) (d : Result Deed Fault) (done : Result Effect Fault) → ((code : Code) (rest : Rest) → primitive_step true (state_of rest old) code target args p ≡ performed target done (state_of rest old)) → done_by d ≡ done → IfOk r (λ ending. Follows (performed target (done_by d)) ending old new) → Calls p target args old new r
+pub does_deed : {E : Type 0} (p : Primitive) (target : Option ℕ) (args : List CArg) (old new : Seen) (r : Result (Option Ending) E) (d : Result Deed Fault) (done : Result Effect Fault) → ((code : Code) (rest : Rest) → primitive_step true (state_of rest old) code target args p ≡ performed target done (state_of rest old)) → done_by d ≡ done → IfOk r (λ ending. Follows (performed target (done_by d)) ending old new) → Calls p target args old new r
 does_deed p target args old new (Ok ending) d done same is h =
     λ code rest. same code rest ∙ ap (λ e. performed target e (state_of rest old)) (sym is) ∙ h rest
 does_deed p target args old new (Err failed) d done same is h = tt

@@ -24,9 +24,8 @@ use Rattle.c_core.specs.Step.{Next, Goes, Ends, Faulted, Makes, Says, Fails, if_
 use Rattle.c_core.proofs.ReleaseLemmas.{release-nothing}
 use Rattle.c_runner_deeds.specs.declared.ending.Ending.{Ending}
 use Rattle.c_runner_deeds.specs.declared.state.Frame.{Frame}
-use Rattle.c_runner_deeds.specs.declared.state.State.{State}
 use Rattle.c_runner_deeds.specs.Parts.{exception_made, exception_shown, object_set, only_text}
-use Rattle.c_runner_deeds.specs.States.{Rest, Follows, state_of, with_target}
+use Rattle.c_runner_deeds.specs.States.{Seen, Rest, Follows, state_of, with_target}
 use Rattle.slot_arena.specs.declared.key.Key.{Key}
 use Rattle.cell_heap.specs.declared.word.Word.{Word}
 use Rattle.cell_heap.specs.declared.word.Word.TheVariants as heap
@@ -35,26 +34,26 @@ use Rattle.cell_heap.specs.Contents.{number_of}
 use Rattle.c_runner_deeds.proofs.FrameLemmas.{target_set}
 
 -- ---- the same step in other words
-pub follows_all : {E : Type 0} (does other : Code → MachineState → Next) (old new : State) (r : Result (Option Ending) E) → ((code : Code) (rest : Rest) → other code (state_of rest old) ≡ does code (state_of rest old)) → IfOk r (λ ending. (code : Code) → Follows (does code) ending old new) → IfOk r (λ ending. (code : Code) → Follows (other code) ending old new)
+pub follows_all : {E : Type 0} (does other : Code → MachineState → Next) (old new : Seen) (r : Result (Option Ending) E) → ((code : Code) (rest : Rest) → other code (state_of rest old) ≡ does code (state_of rest old)) → IfOk r (λ ending. (code : Code) → Follows (does code) ending old new) → IfOk r (λ ending. (code : Code) → Follows (other code) ending old new)
 follows_all does other old new (Ok ending) same h = λ code rest. same code rest ∙ h code rest
 follows_all does other old new (Err e) same h = tt
 
 -- the same where no code is asked for
-pub follows_for : {E : Type 0} (does : MachineState → Next) (other : Code → MachineState → Next) (old new : State) (r : Result (Option Ending) E) → ((code : Code) (rest : Rest) → other code (state_of rest old) ≡ does (state_of rest old)) → IfOk r (λ ending. Follows does ending old new) → IfOk r (λ ending. (code : Code) → Follows (other code) ending old new)
+pub follows_for : {E : Type 0} (does : MachineState → Next) (other : Code → MachineState → Next) (old new : Seen) (r : Result (Option Ending) E) → ((code : Code) (rest : Rest) → other code (state_of rest old) ≡ does (state_of rest old)) → IfOk r (λ ending. Follows does ending old new) → IfOk r (λ ending. (code : Code) → Follows (other code) ending old new)
 follows_for does other old new (Ok ending) same h = λ code rest. same code rest ∙ h rest
 follows_for does other old new (Err e) same h = tt
 
 -- the same where the code is one
-pub follows_on : {E : Type 0} (does other : MachineState → Next) (old new : State) (r : Result (Option Ending) E) → ((rest : Rest) → other (state_of rest old) ≡ does (state_of rest old)) → IfOk r (λ ending. Follows does ending old new) → IfOk r (λ ending. Follows other ending old new)
+pub follows_on : {E : Type 0} (does other : MachineState → Next) (old new : Seen) (r : Result (Option Ending) E) → ((rest : Rest) → other (state_of rest old) ≡ does (state_of rest old)) → IfOk r (λ ending. Follows does ending old new) → IfOk r (λ ending. Follows other ending old new)
 follows_on does other old new (Ok ending) same h = λ rest. same rest ∙ h rest
 follows_on does other old new (Err e) same h = tt
 
 -- ---- an exception that a failure makes
-pub failed : (rest : Rest) (old : State) (target : Option ℕ) (w : Word) (e : Thrown) (key : Key) (cells : Cells Content) (top : Frame) → number_of key ≡ length old.cells → cells ≡ make (ExcCell e) old.cells → top ≡ with_target target w old.top → applied true (state_of rest old) target old.top.ledger [] (Fails (contents.word_of w) e) ≡ Goes (state_of rest (record old { cells = cells; pending = Some key; top = record top { place = top.place + 1 } }))
+pub failed : (rest : Rest) (old : Seen) (target : Option ℕ) (w : Word) (e : Thrown) (key : Key) (cells : Cells Content) (top : Frame) → number_of key ≡ length old.cells → cells ≡ make (ExcCell e) old.cells → top ≡ with_target target w old.top → applied true (state_of rest old) target old.top.ledger [] (Fails (contents.word_of w) e) ≡ Goes (state_of rest (record old { cells = cells; pending = Some key; top = record top { place = top.place + 1 } }))
 failed rest old target w e key cells top key_is cells_is top_is =
     let s = state_of rest old in
     let v = contents.word_of w in
-    let made : State = record old { cells = make (ExcCell e) old.cells; pending = Some key } in
+    let made : Seen = record old { cells = make (ExcCell e) old.cells; pending = Some key } in
     ap (λ cs. Goes (next_line (step.with_target target v (raise e (with_cells cs s))))) (release-nothing refs_in s.cells)
     ∙ ap (λ n. Goes (next_line (step.with_target target v (record s { cells = make (ExcCell e) s.cells; pending = Some n })))) (sym key_is)
     ∙ ap (λ t. Goes (next_line t)) (target_set rest made target w)
@@ -62,10 +61,10 @@ failed rest old target w e key cells top key_is cells_is top_is =
     ∙ ap (λ f. Goes (state_of rest (record made { top = record f { place = f.place + 1 } }))) top_is)
 
 -- ---- an exception that is caught
-pub caught_is : (rest : Rest) (old : State) (target : Option ℕ) (key : Key) (number : ℕ) (ledger : List ℕ) (top : Frame) → old.pending ≡ Some key → number ≡ number_of key → ledger ≡ more number old.top.ledger → top ≡ with_target target (heap.Cell key) (record old.top { ledger = ledger }) → applied true (state_of rest old) target old.top.ledger [] (caught (state_of rest old).pending) ≡ Goes (state_of rest (record old { pending = None; top = record top { place = top.place + 1 } }))
+pub caught_is : (rest : Rest) (old : Seen) (target : Option ℕ) (key : Key) (number : ℕ) (ledger : List ℕ) (top : Frame) → old.pending ≡ Some key → number ≡ number_of key → ledger ≡ more number old.top.ledger → top ≡ with_target target (heap.Cell key) (record old.top { ledger = ledger }) → applied true (state_of rest old) target old.top.ledger [] (caught (state_of rest old).pending) ≡ Goes (state_of rest (record old { pending = None; top = record top { place = top.place + 1 } }))
 caught_is rest old target key number ledger top e n l t =
     let s = state_of rest old in
-    let made : State = record old { pending = None; top = record old.top { ledger = more (number_of key) old.top.ledger } } in
+    let made : Seen = record old { pending = None; top = record old.top { ledger = more (number_of key) old.top.ledger } } in
     ap (λ p. applied true s target old.top.ledger [] (caught (option_map number_of p))) e
     ∙ ap (λ u. Goes (next_line u)) (target_set rest made target (heap.Cell key))
     ∙ sym (ap (λ f. Goes (state_of rest (record old { pending = None; top = record f { place = f.place + 1 } }))) (t ∙ ap (λ d. with_target target (heap.Cell key) (record old.top { ledger = d })) (l ∙ ap (λ m. more m old.top.ledger) n)))
@@ -105,12 +104,12 @@ shown_is s code target x is_alone c e copy next found alone same is =
     ∙ is
 
 -- ---- the same for what a call answers
-pub makes_exception : {E : Type 0} (old new : State) (target : Option ℕ) (name : List ℕ) (x : ℕ) (is_alone : Bool) (c : ℕ) (text copy : List ℕ) (class : ExcClass) (r : Result (Option Ending) E) → ((rest : Rest) (go : Argument → Next) → if_variable true (state_of rest old) Object AText x go ≡ go (Cell c (StrCell text))) → is_alone ≡ true → copy ≡ text → Some class ≡ class_named name → IfOk r (λ ending. Follows (λ s. applied true s target s.top.ledger [] (Makes (ExcCell (thrown class copy)))) ending old new) → IfOk r (λ ending. (code : Code) → Follows (exception_made code target name x is_alone) ending old new)
+pub makes_exception : {E : Type 0} (old new : Seen) (target : Option ℕ) (name : List ℕ) (x : ℕ) (is_alone : Bool) (c : ℕ) (text copy : List ℕ) (class : ExcClass) (r : Result (Option Ending) E) → ((rest : Rest) (go : Argument → Next) → if_variable true (state_of rest old) Object AText x go ≡ go (Cell c (StrCell text))) → is_alone ≡ true → copy ≡ text → Some class ≡ class_named name → IfOk r (λ ending. Follows (λ s. applied true s target s.top.ledger [] (Makes (ExcCell (thrown class copy)))) ending old new) → IfOk r (λ ending. (code : Code) → Follows (exception_made code target name x is_alone) ending old new)
 makes_exception old new target name x is_alone c text copy class (Ok ending) found alone same e h =
     λ code rest. made_is (state_of rest old) code target name x is_alone c text copy class _ (found rest) alone same e (h rest)
 makes_exception old new target name x is_alone c text copy class (Err failed) found alone same e h = tt
 
-pub shows_exception : {E : Type 0} (old new : State) (target : Option ℕ) (x : ℕ) (is_alone : Bool) (c : ℕ) (e : Thrown) (copy : List ℕ) (r : Result (Option Ending) E) → ((rest : Rest) (go : Argument → Next) → if_variable true (state_of rest old) Object AnException x go ≡ go (Cell c (ExcCell e))) → is_alone ≡ true → copy ≡ e.text → IfOk r (λ ending. Follows (λ s. applied true s target s.top.ledger [] (Makes (StrCell copy))) ending old new) → IfOk r (λ ending. (code : Code) → Follows (exception_shown code target x is_alone) ending old new)
+pub shows_exception : {E : Type 0} (old new : Seen) (target : Option ℕ) (x : ℕ) (is_alone : Bool) (c : ℕ) (e : Thrown) (copy : List ℕ) (r : Result (Option Ending) E) → ((rest : Rest) (go : Argument → Next) → if_variable true (state_of rest old) Object AnException x go ≡ go (Cell c (ExcCell e))) → is_alone ≡ true → copy ≡ e.text → IfOk r (λ ending. Follows (λ s. applied true s target s.top.ledger [] (Makes (StrCell copy))) ending old new) → IfOk r (λ ending. (code : Code) → Follows (exception_shown code target x is_alone) ending old new)
 shows_exception old new target x is_alone c e copy (Ok ending) found alone same h =
     λ code rest. shown_is (state_of rest old) code target x is_alone c e copy _ (found rest) alone same (h rest)
 shows_exception old new target x is_alone c e copy (Err failed) found alone same h = tt

@@ -18,11 +18,10 @@ use Rattle.c_core.specs.declared.fault.Fault.TheVariants as fault
 use Rattle.c_core.specs.Cells.{content_at}
 use Rattle.c_core.specs.Ledgers.{Ledger}
 use Rattle.c_core.specs.Step.{Next, Goes, Ends, Faulted, if_some, if_true, if_there, if_variable, if_argument, if_arguments, faulted}
-use Rattle.c_runner_deeds.specs.declared.state.State.{State}
 use Rattle.c_runner_deeds.specs.Deeds.{int_held, int_of, int_at, text_held, text_of, text_at, alone, paired}
 use Rattle.c_runner_deeds.specs.Parts as parts
 use Rattle.c_runner_deeds.specs.Parts.{cell_argument, argument_of, passed_on}
-use Rattle.c_runner_deeds.specs.States.{Rest, first_rest, state_of}
+use Rattle.c_runner_deeds.specs.States.{Seen, Rest, first_rest, state_of}
 use Rattle.cell_heap.specs.declared.word.Word as heap
 use Rattle.cell_heap.specs.Contents as contents
 
@@ -354,7 +353,7 @@ module _ (s : MachineState) where
   same_found (Ok v) (Err why) all = let differ : shown v ≡ Ends (Faulted why) s = all shown in absurd (cc)
   same_found (Err why) (Ok w) all = let differ : Ends (Faulted why) s ≡ shown (contents.word_of w) = all shown in absurd (cc)
 
-pub any_passed : (old : State) (o : Option CArg) (a : CArg) (passed : Result heap.Word Fault) → o ≡ Some a → ((rest : Rest) (go : Word → Next) → parts.if_argument (state_of rest old) Object a go ≡ passed_on passed (state_of rest old) go) → MatchResult passed (λ w. any_at old.cells (map contents.word_of old.top.vars) o ≡ Ok (contents.word_of w)) (λ why. any_at old.cells (map contents.word_of old.top.vars) o ≡ Err why)
+pub any_passed : (old : Seen) (o : Option CArg) (a : CArg) (passed : Result heap.Word Fault) → o ≡ Some a → ((rest : Rest) (go : Word → Next) → parts.if_argument (state_of rest old) Object a go ≡ passed_on passed (state_of rest old) go) → MatchResult passed (λ w. any_at old.cells (map contents.word_of old.top.vars) o ≡ Ok (contents.word_of w)) (λ why. any_at old.cells (map contents.word_of old.top.vars) o ≡ Err why)
 any_passed old o a passed is all =
     let s = state_of (first_rest Eof) old in
     let there : Option CArg → Result Word Fault = any_at s.cells s.top.vars in

@@ -8,9 +8,8 @@ use Rattle.c_core.specs.Machine as machine
 use Rattle.c_core.specs.Machine.{MachineState}
 use Rattle.c_core.specs.Step as step
 use Rattle.c_core.specs.Step.{Next, if_some, if_there}
-use Rattle.c_runner_deeds.specs.declared.state.State.{State}
 use Rattle.c_runner_deeds.specs.Parts.{is_there}
-use Rattle.c_runner_deeds.specs.States.{Rest, frame_of, state_of, with_target}
+use Rattle.c_runner_deeds.specs.States.{Seen, Rest, frame_of, state_of, with_target}
 use Rattle.cell_heap.specs.declared.word.Word.{Word}
 use Rattle.cell_heap.specs.Contents as contents
 
@@ -32,7 +31,7 @@ there s machine.FalseObject go e = refl
 there s machine.NoObject go e = refl
 
 -- ---- a return
-pub target_set : (rest : Rest) (st : State) (target : Option ℕ) (w : Word) → step.with_target target (contents.word_of w) (state_of rest st) ≡ state_of rest (record st { top = with_target target w st.top })
+pub target_set : (rest : Rest) (st : Seen) (target : Option ℕ) (w : Word) → step.with_target target (contents.word_of w) (state_of rest st) ≡ state_of rest (record st { top = with_target target w st.top })
 target_set rest st None w = refl
 target_set rest st (Some x) w =
     let with : List machine.Word → MachineState = λ v. record (state_of rest st) { top = record (frame_of st.top) { vars = v } } in

@@ -33,9 +33,8 @@ use Rattle.c_core.specs.Step.{Next, Goes, Ends, Faulted, Wrong, Shares, if_some,
 use Rattle.c_core.proofs.ReleaseLemmas.{release-nothing}
 use Rattle.c_runner_deeds.specs.declared.ending.Ending.{Ending}
 use Rattle.c_runner_deeds.specs.declared.state.Frame.{Frame}
-use Rattle.c_runner_deeds.specs.declared.state.State.{State}
 use Rattle.c_runner_deeds.specs.Parts.{if_argument, is_there, global_set, with_taken, cell_argument, argument_of, is_owned, left_by, stolen_or, global_of}
-use Rattle.c_runner_deeds.specs.States.{Rest, Follows, held_of, state_of, with_target}
+use Rattle.c_runner_deeds.specs.States.{Seen, Rest, Follows, held_of, state_of, with_target}
 use Rattle.slot_arena.specs.declared.key.Key.{Key}
 use Rattle.cell_heap.specs.declared.word.Word.{Word}
 use Rattle.cell_heap.specs.declared.word.Word.TheVariants as heap
@@ -98,12 +97,12 @@ kind_is code name n g e is =
     kind_by_number code name ∙ ap (λ o. option_map (λ h. h.1) (option_and_then (slice_get code.globals) o)) (sym e) ∙ ap (option_map (λ h. h.1)) (sym is)
 
 -- what a global holds, by its number
-pub held_is : (rest : Rest) (old : State) (code : Code) (name : List ℕ) (n : ℕ) (o : Option (Option Word)) → Some n ≡ number_of_global code name → o ≡ slice_get old.globals n → global_at code (state_of rest old) name ≡ option_map held_of o
+pub held_is : (rest : Rest) (old : Seen) (code : Code) (name : List ℕ) (n : ℕ) (o : Option (Option Word)) → Some n ≡ number_of_global code name → o ≡ slice_get old.globals n → global_at code (state_of rest old) name ≡ option_map held_of o
 held_is rest old code name n o e is =
     ap (option_and_then (slice_get (map held_of old.globals))) (sym e) ∙ slice_get-map held_of old.globals n ∙ ap (option_map held_of) (sym is)
 
 -- ---- a word whose reference is taken
-shared_is : (rest : Rest) (old : State) (w : machine.Word) → shared w (state_of rest old) ≡ state_of rest (record old { cells = with_taken w old.cells; top = record old.top { ledger = more_of (refs_of w) old.top.ledger } })
+shared_is : (rest : Rest) (old : Seen) (w : machine.Word) → shared w (state_of rest old) ≡ state_of rest (record old { cells = with_taken w old.cells; top = record old.top { ledger = more_of (refs_of w) old.top.ledger } })
 shared_is rest old (BigInt c) = refl
 shared_is rest old (ObjectCell c) = refl
 shared_is rest old (ShortInt n) = refl
@@ -115,10 +114,10 @@ shared_is rest old TrueObject = refl
 shared_is rest old FalseObject = refl
 shared_is rest old NoObject = refl
 
-pub word_shared : (rest : Rest) (old : State) (target : Option ℕ) (w : Word) (cells : Cells Content) (owner top : Frame) → cells ≡ with_taken (contents.word_of w) old.cells → owner ≡ record old.top { ledger = more_of (refs_of (contents.word_of w)) old.top.ledger } → top ≡ with_target target w owner → applied true (state_of rest old) target old.top.ledger [] (Shares (contents.word_of w)) ≡ Goes (state_of rest (record old { cells = cells; top = record top { place = top.place + 1 } }))
+pub word_shared : (rest : Rest) (old : Seen) (target : Option ℕ) (w : Word) (cells : Cells Content) (owner top : Frame) → cells ≡ with_taken (contents.word_of w) old.cells → owner ≡ record old.top { ledger = more_of (refs_of (contents.word_of w)) old.top.ledger } → top ≡ with_target target w owner → applied true (state_of rest old) target old.top.ledger [] (Shares (contents.word_of w)) ≡ Goes (state_of rest (record old { cells = cells; top = record top { place = top.place + 1 } }))
 word_shared rest old target w cells owner top cells_is owner_is top_is =
     let v = contents.word_of w in
-    let made : State = record old { cells = with_taken v old.cells; top = record old.top { ledger = more_of (refs_of v) old.top.ledger } } in
+    let made : Seen = record old { cells = with_taken v old.cells; top = record old.top { ledger = more_of (refs_of v) old.top.ledger } } in
     let taken = shared v (state_of rest old) in
     ap (λ cs. Goes (next_line (step.with_target target v (with_cells cs taken)))) (release-nothing refs_in taken.cells)
     ∙ ap (λ t. Goes (next_line (step.with_target target v t))) (shared_is rest old v)
@@ -126,13 +125,13 @@ word_shared rest old target w cells owner top cells_is owner_is top_is =
     ∙ sym (ap (λ cs. Goes (state_of rest (record old { cells = cs; top = record top { place = top.place + 1 } }))) cells_is
     ∙ ap (λ f. Goes (state_of rest (record made { top = record f { place = f.place + 1 } }))) (top_is ∙ ap (with_target target w) owner_is))
 
-pub held_shared : (rest : Rest) (old : State) (code : Code) (name : List ℕ) (target : Option ℕ) (n : ℕ) (g : List ℕ × Kind) (w : Word) (next : Next) → Some n ≡ number_of_global code name → Some g ≡ slice_get code.globals n → Some (Some w) ≡ slice_get old.globals n → applied true (state_of rest old) target old.top.ledger [] (Shares (contents.word_of w)) ≡ next → applied true (state_of rest old) target old.top.ledger [] (got name (kind_of_global code name) (global_at code (state_of rest old) name)) ≡ next
+pub held_shared : (rest : Rest) (old : Seen) (code : Code) (name : List ℕ) (target : Option ℕ) (n : ℕ) (g : List ℕ × Kind) (w : Word) (next : Next) → Some n ≡ number_of_global code name → Some g ≡ slice_get code.globals n → Some (Some w) ≡ slice_get old.globals n → applied true (state_of rest old) target old.top.ledger [] (Shares (contents.word_of w)) ≡ next → applied true (state_of rest old) target old.top.ledger [] (got name (kind_of_global code name) (global_at code (state_of rest old) name)) ≡ next
 held_shared rest old code name target n g w next e is held last =
     ap (λ k. applied true (state_of rest old) target old.top.ledger [] (got name k (global_at code (state_of rest old) name))) (kind_is code name n g e is)
     ∙ ap (λ o. applied true (state_of rest old) target old.top.ledger [] (got name (Some g.1) o)) (held_is rest old code name n (Some (Some w)) e held)
     ∙ last
 
-pub none_held : (rest : Rest) (old : State) (code : Code) (name : List ℕ) (target : Option ℕ) (n : ℕ) (g : List ℕ × Kind) (w : machine.Word) (t : List ℕ) (next : Next) → Some n ≡ number_of_global code name → Some g ≡ slice_get code.globals n → Some None ≡ slice_get old.globals n → w ≡ error_word g.1 → t ≡ (step.not_defined name).text → applied true (state_of rest old) target old.top.ledger [] (step.Fails w (thrown NameError t)) ≡ next → applied true (state_of rest old) target old.top.ledger [] (got name (kind_of_global code name) (global_at code (state_of rest old) name)) ≡ next
+pub none_held : (rest : Rest) (old : Seen) (code : Code) (name : List ℕ) (target : Option ℕ) (n : ℕ) (g : List ℕ × Kind) (w : machine.Word) (t : List ℕ) (next : Next) → Some n ≡ number_of_global code name → Some g ≡ slice_get code.globals n → Some None ≡ slice_get old.globals n → w ≡ error_word g.1 → t ≡ (step.not_defined name).text → applied true (state_of rest old) target old.top.ledger [] (step.Fails w (thrown NameError t)) ≡ next → applied true (state_of rest old) target old.top.ledger [] (got name (kind_of_global code name) (global_at code (state_of rest old) name)) ≡ next
 none_held rest old code name target n g w t next e is held word_is text_is last =
     ap (λ k. applied true (state_of rest old) target old.top.ledger [] (got name k (global_at code (state_of rest old) name))) (kind_is code name n g e is)
     ∙ ap (λ o. applied true (state_of rest old) target old.top.ledger [] (got name (Some g.1) o)) (held_is rest old code name n (Some None) e held)
@@ -141,16 +140,16 @@ none_held rest old code name target n g w t next e is held word_is text_is last 
     ∙ last
 
 -- the same for what a call answers
-pub shares_held : {E : Type 0} (old new : State) (code : Code) (name : List ℕ) (target : Option ℕ) (n : ℕ) (g : List ℕ × Kind) (w : Word) (r : Result (Option Ending) E) → Some n ≡ number_of_global code name → Some g ≡ slice_get code.globals n → Some (Some w) ≡ slice_get old.globals n → IfOk r (λ ending. Follows (λ s. applied true s target s.top.ledger [] (Shares (contents.word_of w))) ending old new) → IfOk r (λ ending. Follows (λ s. applied true s target s.top.ledger [] (got name (kind_of_global code name) (global_at code s name))) ending old new)
+pub shares_held : {E : Type 0} (old new : Seen) (code : Code) (name : List ℕ) (target : Option ℕ) (n : ℕ) (g : List ℕ × Kind) (w : Word) (r : Result (Option Ending) E) → Some n ≡ number_of_global code name → Some g ≡ slice_get code.globals n → Some (Some w) ≡ slice_get old.globals n → IfOk r (λ ending. Follows (λ s. applied true s target s.top.ledger [] (Shares (contents.word_of w))) ending old new) → IfOk r (λ ending. Follows (λ s. applied true s target s.top.ledger [] (got name (kind_of_global code name) (global_at code s name))) ending old new)
 shares_held old new code name target n g w (Ok ending) e is held h = λ rest. held_shared rest old code name target n g w _ e is held (h rest)
 shares_held old new code name target n g w (Err failed) e is held h = tt
 
-pub fails_unheld : {E : Type 0} (old new : State) (code : Code) (name : List ℕ) (target : Option ℕ) (n : ℕ) (g : List ℕ × Kind) (w : machine.Word) (text : List ℕ) (r : Result (Option Ending) E) → Some n ≡ number_of_global code name → Some g ≡ slice_get code.globals n → Some None ≡ slice_get old.globals n → w ≡ error_word g.1 → text ≡ (step.not_defined name).text → IfOk r (λ ending. Follows (λ s. applied true s target s.top.ledger [] (step.Fails w (thrown NameError text))) ending old new) → IfOk r (λ ending. Follows (λ s. applied true s target s.top.ledger [] (got name (kind_of_global code name) (global_at code s name))) ending old new)
+pub fails_unheld : {E : Type 0} (old new : Seen) (code : Code) (name : List ℕ) (target : Option ℕ) (n : ℕ) (g : List ℕ × Kind) (w : machine.Word) (text : List ℕ) (r : Result (Option Ending) E) → Some n ≡ number_of_global code name → Some g ≡ slice_get code.globals n → Some None ≡ slice_get old.globals n → w ≡ error_word g.1 → text ≡ (step.not_defined name).text → IfOk r (λ ending. Follows (λ s. applied true s target s.top.ledger [] (step.Fails w (thrown NameError text))) ending old new) → IfOk r (λ ending. Follows (λ s. applied true s target s.top.ledger [] (got name (kind_of_global code name) (global_at code s name))) ending old new)
 fails_unheld old new code name target n g w text (Ok ending) e is held word_is text_is h = λ rest. none_held rest old code name target n g w text _ e is held word_is text_is (h rest)
 fails_unheld old new code name target n g w text (Err failed) e is held word_is text_is h = tt
 
 -- ---- a write
-pub store_is : (rest : Rest) (old : State) (n : ℕ) (held word : Option Word) (cells : Cells Content) (globals : List (Option Word)) → globals ≡ slice_set old.globals n word → cells ≡ release refs_in old.cells (set_refs (held_of held ∷ [])) → state_of rest (record old { cells = cells; globals = globals; top = record old.top { place = old.top.place + 1 } }) ≡ next_line (step.given true (state_of rest old) (set_refs (held_of held ∷ [])) (record (state_of rest old) { globals = slice_set (state_of rest old).globals n (held_of word) }))
+pub store_is : (rest : Rest) (old : Seen) (n : ℕ) (held word : Option Word) (cells : Cells Content) (globals : List (Option Word)) → globals ≡ slice_set old.globals n word → cells ≡ release refs_in old.cells (set_refs (held_of held ∷ [])) → state_of rest (record old { cells = cells; globals = globals; top = record old.top { place = old.top.place + 1 } }) ≡ next_line (step.given true (state_of rest old) (set_refs (held_of held ∷ [])) (record (state_of rest old) { globals = slice_set (state_of rest old).globals n (held_of word) }))
 store_is rest old n held word cells globals globals_is cells_is =
     let with : Cells Content → List (Option machine.Word) → MachineState = λ cs gs. next_line (record (state_of rest old) { cells = cs; globals = gs }) in
     ap (λ cs. with cs (map held_of globals)) cells_is
@@ -322,7 +321,7 @@ module _ (s : MachineState) (code : Code) (target : Option ℕ) where
   pub set_crowded : (n : ℕ) (g : List ℕ × Kind) (alone : Bool) (w : Word) → alone ≡ false → SetAs n g alone (Ok w) (Ends (Faulted fault.Kind) s)
   set_crowded n g alone w e = λ name is kind. ap (λ b. cond b (applied true s target (left_by (contents.word_of w) s.top.ledger) (stolen (row_of (prim.Global global.Set)).parameters (Written (arg.Global name) ∷ argument_of s.cells (contents.word_of w) ∷ [])) (step.effect code s (prim.Global global.Set) (Written (arg.Global name) ∷ argument_of s.cells (contents.word_of w) ∷ []))) (faulted true s fault.Kind)) e
 
-module _ (rest : Rest) (old : State) (code : Code) (target : Option ℕ) where
+module _ (rest : Rest) (old : Seen) (code : Code) (target : Option ℕ) where
   abbrev t : MachineState
   t = state_of rest old
 
@@ -333,7 +332,7 @@ module _ (rest : Rest) (old : State) (code : Code) (target : Option ℕ) where
       ∙ ap (λ e. cond alone (applied true t target (left_by (contents.word_of w) t.top.ledger) (stolen (row_of (prim.Global global.Set)).parameters (Written (arg.Global name) ∷ x ∷ [])) e) (faulted true t fault.Kind)) (no_word (number_of_global code name) _)
       ∙ choice_alike alone (faulted true t fault.Kind)
 
-  pub set_held : (n : ℕ) (g : List ℕ × Kind) (alone : Bool) (w : Word) (held : Option Word) (top : Frame) (new : State) → alone ≡ true → word_in g.1 (argument_of old.cells (contents.word_of w)) ≡ Some (contents.word_of w) → Some held ≡ slice_get old.globals n → top ≡ record old.top { ledger = left_by (contents.word_of w) old.top.ledger } → state_of rest new ≡ next_line (step.given true (state_of rest (record old { top = top })) (set_refs (held_of held ∷ [])) (record (state_of rest (record old { top = top })) { globals = slice_set (map held_of old.globals) n (Some (contents.word_of w)) })) → SetAs t code target n g alone (Ok w) (Goes (state_of rest new))
+  pub set_held : (n : ℕ) (g : List ℕ × Kind) (alone : Bool) (w : Word) (held : Option Word) (top : Frame) (new : Seen) → alone ≡ true → word_in g.1 (argument_of old.cells (contents.word_of w)) ≡ Some (contents.word_of w) → Some held ≡ slice_get old.globals n → top ≡ record old.top { ledger = left_by (contents.word_of w) old.top.ledger } → state_of rest new ≡ next_line (step.given true (state_of rest (record old { top = top })) (set_refs (held_of held ∷ [])) (record (state_of rest (record old { top = top })) { globals = slice_set (map held_of old.globals) n (Some (contents.word_of w)) })) → SetAs t code target n g alone (Ok w) (Goes (state_of rest new))
   set_held n g alone w held top new only word held_at top_is last = λ name is kind.
       let v = contents.word_of w in
       let x = argument_of t.cells v in

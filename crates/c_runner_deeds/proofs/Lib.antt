@@ -1,3 +1,7 @@
+pub mod PlainLemmas
+pub mod CellsLemmas
+pub mod WordReads
+pub mod OursLemmas
 pub mod FrameLemmas
 pub mod StateLemmas
 pub mod CallLemmas

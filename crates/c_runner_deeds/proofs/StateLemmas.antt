@@ -24,8 +24,7 @@ use Rattle.c_core.specs.Step.{Next, Goes, Makes, word_of, if_some, literal_word,
 use Rattle.c_core.proofs.ReleaseLemmas.{release-nothing}
 use Rattle.c_runner_deeds.specs.declared.ending.Ending.{Ending}
 use Rattle.c_runner_deeds.specs.declared.state.Frame.{Frame}
-use Rattle.c_runner_deeds.specs.declared.state.State.{State}
-use Rattle.c_runner_deeds.specs.States.{Rest, state_of, with_target, Follows}
+use Rattle.c_runner_deeds.specs.States.{Seen, Rest, state_of, with_target, Follows}
 use Rattle.slot_arena.specs.declared.key.Key.{Key}
 use Rattle.cell_heap.specs.declared.word.Word.{Word}
 use Rattle.cell_heap.specs.declared.word.Word.TheVariants as heap
@@ -34,7 +33,7 @@ use Rattle.cell_heap.specs.Contents.{number_of}
 use Rattle.c_runner_deeds.specs.Parts.{written, is_there}
 use Rattle.c_runner_deeds.proofs.FrameLemmas.{there, target_set}
 
-module _ (rest : Rest) (old : State) where
+module _ (rest : Rest) (old : Seen) where
   abbrev s : MachineState
   s = state_of rest old
 
@@ -46,7 +45,7 @@ module _ (rest : Rest) (old : State) where
   word_at x w go e = ap (λ o. if_some true s fault.Kind o go) (var_is x (Some w) e)
 
   -- a frame, which goes on to the next line
-  abbrev pub onwards : Frame → State
+  abbrev pub onwards : Frame → Seen
   onwards top = record old { top = record top { place = top.place + 1 } }
 
   -- a variable is written
@@ -86,14 +85,14 @@ module _ (rest : Rest) (old : State) where
       ∙ ap (λ out. Goes (next_line (record s { output = out }))) (append_assoc rest.handed old.output text ∙ ap (λ t. rest.handed ++ t) (sym h))
 
 -- a cell is made, which the frame owns and the target refers to; where it is an object it is noted
-pub cell_made : (rest : Rest) (old : State) (target : Option ℕ) (content : machine.Content) (key : Key) (number : ℕ) (cells : Cells machine.Content) (ledger : List ℕ) (top : Frame) → number ≡ number_of key → number_of key ≡ length old.cells → cells ≡ make content old.cells → ledger ≡ more number old.top.ledger → top ≡ with_target target (heap.Cell key) (record old.top { ledger = ledger }) → applied true (state_of rest old) target old.top.ledger [] (Makes content) ≡ Goes (state_of (record rest { made = noted content (length old.cells) rest.made }) (record old { cells = cells; top = record top { place = top.place + 1 } }))
+pub cell_made : (rest : Rest) (old : Seen) (target : Option ℕ) (content : machine.Content) (key : Key) (number : ℕ) (cells : Cells machine.Content) (ledger : List ℕ) (top : Frame) → number ≡ number_of key → number_of key ≡ length old.cells → cells ≡ make content old.cells → ledger ≡ more number old.top.ledger → top ≡ with_target target (heap.Cell key) (record old.top { ledger = ledger }) → applied true (state_of rest old) target old.top.ledger [] (Makes content) ≡ Goes (state_of (record rest { made = noted content (length old.cells) rest.made }) (record old { cells = cells; top = record top { place = top.place + 1 } }))
 cell_made rest old None content key number cells ledger top n k c l t =
-    let after : State → Next = λ r. Goes (state_of (record rest { made = noted content (length old.cells) rest.made }) r) in
+    let after : Seen → Next = λ r. Goes (state_of (record rest { made = noted content (length old.cells) rest.made }) r) in
     sym (ap (λ f. after (record old { cells = cells; top = record f { place = f.place + 1 } })) t ∙ ap (λ h. after (record old { cells = h; top = record old.top { place = old.top.place + 1; ledger = ledger } })) c ∙ ap (λ d. after (record old { cells = make content old.cells; top = record old.top { place = old.top.place + 1; ledger = d } })) (l ∙ ap (λ m. more m old.top.ledger) (n ∙ k)))
 cell_made rest old (Some x) content key number cells ledger top n k c l t =
-    let made : State = record old { cells = make content old.cells; top = record old.top { ledger = more (length old.cells) old.top.ledger } } in
+    let made : Seen = record old { cells = make content old.cells; top = record old.top { ledger = more (length old.cells) old.top.ledger } } in
     let later : Rest = record rest { made = noted content (length old.cells) rest.made } in
-    let after : State → Next = λ r. Goes (state_of later r) in
+    let after : Seen → Next = λ r. Goes (state_of later r) in
     ap (λ m. Goes (next_line (with_var x (machine.ObjectCell m) (state_of later made)))) (sym k)
     ∙ ap Goes (set_is later made x (heap.Cell key))
     ∙ sym (ap (λ f. after (record old { cells = cells; top = record f { place = f.place + 1 } })) t
@@ -112,6 +111,6 @@ call_is code s target (a ∷ b ∷ more) x alone e is =
     let no : alone ≡ false = is ∙ grind (arith, nat_tests) in
     ap (λ d. primitive_step true s code target (d ∷ b ∷ more) (Io Write)) first ∙ ap (λ d. written code target x d s) (sym no)
 
-pub call_writes : {E : Type 0} (args : List CArg) (x : ℕ) (alone : Bool) (old new : State) (r : Result (Option Ending) E) → slice_get args 0 ≡ Some (arg.Var x) → alone ≡ eqb (length args) 1 → IfOk r (λ ending. (code : Code) (target : Option ℕ) → Follows (written code target x alone) ending old new) → IfOk r (λ ending. (code : Code) (target : Option ℕ) → Follows (λ s. primitive_step true s code target args (Io Write)) ending old new)
+pub call_writes : {E : Type 0} (args : List CArg) (x : ℕ) (alone : Bool) (old new : Seen) (r : Result (Option Ending) E) → slice_get args 0 ≡ Some (arg.Var x) → alone ≡ eqb (length args) 1 → IfOk r (λ ending. (code : Code) (target : Option ℕ) → Follows (written code target x alone) ending old new) → IfOk r (λ ending. (code : Code) (target : Option ℕ) → Follows (λ s. primitive_step true s code target args (Io Write)) ending old new)
 call_writes args x alone old new (Ok ending) f g h = λ code target rest. call_is code (state_of rest old) target args x alone f g ∙ h code target rest
 call_writes args x alone old new (Err e) f g h = tt

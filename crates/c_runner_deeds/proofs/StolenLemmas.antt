@@ -10,7 +10,7 @@ use Rattle.c_core.specs.declared.fault.Fault.TheVariants as fault
 use Rattle.c_core.specs.declared.primitive.Primitive.TheVariants as prim
 use Rattle.c_core.specs.declared.primitive.TaggedPrim.TheVariants as tagged
 use Rattle.c_core.specs.Arguments.{Argument, is_value_of, is_holding, word_in, stolen}
-use Rattle.c_core.specs.Cells.{Cells, times, content_at, lowered, take_one}
+use Rattle.c_core.specs.Cells.{Cell, Cells, change, times, content_at, lowered, take_one}
 use Rattle.c_core.specs.Ledgers.{Ledger, more, without}
 use Rattle.c_core.specs.Machine as machine
 use Rattle.c_core.specs.Machine.{ShortInt, BigInt, ObjectCell, Content, IntCell, MachineState, refs_of, refs_in, set_refs}
@@ -19,16 +19,14 @@ use Rattle.c_core.specs.Release.{after, freed, weight, release, release_some}
 use Rattle.c_core.specs.Step as step
 use Rattle.c_core.specs.Step.{Next, Goes, Ends, Faulted, Makes, Shares, if_true, if_argument, if_arguments, faulted, applied, primitive_step, next_line}
 use Rattle.c_runner_deeds.specs.declared.state.Frame.{Frame}
-use Rattle.c_runner_deeds.specs.declared.state.State.{State}
 use Rattle.c_runner_deeds.specs.Parts as parts
 use Rattle.c_runner_deeds.specs.Parts.{cell_argument, argument_of, left_by, stolen_or}
-use Rattle.c_runner_deeds.specs.States.{Rest, IsSmall, state_of, with_target}
+use Rattle.c_runner_deeds.specs.States.{Seen, Rest, IsSmall, state_of, with_target}
 use Rattle.slot_arena.specs.declared.key.Key.{Key}
 use Rattle.cell_heap.specs.declared.word.Word.{Word}
 use Rattle.cell_heap.specs.declared.word.Word.TheVariants as heap
 use Rattle.cell_heap.specs.Contents as contents
 use Rattle.cell_heap.specs.Contents.{number_of}
-use Rattle.cell_heap.proofs.ReleaseLemmas.{length-change}
 use Rattle.c_runner_deeds.proofs.FrameLemmas.{target_set}
 use Rattle.c_runner_deeds.proofs.GlobalLemmas.{if_lost, steals}
 
@@ -46,13 +44,18 @@ left_times (BigInt c) l e = less_times c l e
 left_times (ObjectCell c) l e = less_times c l e
 left_times _ l e = omega arith
 
-pub left_small : (old : State) (w : machine.Word) → IsSmall old → (c : ℕ) → times (left_by w old.top.ledger) c < 2 ^ 128
+pub left_small : (old : Seen) (w : machine.Word) → IsSmall old → (c : ℕ) → times (left_by w old.top.ledger) c < 2 ^ 128
 left_small old w few c = omega (arith, few.ledgers c, left_times w old.top.ledger c)
+
+length_changed : {X : Type 0} (by : Option (Cell X) → Option (Cell X)) (c : ℕ) (cells : Cells X) → length (change by c cells) ≡ length cells
+length_changed by c [] = refl
+length_changed by zero (o ∷ cells) = refl
+length_changed by (suc c) (o ∷ cells) = omega (arith, length_changed by c cells)
 
 length_some : (n : ℕ) (cells : Cells Content) (refs : List ℕ) → length (release_some refs_in n cells refs) ≡ length cells
 length_some zero cells refs = refl
 length_some (suc n) cells [] = refl
-length_some (suc n) cells (c ∷ refs) = length_some n (after c cells) (freed refs_in c cells ++ refs) ∙ length-change lowered c cells
+length_some (suc n) cells (c ∷ refs) = length_some n (after c cells) (freed refs_in c cells ++ refs) ∙ length_changed lowered c cells
 
 pub length_released : (cells : Cells Content) (refs : List ℕ) → length (release refs_in cells refs) ≡ length cells
 length_released cells refs = length_some (length refs + weight refs_in cells) cells refs
@@ -148,11 +151,11 @@ no_other_int (heap.Big key) short big value = big key refl
 no_other_int _ short big value = cc
 
 -- the cell of an `int` is the object: the frame gives its reference away, gets a new one, and the one that was given away is given up
-pub cell_boxed : (rest : Rest) (old : State) (target : Option ℕ) (key : Key) (taken cells : Cells Content) (lost owner top : Frame) → lost ≡ record old.top { ledger = without (number_of key) old.top.ledger } → taken ≡ take_one (number_of key) old.cells → owner ≡ record lost { ledger = more (number_of key) lost.ledger } → cells ≡ release refs_in taken (number_of key ∷ []) → top ≡ with_target target (heap.Cell key) owner → applied true (state_of rest old) target (without (number_of key) old.top.ledger) (number_of key ∷ []) (Shares (ObjectCell (number_of key))) ≡ Goes (state_of rest (record old { cells = cells; top = record top { place = top.place + 1 } }))
+pub cell_boxed : (rest : Rest) (old : Seen) (target : Option ℕ) (key : Key) (taken cells : Cells Content) (lost owner top : Frame) → lost ≡ record old.top { ledger = without (number_of key) old.top.ledger } → taken ≡ take_one (number_of key) old.cells → owner ≡ record lost { ledger = more (number_of key) lost.ledger } → cells ≡ release refs_in taken (number_of key ∷ []) → top ≡ with_target target (heap.Cell key) owner → applied true (state_of rest old) target (without (number_of key) old.top.ledger) (number_of key ∷ []) (Shares (ObjectCell (number_of key))) ≡ Goes (state_of rest (record old { cells = cells; top = record top { place = top.place + 1 } }))
 cell_boxed rest old target key taken cells lost owner top lost_is taken_is owner_is cells_is top_is =
     let c = number_of key in
     let owned : Frame → Frame = λ f. record f { ledger = more c f.ledger } in
-    let made : State = record old { cells = release refs_in (take_one c old.cells) (c ∷ []); top = record old.top { ledger = more c (without c old.top.ledger) } } in
+    let made : Seen = record old { cells = release refs_in (take_one c old.cells) (c ∷ []); top = record old.top { ledger = more c (without c old.top.ledger) } } in
     ap (λ t. Goes (next_line t)) (target_set rest made target (heap.Cell key))
     ∙ sym (ap (λ cs. Goes (state_of rest (record old { cells = cs; top = record top { place = top.place + 1 } }))) (cells_is ∙ ap (λ h. release refs_in h (c ∷ [])) taken_is)
     ∙ ap (λ f. Goes (state_of rest (record made { top = record f { place = f.place + 1 } }))) (top_is ∙ ap (with_target target (heap.Cell key)) (owner_is ∙ ap owned lost_is)))

@@ -35,11 +35,12 @@ use Rattle.c_core.specs.Strings.{counted_length, is_long_decimal, text_less, tex
 use Rattle.c_runner_deeds.specs.declared.deed.Deed.{Deed}
 use Rattle.c_runner_deeds.specs.declared.deed.Deed.TheVariants as deed
 use Rattle.c_runner_deeds.specs.declared.ending.Ending.{Ending}
-use Rattle.c_runner_deeds.specs.declared.state.State.{State}
 use Rattle.c_runner_deeds.specs.Objects.{word_at, boxed_at, list_at, dict_at, key_argument, tuple_at, instance_at, any_at, written_number}
 use Rattle.c_runner_deeds.specs.Parts.{one_native, one_char, only_text}
-use Rattle.c_runner_deeds.specs.States.{Follows, Leads}
+use Rattle.c_runner_deeds.specs.States.{Seen, Follows, Leads}
 use Rattle.cell_heap.specs.Contents as contents
+use Rattle.cell_heap.specs.Placed.{Placed}
+use Rattle.c_runner_deeds.specs.Ours.{IsOurWord}
 
 -- ---- arguments
 -- the number of an `int`, where these are the cells: of a cell, of a word, and of a word that may not be there
@@ -311,10 +312,21 @@ tuple_done _ cells vars args = Err fault.Kind
 
 -- ---- calls
 -- what comes of the call of a primitive, whatever the code; and of one that may make an object
-abbrev pub Calls : {E : Type 0} → Primitive → Option ℕ → List CArg → State → State → Result (Option Ending) E → Type 0
+abbrev pub Calls : {E : Type 0} → Primitive → Option ℕ → List CArg → Seen → Seen → Result (Option Ending) E → Type 0
 Calls p target args old new result =
     IfOk result (λ ending. (code : Code) → Follows (λ s. primitive_step true s code target args p) ending old new)
 
-abbrev pub MayMake : {E : Type 0} → Primitive → Option ℕ → List CArg → State → State → Result (Option Ending) E → Type 0
+abbrev pub MayMake : {E : Type 0} → Primitive → Option ℕ → List CArg → Seen → Seen → Result (Option Ending) E → Type 0
 MayMake p target args old new result =
     IfOk result (λ ending. (code : Code) → Leads (λ s. primitive_step true s code target args p) ending old new)
+
+-- a deed answers a word without a cell, or with one of this heap
+abbrev pub IsOurDeed : Cells Placed → Deed → Type 0
+IsOurDeed cells (deed.Says w) = IsOurWord cells w
+IsOurDeed cells (deed.Shares w) = IsOurWord cells w
+IsOurDeed cells (deed.Lends w) = IsOurWord cells w
+IsOurDeed cells (deed.MakesInt n) = Unit {0}
+IsOurDeed cells (deed.MakesNumber n) = Unit {0}
+IsOurDeed cells (deed.MakesText text) = Unit {0}
+IsOurDeed cells (deed.Fails w class text) = IsOurWord cells w
+IsOurDeed cells deed.Wrong = Unit {0}

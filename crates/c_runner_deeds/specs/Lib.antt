@@ -3,3 +3,4 @@ pub mod States
 pub mod Parts
 pub mod Deeds
 pub mod Objects
+pub mod Ours

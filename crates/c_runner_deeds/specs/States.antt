@@ -7,14 +7,37 @@ use Rattle.c_runner_deeds.specs.declared.ending.Ending.{Ending}
 use Rattle.c_runner_deeds.specs.declared.ending.Ending.TheVariants.{Done, Raised, Cut, Over, Fault}
 use Rattle.std.specs.Option.{option_map}
 use Rattle.value_core.specs.Items.{Items}
-use Rattle.c_core.specs.Cells.{times, count_at}
+use Rattle.c_core.specs.Cells.{Cells, times, count_at}
 use Rattle.c_core.specs.Holders.{owned_below}
 use Rattle.c_core.specs.Machine as machine
 use Rattle.c_core.specs.Machine.{MachineState}
+use Rattle.slot_arena.specs.declared.key.Key.{Key}
 use Rattle.c_runner_deeds.specs.declared.state.Frame.{Frame}
 use Rattle.c_runner_deeds.specs.declared.state.State.{State}
 use Rattle.cell_heap.specs.declared.word.Word.{Word}
 use Rattle.cell_heap.specs.Contents.{number_of, word_of}
+use Rattle.cell_heap.specs.Numbered.{numbered}
+
+-- a runner's state with the heap as the machine's cells, in which each key is its number
+pub record Seen : Type 0 where
+  pub cells : Cells machine.Content
+  pub top : Frame
+  pub below : List Frame
+  pub globals : List (Option Word)
+  pub pending : Option Key
+  pub output : List ℕ
+  pub turns : ℕ
+
+abbrev pub seen : State → Seen
+seen r = record {
+  cells = numbered r.cells;
+  top = r.top;
+  below = r.below;
+  globals = r.globals;
+  pending = r.pending;
+  output = r.output;
+  turns = r.turns;
+}
 
 -- the machine's ending of a report's
 abbrev pub ending_of : Ending → MachineEnding
@@ -46,7 +69,7 @@ waiting frames = reverse (map frame_of frames)
 abbrev pub held_of : Option Word → Option machine.Word
 held_of = option_map word_of
 
-abbrev pub state_of : Rest → State → MachineState
+abbrev pub state_of : Rest → Seen → MachineState
 state_of rest r = record {
   cells = r.cells;
   top = frame_of r.top;
@@ -70,17 +93,17 @@ next_of None s = Goes s
 next_of (Some e) s = Ends (ending_of e) s
 
 -- what the machine does leads from the runner's old state to its new one
-abbrev pub Follows : (MachineState → Next) → Option Ending → State → State → Type 0
+abbrev pub Follows : (MachineState → Next) → Option Ending → Seen → Seen → Type 0
 Follows does ending old new = (rest : Rest) → does (state_of rest old) ≡ next_of ending (state_of rest new)
 
 -- the same where an object may be made
-abbrev pub Leads : (MachineState → Next) → Option Ending → State → State → Type 0
+abbrev pub Leads : (MachineState → Next) → Option Ending → Seen → Seen → Type 0
 Leads does ending old new =
     (rest : Rest) → (made : List ℕ) × (does (state_of rest old) ≡ next_of ending (state_of (record rest { made = made }) new))
 
 -- neither the number of cells that were made, nor a count of a cell, nor a number of references that frames own is so great
 -- that the runner could not count one more
-pub record IsSmall (r : State) : Type 0 where
+pub record IsSmall (r : Seen) : Type 0 where
   pub made : length r.cells + 1 < 2 ^ 128
   pub counts : (c : ℕ) → count_at r.cells c + 1 < 2 ^ 128
   pub ledgers : (c : ℕ) → times r.top.ledger c + owned_below (waiting r.below) c < 2 ^ 128

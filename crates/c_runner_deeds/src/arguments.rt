@@ -4,14 +4,17 @@ ghost use Rattle.std.specs.Prelude.{◌≡◌, Ok, Err, map, slice_get, MatchRes
 ghost use Rattle.std.specs.Option.{option_copied};
 ghost use Rattle.c_runner_deeds.specs.Deeds.{one_boxed, one_list, one_tuple, one_object, list_and_int, tuple_and_number, instance_and_place, one_dict, dict_and_key, dict_and_int};
 ghost use Rattle.c_runner_deeds.specs.Objects.{word_at, cell_of, boxed_at, list_at, tuple_at, instance_in, instance_at, object_of, any_at, written_number, dict_at};
-ghost use Rattle.c_runner_deeds.specs.States.{held_of, Rest, state_of};
-ghost use Rattle.cell_heap.specs.Contents.{number_of, word_of, pair_of};
+ghost use Rattle.c_runner_deeds.specs.States.{held_of, Rest, state_of, seen};
+ghost use Rattle.c_runner_deeds.specs.Ours.{IsOurWord};
+ghost use Rattle.cell_heap.specs.Contents.{name_of, number_of, word_of, pair_of, words_refs, pairs_refs, optional_refs};
+ghost use Rattle.cell_heap.specs.Ours.{IsOurs, AreOurs};
 ghost use Rattle.c_core.specs.Step.{Next};
 ghost use Rattle.c_runner_deeds.specs.Parts.{one_char, is_there, if_argument, passed_on};
 ghost use Rattle.c_core.specs.declared.code.CArg.TheVariants as machine_arg;
 ghost use Rattle.c_core.specs.Arguments as arguments;
 ghost use Rattle.c_core.specs.Machine as machine;
 ghost use Rattle.c_runner_deeds.specs.Objects as objects;
+ghost use Rattle.cell_heap.specs.Numbered.{numbered};
 
 use crate::state::State;
 use crate::words::is_value_of;
@@ -22,9 +25,10 @@ use value_core::Many;
 impl State {
     /// The one number in a cell that the arguments are, and its cell.
     pub fn one_boxed(&self, args: &[CArg]) -> Result<(Key, i128), Fault>
-        ensures { MatchResult result
-            (λ found. one_boxed self.now.cells (map word_of self.now.top.vars) args.now ≡ Ok (number_of found.0, found.1))
-            (λ why. one_boxed self.now.cells (map word_of self.now.top.vars) args.now ≡ Err why) }
+        ensures found { MatchResult result
+            (λ found. one_boxed (numbered self.now.cells) (map word_of self.now.top.vars) args.now ≡ Ok (number_of found.0, found.1))
+            (λ why. one_boxed (numbered self.now.cells) (map word_of self.now.top.vars) args.now ≡ Err why) }
+        ensures ours { IfOk result (λ found. IsOurs self.now.cells (name_of found.0)) }
     {
         let found = self.boxed_argument(args.first())?;
         if args.len() > 1 {
@@ -35,9 +39,10 @@ impl State {
 
     /// The one list that the arguments are, and its cell.
     pub fn one_list(&self, args: &[CArg]) -> Result<(Key, &Many<Word>), Fault>
-        ensures { MatchResult result
-            (λ found. one_list self.now.cells (map word_of self.now.top.vars) args.now ≡ Ok (number_of found.0, map word_of found.1.now))
-            (λ why. one_list self.now.cells (map word_of self.now.top.vars) args.now ≡ Err why) }
+        ensures found { MatchResult result
+            (λ found. one_list (numbered self.now.cells) (map word_of self.now.top.vars) args.now ≡ Ok (number_of found.0, map word_of found.1.now))
+            (λ why. one_list (numbered self.now.cells) (map word_of self.now.top.vars) args.now ≡ Err why) }
+        ensures ours { IfOk result (λ found. IsOurs self.now.cells (name_of found.0)) }
     {
         let found = self.list_argument(args.first())?;
         if args.len() > 1 {
@@ -49,8 +54,8 @@ impl State {
     /// The one dict that the arguments are, and its cell.
     pub fn one_dict(&self, args: &[CArg]) -> Result<(Key, &Many<(Word, Word)>), Fault>
         ensures { MatchResult result
-            (λ found. one_dict self.now.cells (map word_of self.now.top.vars) args.now ≡ Ok (number_of found.0, map pair_of found.1.now))
-            (λ why. one_dict self.now.cells (map word_of self.now.top.vars) args.now ≡ Err why) }
+            (λ found. one_dict (numbered self.now.cells) (map word_of self.now.top.vars) args.now ≡ Ok (number_of found.0, map pair_of found.1.now))
+            (λ why. one_dict (numbered self.now.cells) (map word_of self.now.top.vars) args.now ≡ Err why) }
     {
         let found = self.dict_argument(args.first())?;
         if args.len() > 1 {
@@ -62,8 +67,8 @@ impl State {
     /// The one tuple that the arguments are, and its cell.
     pub fn one_tuple(&self, args: &[CArg]) -> Result<(Key, &Many<Word>), Fault>
         ensures { MatchResult result
-            (λ found. one_tuple self.now.cells (map word_of self.now.top.vars) args.now ≡ Ok (number_of found.0, map word_of found.1.now))
-            (λ why. one_tuple self.now.cells (map word_of self.now.top.vars) args.now ≡ Err why) }
+            (λ found. one_tuple (numbered self.now.cells) (map word_of self.now.top.vars) args.now ≡ Ok (number_of found.0, map word_of found.1.now))
+            (λ why. one_tuple (numbered self.now.cells) (map word_of self.now.top.vars) args.now ≡ Err why) }
     {
         let found = self.tuple_argument(args.first())?;
         if args.len() > 1 {
@@ -75,8 +80,8 @@ impl State {
     /// The one object that the arguments are.
     pub fn one_object(&self, args: &[CArg]) -> Result<Word, Fault>
         ensures { MatchResult result
-            (λ word. one_object self.now.cells (map word_of self.now.top.vars) args.now ≡ Ok (word_of word))
-            (λ why. one_object self.now.cells (map word_of self.now.top.vars) args.now ≡ Err why) }
+            (λ word. one_object (numbered self.now.cells) (map word_of self.now.top.vars) args.now ≡ Ok (word_of word))
+            (λ why. one_object (numbered self.now.cells) (map word_of self.now.top.vars) args.now ≡ Err why) }
     {
         let word = self.any_argument(args.first())?;
         if args.len() > 1 {
@@ -87,10 +92,11 @@ impl State {
 
     /// The list, with its cell, and the `int` that the arguments are.
     pub fn list_and_int(&self, args: &[CArg]) -> Result<(Key, &Many<Word>, i128), Fault>
-        ensures { MatchResult result
-            (λ found. list_and_int self.now.cells (map word_of self.now.top.vars) args.now
+        ensures found { MatchResult result
+            (λ found. list_and_int (numbered self.now.cells) (map word_of self.now.top.vars) args.now
             ≡ Ok ((number_of found.0, map word_of found.1.now), found.2))
-            (λ why. list_and_int self.now.cells (map word_of self.now.top.vars) args.now ≡ Err why) }
+            (λ why. list_and_int (numbered self.now.cells) (map word_of self.now.top.vars) args.now ≡ Err why) }
+        ensures items { IfOk result (λ found. AreOurs self.now.cells (words_refs found.1.now)) }
     {
         let (key, items) = self.list_argument(args.first())?;
         let index = self.int_argument(args.get(1))?;
@@ -102,10 +108,13 @@ impl State {
 
     /// The dict, with its cell, and the key that the arguments are.
     pub fn dict_and_key(&self, args: &[CArg]) -> Result<(Key, &Many<(Word, Word)>, Word), Fault>
-        ensures { MatchResult result
-            (λ found. dict_and_key self.now.cells (map word_of self.now.top.vars) args.now
+        ensures found { MatchResult result
+            (λ found. dict_and_key (numbered self.now.cells) (map word_of self.now.top.vars) args.now
             ≡ Ok ((number_of found.0, map pair_of found.1.now), word_of found.2))
-            (λ why. dict_and_key self.now.cells (map word_of self.now.top.vars) args.now ≡ Err why) }
+            (λ why. dict_and_key (numbered self.now.cells) (map word_of self.now.top.vars) args.now ≡ Err why) }
+        ensures ours { IfOk result (λ found. IsOurs self.now.cells (name_of found.0)) }
+        ensures pairs { IfOk result (λ found. AreOurs self.now.cells (pairs_refs found.1.now)) }
+        ensures key { IfOk result (λ found. IsOurWord self.now.cells found.2) }
     {
         let (dict, pairs) = self.dict_argument(args.first())?;
         let key = self.key_argument(args.get(1))?;
@@ -117,10 +126,11 @@ impl State {
 
     /// The dict, with its cell, and the `int` that the arguments are.
     pub fn dict_and_int(&self, args: &[CArg]) -> Result<(Key, &Many<(Word, Word)>, i128), Fault>
-        ensures { MatchResult result
-            (λ found. dict_and_int self.now.cells (map word_of self.now.top.vars) args.now
+        ensures found { MatchResult result
+            (λ found. dict_and_int (numbered self.now.cells) (map word_of self.now.top.vars) args.now
             ≡ Ok ((number_of found.0, map pair_of found.1.now), found.2))
-            (λ why. dict_and_int self.now.cells (map word_of self.now.top.vars) args.now ≡ Err why) }
+            (λ why. dict_and_int (numbered self.now.cells) (map word_of self.now.top.vars) args.now ≡ Err why) }
+        ensures pairs { IfOk result (λ found. AreOurs self.now.cells (pairs_refs found.1.now)) }
     {
         let (dict, pairs) = self.dict_argument(args.first())?;
         let number = self.int_argument(args.get(1))?;
@@ -132,10 +142,11 @@ impl State {
 
     /// The tuple, with its cell, and the number as it is written that the arguments are.
     pub fn tuple_and_number(&self, args: &[CArg]) -> Result<(Key, &Many<Word>, i64), Fault>
-        ensures { MatchResult result
-            (λ found. tuple_and_number self.now.cells (map word_of self.now.top.vars) args.now
+        ensures found { MatchResult result
+            (λ found. tuple_and_number (numbered self.now.cells) (map word_of self.now.top.vars) args.now
             ≡ Ok ((number_of found.0, map word_of found.1.now), found.2))
-            (λ why. tuple_and_number self.now.cells (map word_of self.now.top.vars) args.now ≡ Err why) }
+            (λ why. tuple_and_number (numbered self.now.cells) (map word_of self.now.top.vars) args.now ≡ Err why) }
+        ensures parts { IfOk result (λ found. AreOurs self.now.cells (words_refs found.1.now)) }
     {
         let (key, parts) = self.tuple_argument(args.first())?;
         let number = written_number(args.get(1))?;
@@ -151,10 +162,11 @@ impl State {
         &self,
         args: &[CArg],
     ) -> Result<(Key, usize, &Many<Option<Word>>, i64), Fault>
-        ensures { MatchResult result
-            (λ found. instance_and_place self.now.cells (map word_of self.now.top.vars) args.now
+        ensures found { MatchResult result
+            (λ found. instance_and_place (numbered self.now.cells) (map word_of self.now.top.vars) args.now
             ≡ Ok ((number_of found.0, (found.1, map held_of found.2.now)), found.3))
-            (λ why. instance_and_place self.now.cells (map word_of self.now.top.vars) args.now ≡ Err why) }
+            (λ why. instance_and_place (numbered self.now.cells) (map word_of self.now.top.vars) args.now ≡ Err why) }
+        ensures attributes { IfOk result (λ found. AreOurs self.now.cells (optional_refs found.2.now)) }
     {
         let (key, class, attributes) = self.instance_argument(args.first())?;
         let number = written_number(args.get(1))?;
@@ -166,9 +178,10 @@ impl State {
 
     /// The number that stands in the cell of an argument, and the cell.
     pub fn boxed_argument(&self, argument: Option<&CArg>) -> Result<(Key, i128), Fault>
-        ensures { MatchResult result
-            (λ found. boxed_at self.now.cells (map word_of self.now.top.vars) (option_copied argument.entry) ≡ Ok (number_of found.0, found.1))
-            (λ why. boxed_at self.now.cells (map word_of self.now.top.vars) (option_copied argument.entry) ≡ Err why) }
+        ensures found { MatchResult result
+            (λ found. boxed_at (numbered self.now.cells) (map word_of self.now.top.vars) (option_copied argument.entry) ≡ Ok (number_of found.0, found.1))
+            (λ why. boxed_at (numbered self.now.cells) (map word_of self.now.top.vars) (option_copied argument.entry) ≡ Err why) }
+        ensures ours { IfOk result (λ found. IsOurs self.now.cells (name_of found.0)) }
     {
         let key = self.cell_argument(argument)?;
         let Ok(content) = self.cells.content(key) else {
@@ -182,10 +195,12 @@ impl State {
 
     /// The items of the list that stands in the cell of an argument, and the cell.
     pub fn list_argument(&self, argument: Option<&CArg>) -> Result<(Key, &Many<Word>), Fault>
-        ensures { MatchResult result
-            (λ found. list_at self.now.cells (map word_of self.now.top.vars) (option_copied argument.entry)
+        ensures found { MatchResult result
+            (λ found. list_at (numbered self.now.cells) (map word_of self.now.top.vars) (option_copied argument.entry)
             ≡ Ok (number_of found.0, map word_of found.1.now))
-            (λ why. list_at self.now.cells (map word_of self.now.top.vars) (option_copied argument.entry) ≡ Err why) }
+            (λ why. list_at (numbered self.now.cells) (map word_of self.now.top.vars) (option_copied argument.entry) ≡ Err why) }
+        ensures ours { IfOk result (λ found. IsOurs self.now.cells (name_of found.0)) }
+        ensures items { IfOk result (λ found. AreOurs self.now.cells (words_refs found.1.now)) }
     {
         let key = self.cell_argument(argument)?;
         let Ok(content) = self.cells.content(key) else {
@@ -202,10 +217,12 @@ impl State {
         &self,
         argument: Option<&CArg>,
     ) -> Result<(Key, &Many<(Word, Word)>), Fault>
-        ensures { MatchResult result
-            (λ found. dict_at self.now.cells (map word_of self.now.top.vars) (option_copied argument.entry)
+        ensures found { MatchResult result
+            (λ found. dict_at (numbered self.now.cells) (map word_of self.now.top.vars) (option_copied argument.entry)
             ≡ Ok (number_of found.0, map pair_of found.1.now))
-            (λ why. dict_at self.now.cells (map word_of self.now.top.vars) (option_copied argument.entry) ≡ Err why) }
+            (λ why. dict_at (numbered self.now.cells) (map word_of self.now.top.vars) (option_copied argument.entry) ≡ Err why) }
+        ensures ours { IfOk result (λ found. IsOurs self.now.cells (name_of found.0)) }
+        ensures pairs { IfOk result (λ found. AreOurs self.now.cells (pairs_refs found.1.now)) }
     {
         let key = self.cell_argument(argument)?;
         let Ok(content) = self.cells.content(key) else {
@@ -219,10 +236,11 @@ impl State {
 
     /// The parts of the tuple that stands in the cell of an argument, and the cell.
     pub fn tuple_argument(&self, argument: Option<&CArg>) -> Result<(Key, &Many<Word>), Fault>
-        ensures { MatchResult result
-            (λ found. tuple_at self.now.cells (map word_of self.now.top.vars) (option_copied argument.entry)
+        ensures found { MatchResult result
+            (λ found. tuple_at (numbered self.now.cells) (map word_of self.now.top.vars) (option_copied argument.entry)
             ≡ Ok (number_of found.0, map word_of found.1.now))
-            (λ why. tuple_at self.now.cells (map word_of self.now.top.vars) (option_copied argument.entry) ≡ Err why) }
+            (λ why. tuple_at (numbered self.now.cells) (map word_of self.now.top.vars) (option_copied argument.entry) ≡ Err why) }
+        ensures parts { IfOk result (λ found. AreOurs self.now.cells (words_refs found.1.now)) }
     {
         let key = self.cell_argument(argument)?;
         let Ok(content) = self.cells.content(key) else {
@@ -239,10 +257,12 @@ impl State {
         &self,
         argument: Option<&CArg>,
     ) -> Result<(Key, usize, &Many<Option<Word>>), Fault>
-        ensures { MatchResult result
-            (λ found. instance_at self.now.cells (map word_of self.now.top.vars) (option_copied argument.entry)
+        ensures found { MatchResult result
+            (λ found. instance_at (numbered self.now.cells) (map word_of self.now.top.vars) (option_copied argument.entry)
             ≡ Ok (number_of found.0, (found.1, map held_of found.2.now)))
-            (λ why. instance_at self.now.cells (map word_of self.now.top.vars) (option_copied argument.entry) ≡ Err why) }
+            (λ why. instance_at (numbered self.now.cells) (map word_of self.now.top.vars) (option_copied argument.entry) ≡ Err why) }
+        ensures ours { IfOk result (λ found. IsOurs self.now.cells (name_of found.0)) }
+        ensures attributes { IfOk result (λ found. AreOurs self.now.cells (optional_refs found.2.now)) }
     {
         match argument {
             Some(CArg::Var(x)) => self.instance_variable(*x),
@@ -252,10 +272,12 @@ impl State {
 
     /// The same of the instance in a variable.
     pub fn instance_variable(&self, x: usize) -> Result<(Key, usize, &Many<Option<Word>>), Fault>
-        ensures { MatchResult result
-            (λ found. object_of instance_in self.now.cells (slice_get (map word_of self.now.top.vars) x)
+        ensures found { MatchResult result
+            (λ found. object_of instance_in (numbered self.now.cells) (slice_get (map word_of self.now.top.vars) x)
             ≡ Ok (number_of found.0, (found.1, map held_of found.2.now)))
-            (λ why. object_of instance_in self.now.cells (slice_get (map word_of self.now.top.vars) x) ≡ Err why) }
+            (λ why. object_of instance_in (numbered self.now.cells) (slice_get (map word_of self.now.top.vars) x) ≡ Err why) }
+        ensures ours { IfOk result (λ found. IsOurs self.now.cells (name_of found.0)) }
+        ensures attributes { IfOk result (λ found. AreOurs self.now.cells (optional_refs found.2.now)) }
     {
         let key = self.cell_variable(x)?;
         let Ok(content) = self.cells.content(key) else {
@@ -270,8 +292,8 @@ impl State {
     /// The object that an argument is.
     pub fn any_argument(&self, argument: Option<&CArg>) -> Result<Word, Fault>
         ensures { MatchResult result
-            (λ word. any_at self.now.cells (map word_of self.now.top.vars) (option_copied argument.entry) ≡ Ok (word_of word))
-            (λ why. any_at self.now.cells (map word_of self.now.top.vars) (option_copied argument.entry) ≡ Err why) }
+            (λ word. any_at (numbered self.now.cells) (map word_of self.now.top.vars) (option_copied argument.entry) ≡ Ok (word_of word))
+            (λ why. any_at (numbered self.now.cells) (map word_of self.now.top.vars) (option_copied argument.entry) ≡ Err why) }
     {
         match argument {
             None => Err(Fault::Kind),
@@ -281,9 +303,10 @@ impl State {
 
     /// The key of the cell that an argument refers to as an object.
     fn cell_argument(&self, argument: Option<&CArg>) -> Result<Key, Fault>
-        ensures { MatchResult result
+        ensures found { MatchResult result
             (λ key. cell_of (word_at (map word_of self.now.top.vars) (option_copied argument.entry)) ≡ Ok (number_of key))
             (λ why. cell_of (word_at (map word_of self.now.top.vars) (option_copied argument.entry)) ≡ Err why) }
+        ensures ours { IfOk result (λ key. IsOurs self.now.cells (name_of key)) }
     {
         let Some(CArg::Var(x)) = argument else {
             return Err(Fault::Kind);
@@ -296,9 +319,10 @@ impl State {
 
     /// The key of the cell that a variable refers to as an object.
     fn cell_variable(&self, x: usize) -> Result<Key, Fault>
-        ensures { MatchResult result
+        ensures found { MatchResult result
             (λ key. cell_of (slice_get (map word_of self.now.top.vars) x) ≡ Ok (number_of key))
             (λ why. cell_of (slice_get (map word_of self.now.top.vars) x) ≡ Err why) }
+        ensures ours { IfOk result (λ key. IsOurs self.now.cells (name_of key)) }
     {
         match self.top.vars.get(x) {
             Some(Word::Cell(key)) => Ok(*key),
@@ -334,10 +358,11 @@ impl State {
     /// The word that an argument passes to a parameter of a kind.
     pub fn passed(&self, kind: Kind, argument: &CArg) -> Result<Word, Fault>
         ensures passed { (rest : Rest) (go : machine.Word → Next) →
-            if_argument (state_of rest self.now) kind argument.now go
-            ≡ passed_on result (state_of rest self.now) go }
+            if_argument (state_of rest (seen self.now)) kind argument.now go
+            ≡ passed_on result (state_of rest (seen self.now)) go }
         ensures value { IfOk result (λ word. arguments.is_value_of kind (word_of word) ≡ true) }
-        ensures there { IfOk result (λ word. is_there self.now.cells (word_of word) ≡ true) }
+        ensures there { IfOk result (λ word. is_there (numbered self.now.cells) (word_of word) ≡ true) }
+        ensures ours { IfOk result (IsOurWord self.now.cells) }
     {
         match argument {
             CArg::Var(x) => self.passed_variable(kind, *x),
@@ -348,10 +373,11 @@ impl State {
     /// The word that a variable passes to a parameter of a kind.
     pub fn passed_variable(&self, kind: Kind, x: usize) -> Result<Word, Fault>
         ensures passed { (rest : Rest) (go : machine.Word → Next) →
-            if_argument (state_of rest self.now) kind (machine_arg.Var x) go
-            ≡ passed_on result (state_of rest self.now) go }
+            if_argument (state_of rest (seen self.now)) kind (machine_arg.Var x) go
+            ≡ passed_on result (state_of rest (seen self.now)) go }
         ensures value { IfOk result (λ word. arguments.is_value_of kind (word_of word) ≡ true) }
-        ensures there { IfOk result (λ word. is_there self.now.cells (word_of word) ≡ true) }
+        ensures there { IfOk result (λ word. is_there (numbered self.now.cells) (word_of word) ≡ true) }
+        ensures ours { IfOk result (IsOurWord self.now.cells) }
     {
         let Some(word) = self.top.vars.get(x) else {
             return Err(Fault::Kind);
@@ -368,9 +394,10 @@ impl State {
 
     /// The object that an argument is, which may be the key of a dict.
     pub fn key_argument(&self, argument: Option<&CArg>) -> Result<Word, Fault>
-        ensures { MatchResult result
-            (λ word. objects.key_argument self.now.cells (map word_of self.now.top.vars) (option_copied argument.entry) ≡ Ok (word_of word))
-            (λ why. objects.key_argument self.now.cells (map word_of self.now.top.vars) (option_copied argument.entry) ≡ Err why) }
+        ensures found { MatchResult result
+            (λ word. objects.key_argument (numbered self.now.cells) (map word_of self.now.top.vars) (option_copied argument.entry) ≡ Ok (word_of word))
+            (λ why. objects.key_argument (numbered self.now.cells) (map word_of self.now.top.vars) (option_copied argument.entry) ≡ Err why) }
+        ensures ours { IfOk result (IsOurWord self.now.cells) }
     {
         let Some(CArg::Var(x)) = argument else {
             return Err(Fault::Kind);
@@ -383,9 +410,11 @@ impl State {
 
     /// A word, which may be the key of a dict.
     fn key_word(&self, word: Word) -> Result<Word, Fault>
-        ensures { MatchResult result
-            (λ key. objects.key_word self.now.cells (Some (word_of word)) ≡ Ok (word_of key))
-            (λ why. objects.key_word self.now.cells (Some (word_of word)) ≡ Err why) }
+        requires { IsOurWord self.now.cells word }
+        ensures found { MatchResult result
+            (λ key. objects.key_word (numbered self.now.cells) (Some (word_of word)) ≡ Ok (word_of key))
+            (λ why. objects.key_word (numbered self.now.cells) (Some (word_of word)) ≡ Err why) }
+        ensures same { IfOk result (λ key. key ≡ word) }
     {
         match word {
             Word::PyTrue | Word::PyFalse => Ok(word),

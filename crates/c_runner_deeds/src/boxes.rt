@@ -3,8 +3,9 @@ ghost use Rattle.std.specs.Prelude.{◌≡◌, ◌+◌, ◌^◌, ◌<◌, true, 
 ghost use Rattle.c_core.specs.declared.primitive.Primitive.TheVariants as prim;
 ghost use Rattle.c_core.specs.Step as machine_step;
 ghost use Rattle.c_runner_deeds.specs.Deeds.{Calls, effect_of, done_by, then_done, one_object, truth_done, truth_in, bool_done, is_none_object, object_done};
-ghost use Rattle.c_runner_deeds.specs.States.{IsSmall};
+ghost use Rattle.c_runner_deeds.specs.States.{IsSmall, seen};
 ghost use Rattle.cell_heap.specs.Contents.{word_of};
+ghost use Rattle.cell_heap.specs.Numbered.{numbered};
 
 use crate::deed::Deed;
 use crate::ending::Ending;
@@ -24,9 +25,9 @@ impl State {
         target: Option<usize>,
         args: &[CArg],
     ) -> Result<Option<Ending>, Memory>
-        requires small { IsSmall self.old }
+        requires small { IsSmall (seen self.old) }
         requires place { self.old.top.place + 1 < 2 ^ 64 }
-        ensures { Calls (prim.Bool primitive) target args.now self.old self.new result }
+        ensures { Calls (prim.Bool primitive) target args.now (seen self.old) (seen self.new) result }
     {
         let deed = self.bool_deed(alloc, primitive, args)?;
         self.perform_deed(target, deed)
@@ -40,7 +41,7 @@ impl State {
         args: &[CArg],
     ) -> Result<Result<Deed, Fault>, Memory>
         ensures { IfOk result (λ deed. done_by deed
-            ≡ bool_done primitive self.now.cells (map word_of self.now.top.vars) args.now) }
+            ≡ bool_done primitive (numbered self.now.cells) (map word_of self.now.top.vars) args.now) }
     {
         match primitive {
             BoolPrim::Unbox => Ok(self.unbox_truth(args)),
@@ -53,7 +54,7 @@ impl State {
 
     /// Answers the truth that the one argument, an object, is.
     fn unbox_truth(&self, args: &[CArg]) -> Result<Deed, Fault>
-        ensures { done_by result ≡ then_done truth_in (one_object self.now.cells (map word_of self.now.top.vars) args.now) }
+        ensures { done_by result ≡ then_done truth_in (one_object (numbered self.now.cells) (map word_of self.now.top.vars) args.now) }
     {
         match self.one_object(args) {
             Err(fault) => Err(fault),
@@ -68,9 +69,9 @@ impl State {
         target: Option<usize>,
         args: &[CArg],
     ) -> Result<Option<Ending>, Memory>
-        requires small { IsSmall self.old }
+        requires small { IsSmall (seen self.old) }
         requires place { self.old.top.place + 1 < 2 ^ 64 }
-        ensures { Calls (prim.Object primitive) target args.now self.old self.new result }
+        ensures { Calls (prim.Object primitive) target args.now (seen self.old) (seen self.new) result }
     {
         let deed = self.object_deed(primitive, args);
         self.perform_deed(target, deed)
@@ -78,7 +79,7 @@ impl State {
 
     /// What a primitive on any object does, if its arguments are right.
     fn object_deed(&self, primitive: ObjectPrim, args: &[CArg]) -> Result<Deed, Fault>
-        ensures { done_by result ≡ object_done primitive self.now.cells (map word_of self.now.top.vars) args.now }
+        ensures { done_by result ≡ object_done primitive (numbered self.now.cells) (map word_of self.now.top.vars) args.now }
     {
         match primitive {
             ObjectPrim::IsNone => match self.one_object(args) {

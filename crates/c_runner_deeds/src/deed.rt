@@ -1,11 +1,12 @@
 //! What primitives do, once their arguments were found right.
 ghost use Rattle.std.specs.Prelude.{◌≡◌, ◌+◌, ◌^◌, ◌<◌, true, [], IfOk};
 ghost use Rattle.c_core.specs.Machine.{IntCell};
-ghost use Rattle.c_core.specs.Step as machine_step;
 ghost use Rattle.c_core.specs.Step.{Makes, MakesInt, applied};
-ghost use Rattle.c_runner_deeds.specs.Deeds.{effect_of, done_by, lent_done, performed};
-ghost use Rattle.c_runner_deeds.specs.States.{Follows, IsSmall};
+ghost use Rattle.c_runner_deeds.specs.Deeds.{done_by, performed};
+ghost use Rattle.c_runner_deeds.specs.States.{Follows, IsSmall, seen};
+ghost use Rattle.c_runner_deeds.specs.Deeds.{IsOurDeed};
 
+use crate::cells::number_of;
 use crate::ending::Ending;
 use crate::state::State;
 use c_core::Fault;
@@ -40,9 +41,10 @@ impl State {
         target: Option<usize>,
         deed: Result<Deed, Fault>,
     ) -> Result<Option<Ending>, Memory>
-        requires small { IsSmall self.old }
+        requires small { IsSmall (seen self.old) }
         requires place { self.old.top.place + 1 < 2 ^ 64 }
-        ensures { IfOk result (λ ending. Follows (performed target (done_by deed)) ending self.old self.new) }
+        requires ours { IfOk deed (IsOurDeed self.old.cells) }
+        ensures { IfOk result (λ ending. Follows (performed target (done_by deed)) ending (seen self.old) (seen self.new)) }
     {
         match deed {
             Err(fault) => Ok(Some(Ending::Fault(fault))),
@@ -59,13 +61,13 @@ impl State {
 
     /// Makes a cell of a number, which the frame owns, and writes an `int` that refers to it to the target.
     fn make_int(&mut self, target: Option<usize>, number: i128) -> Result<Option<Ending>, Memory>
-        requires small { IsSmall self.old }
+        requires small { IsSmall (seen self.old) }
         requires place { self.old.top.place + 1 < 2 ^ 64 }
         ensures { IfOk result (λ ending. Follows
-            (λ s. applied true s target s.top.ledger [] (MakesInt number)) ending self.old self.new) }
+            (λ s. applied true s target s.top.ledger [] (MakesInt number)) ending (seen self.old) (seen self.new)) }
     {
         let key = self.cells.make(Content::Int(number))?;
-        self.top.ledger.add(key.serial())?;
+        self.top.ledger.add(number_of(key))?;
         self.top.set_target(target, Word::Big(key));
         self.top.place += 1;
         Ok(None)
@@ -77,31 +79,11 @@ impl State {
         target: Option<usize>,
         number: i128,
     ) -> Result<Option<Ending>, Memory>
-        requires small { IsSmall self.old }
+        requires small { IsSmall (seen self.old) }
         requires place { self.old.top.place + 1 < 2 ^ 64 }
         ensures { IfOk result (λ ending. Follows
-            (λ s. applied true s target s.top.ledger [] (Makes (IntCell number))) ending self.old self.new) }
+            (λ s. applied true s target s.top.ledger [] (Makes (IntCell number))) ending (seen self.old) (seen self.new)) }
     {
         self.make_cell(target, Content::Int(number))
-    }
-}
-
-/// Lends what is read.
-pub fn lent(deed: Result<Deed, Fault>) -> Result<Deed, Fault>
-    ensures { done_by result ≡ lent_done (done_by deed) }
-{
-    match deed {
-        Err(fault) => Err(fault),
-        Ok(deed) => Ok(lend(deed)),
-    }
-}
-
-/// Lends what a deed shares.
-fn lend(deed: Deed) -> Deed
-    ensures { effect_of result ≡ machine_step.lent (effect_of deed) }
-{
-    match deed {
-        Deed::Shares(word) => Deed::Lends(word),
-        other => other,
     }
 }

@@ -10,8 +10,10 @@ ghost use Rattle.c_core.specs.Primitives.{AText, AnException};
 ghost use Rattle.c_core.specs.Step.{Next, Ends, Faulted, if_variable};
 ghost use Rattle.c_runner_deeds.specs.Deeds.{Calls};
 ghost use Rattle.c_runner_deeds.specs.Parts.{exception_made, exception_shown};
-ghost use Rattle.c_runner_deeds.specs.States.{Rest, Follows, IsSmall, state_of};
+ghost use Rattle.c_runner_deeds.specs.States.{Rest, Follows, IsSmall, state_of, seen};
 ghost use Rattle.cell_heap.specs.Contents.{number_of};
+ghost use Rattle.cell_heap.specs.Ours.{IsOurs};
+ghost use Rattle.cell_heap.specs.Contents.{name_of};
 
 use crate::ending::Ending;
 use crate::state::State;
@@ -27,9 +29,9 @@ impl State {
         target: Option<usize>,
         args: &[CArg],
     ) -> Result<Option<Ending>, Memory>
-        requires small { IsSmall self.old }
+        requires small { IsSmall (seen self.old) }
         requires place { self.old.top.place + 1 < 2 ^ 64 }
-        ensures { Calls (prim.Exc operation) target args.now self.old self.new result }
+        ensures { Calls (prim.Exc operation) target args.now (seen self.old) (seen self.new) result }
     {
         match operation {
             ExcPrim::New => match args.first() {
@@ -56,10 +58,10 @@ impl State {
         x: usize,
         is_alone: bool,
     ) -> Result<Option<Ending>, Memory>
-        requires small { IsSmall self.old }
+        requires small { IsSmall (seen self.old) }
         requires place { self.old.top.place + 1 < 2 ^ 64 }
         ensures { IfOk result (λ ending. (code : machine_code.Code) →
-            Follows (exception_made code target class.now x is_alone) ending self.old self.new) }
+            Follows (exception_made code target class.now x is_alone) ending (seen self.old) (seen self.new)) }
     {
         let text = match self.text_at(x) {
             Err(fault) => return Ok(Some(Ending::Fault(fault))),
@@ -81,10 +83,10 @@ impl State {
         x: usize,
         is_alone: bool,
     ) -> Result<Option<Ending>, Memory>
-        requires small { IsSmall self.old }
+        requires small { IsSmall (seen self.old) }
         requires place { self.old.top.place + 1 < 2 ^ 64 }
         ensures { IfOk result (λ ending. (code : machine_code.Code) →
-            Follows (exception_shown code target x is_alone) ending self.old self.new) }
+            Follows (exception_shown code target x is_alone) ending (seen self.old) (seen self.new)) }
     {
         let text = match self.exception_at(x) {
             Err(fault) => return Ok(Some(Ending::Fault(fault))),
@@ -99,7 +101,7 @@ impl State {
     /// The text that a variable holds, with its cell.
     fn text_at(&self, x: usize) -> Result<(Key, &Text), Fault>
         ensures { (rest : Rest) (go : Argument → Next) →
-            (let s = state_of rest self.now in
+            (let s = state_of rest (seen self.now) in
             MatchResult result
             (λ found. if_variable true s Object AText x go ≡ go (Cell (number_of found.0) (StrCell found.1.now)))
             (λ why. if_variable true s Object AText x go ≡ Ends (Faulted why) s)) }
@@ -121,11 +123,12 @@ impl State {
 
     /// The exception that a variable holds, by its class and its text, with its cell.
     pub fn exception_at(&self, x: usize) -> Result<(Key, ExcClass, &Text), Fault>
-        ensures { (rest : Rest) (go : Argument → Next) →
-            (let s = state_of rest self.now in
+        ensures found { (rest : Rest) (go : Argument → Next) →
+            (let s = state_of rest (seen self.now) in
             MatchResult result
             (λ found. if_variable true s Object AnException x go ≡ go (Cell (number_of found.0) (ExcCell (thrown found.1 found.2.now))))
             (λ why. if_variable true s Object AnException x go ≡ Ends (Faulted why) s)) }
+        ensures ours { IfOk result (λ found. IsOurs self.now.cells (name_of found.0)) }
     {
         let Some(word) = self.top.vars.get(x) else {
             return Err(Fault::Kind);

@@ -9,7 +9,9 @@ ghost use Rattle.c_core.specs.declared.code.CArg as machine_arg;
 ghost use Rattle.c_core.specs.declared.code.Code as machine_code;
 ghost use Rattle.c_core.specs.declared.primitive.GlobalPrim.TheVariants as global_prim;
 ghost use Rattle.c_runner_deeds.specs.Parts.{global_set, global_of};
-ghost use Rattle.c_runner_deeds.specs.States.{Rest, Follows, IsSmall, held_of, state_of};
+ghost use Rattle.c_runner_deeds.specs.States.{Rest, Follows, IsSmall, held_of, state_of, seen};
+ghost use Rattle.cell_heap.specs.Ours.{AreOurs};
+ghost use Rattle.c_runner_deeds.specs.Ours.{maybe_refs};
 
 use crate::ending::Ending;
 use crate::state::State;
@@ -31,11 +33,11 @@ impl State {
         target: Option<usize>,
         args: &[CArg],
     ) -> Result<Option<Ending>, Memory>
-        requires small { IsSmall self.old }
+        requires small { IsSmall (seen self.old) }
         requires place { self.old.top.place + 1 < 2 ^ 64 }
         requires global { global ≡ global_of code.now args.now }
         ensures { IfOk result (λ ending. Follows
-            (λ s. primitive_step true s code.now target args.now (prim.Global operation)) ending self.old self.new) }
+            (λ s. primitive_step true s code.now target args.now (prim.Global operation)) ending (seen self.old) (seen self.new)) }
     {
         match operation {
             GlobalPrim::Get => match args {
@@ -65,11 +67,11 @@ impl State {
         global: Option<usize>,
         target: Option<usize>,
     ) -> Result<Option<Ending>, Memory>
-        requires small { IsSmall self.old }
+        requires small { IsSmall (seen self.old) }
         requires place { self.old.top.place + 1 < 2 ^ 64 }
         requires global { global ≡ number_of_global code.now name.now }
         ensures { IfOk result (λ ending. Follows (λ s. applied true s target s.top.ledger []
-            (got name.now (kind_of_global code.now name.now) (global_at code.now s name.now))) ending self.old self.new) }
+            (got name.now (kind_of_global code.now name.now) (global_at code.now s name.now))) ending (seen self.old) (seen self.new)) }
     {
         let Some(number) = global else {
             return Ok(Some(Ending::Fault(Fault::Kind)));
@@ -100,7 +102,7 @@ impl State {
     ) -> Option<Ending>
         requires { self.old.top.place + 1 < 2 ^ 64 }
         ensures { (first : machine_arg.CArg) (target : Option ℕ) → global ≡ global_of code.now (first ∷ []) →
-            Follows (global_set code.now target first argument.now is_alone) result self.old self.new }
+            Follows (global_set code.now target first argument.now is_alone) result (seen self.old) (seen self.new) }
     {
         let Some(number) = global else {
             return Some(Ending::Fault(Fault::Kind));
@@ -128,7 +130,7 @@ impl State {
     fn clear_global(&mut self, global: Option<usize>) -> Option<Ending>
         requires { self.old.top.place + 1 < 2 ^ 64 }
         ensures { (code : machine_code.Code) (first : machine_arg.CArg) (target : Option ℕ) → global ≡ global_of code (first ∷ []) →
-            Follows (λ s. primitive_step true s code target (first ∷ []) (prim.Global global_prim.Clear)) result self.old self.new }
+            Follows (λ s. primitive_step true s code target (first ∷ []) (prim.Global global_prim.Clear)) result (seen self.old) (seen self.new) }
     {
         let Some(number) = global else {
             return Some(Ending::Fault(Fault::Kind));
@@ -145,9 +147,11 @@ impl State {
     fn store(&mut self, number: usize, held: Option<Word>, word: Option<Word>)
         requires place { self.old.top.place + 1 < 2 ^ 64 }
         requires within { number < length self.old.globals }
+        requires held { AreOurs self.old.cells (maybe_refs held) }
+        requires word { AreOurs self.old.cells (maybe_refs word) }
         ensures { (rest : Rest) →
-            (let s = state_of rest self.old in
-            state_of rest self.new ≡ next_line (machine_step.given true s (set_refs (held_of held ∷ []))
+            (let s = state_of rest (seen self.old) in
+            state_of rest (seen self.new) ≡ next_line (machine_step.given true s (set_refs (held_of held ∷ []))
             (record s { globals = slice_set s.globals number (held_of word) }))) }
     {
         self.globals.set(number, word);

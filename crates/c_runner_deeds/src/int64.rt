@@ -1,5 +1,5 @@
 //! Calls of primitives on native integers.
-ghost use Rattle.std.specs.Prelude.{◌≡◌, ℕ, ◌+◌, ◌^◌, ◌<◌, true, map, List, [], IfOk};
+ghost use Rattle.std.specs.Prelude.{◌≡◌, ℕ, ◌+◌, ◌^◌, ◌<◌, true, map, List, [], IfOk, IfSome};
 ghost use Rattle.std.specs.Option.{option_map};
 ghost use Rattle.value_core.specs.Arithmetic.{int_to_i64};
 ghost use Rattle.c_core.specs.declared.fault.Fault.TheVariants as fault;
@@ -8,8 +8,10 @@ ghost use Rattle.c_core.specs.Step.{if_some, applied, exception_past, native_or,
 ghost use Rattle.c_runner_deeds.specs.Deeds as deeds;
 ghost use Rattle.c_runner_deeds.specs.Deeds.{Calls, done_by, box_done, unbox_done};
 ghost use Rattle.c_runner_deeds.specs.Parts.{native_at, one_native, two_natives, effect_of, two_effect, int64_effect};
-ghost use Rattle.c_runner_deeds.specs.States.{Follows, IsSmall};
+ghost use Rattle.c_runner_deeds.specs.States.{Follows, IsSmall, seen};
 ghost use Rattle.cell_heap.specs.Contents.{word_of};
+ghost use Rattle.cell_heap.specs.Numbered.{numbered};
+ghost use Rattle.c_runner_deeds.specs.Ours.{IsOurWord};
 
 use crate::deed::Deed;
 use crate::ending::Ending;
@@ -33,9 +35,9 @@ impl State {
         target: Option<usize>,
         args: &[CArg],
     ) -> Result<Option<Ending>, Memory>
-        requires small { IsSmall self.old }
+        requires small { IsSmall (seen self.old) }
         requires place { self.old.top.place + 1 < 2 ^ 64 }
-        ensures { Calls (prim.Int64 primitive) target args.now self.old self.new result }
+        ensures { Calls (prim.Int64 primitive) target args.now (seen self.old) (seen self.new) result }
     {
         match primitive {
             Int64Prim::Str => match self.one_native(args) {
@@ -72,7 +74,7 @@ impl State {
 
     /// Answers the native integer that the one argument, a number in a cell, is.
     fn unbox_native(&self, args: &[CArg]) -> Result<Deed, Fault>
-        ensures { done_by result ≡ unbox_done self.now.cells (map word_of self.now.top.vars) args.now }
+        ensures { done_by result ≡ unbox_done (numbered self.now.cells) (map word_of self.now.top.vars) args.now }
     {
         match self.one_boxed(args) {
             Err(fault) => Err(fault),
@@ -87,10 +89,11 @@ impl State {
         target: Option<usize>,
         outcome: Option<Result<Word, Arith>>,
     ) -> Result<Option<Ending>, Memory>
-        requires small { IsSmall self.old }
+        requires small { IsSmall (seen self.old) }
         requires place { self.old.top.place + 1 < 2 ^ 64 }
+        requires ours { IfSome outcome (λ o. IfOk o (IsOurWord self.old.cells)) }
         ensures { IfOk result (λ ending. Follows (λ s. if_some true s fault.Kind (option_map effect_of outcome)
-            (applied true s target s.top.ledger [])) ending self.old self.new) }
+            (applied true s target s.top.ledger [])) ending (seen self.old) (seen self.new)) }
     {
         match outcome {
             None => Ok(Some(Ending::Fault(Fault::Kind))),

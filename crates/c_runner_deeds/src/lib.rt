@@ -2,12 +2,15 @@
 //! truths and texts, on exceptions and globals, and the one that writes.
 //!
 //! A runner keeps a state of its own: `specs/States.antt` says which state of the machine it stands for, and `Follows` and
-//! `Leads` that a call leads from the machine's state of the old one to that of the new one. Its cells are those of a heap
-//! (`cell_heap`), its words and contents too.
-#![tactic(auto)]
+//! `Leads` that a call leads from the machine's state of the old one to that of the new one. Its words and contents are those of
+//! `cell_heap`, and its cells stand in a heap of that crate, whose contracts know a cell by its key, of a slot and a serial. The
+//! machine knows it by its number, the serial alone. These are the same where each key is one that this heap gave out: `Cells`
+//! keeps that of what the cells hold, and `State` of its variables, its globals and its pending exception (`specs/Ours.antt`).
+#![tactic(auto, using(crate::proofs::WordReads::reads))]
 
 mod arguments;
 mod boxes;
+mod cells;
 mod deed;
 mod ending;
 mod exceptions;
@@ -24,10 +27,11 @@ mod words;
 mod writing;
 
 pub use arguments::written_number;
-pub use deed::{Deed, lent};
+pub use cells::{Cells, number_of};
+pub use deed::Deed;
 pub use ending::Ending;
 pub use output::Output;
-pub use state::{Frame, State, unset};
+pub use state::{Frame, State};
 pub use stolen::give_word;
 pub use tagged::int_deed;
-pub use words::{equals_error, error_of, is_error, kind_of, of_literal, truth};
+pub use words::{equals_error, error_of, is_error, kind_of, of_literal, truth, unset};

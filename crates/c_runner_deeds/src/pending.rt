@@ -8,8 +8,9 @@ ghost use Rattle.c_core.specs.Step as machine_step;
 ghost use Rattle.c_core.specs.Step.{applied, caught, matched, pending_exception};
 ghost use Rattle.c_runner_deeds.specs.Deeds.{Calls};
 ghost use Rattle.c_runner_deeds.specs.Parts.{object_set, only_text};
-ghost use Rattle.c_runner_deeds.specs.States.{Rest, Follows, IsSmall, state_of};
+ghost use Rattle.c_runner_deeds.specs.States.{Rest, Follows, IsSmall, state_of, seen};
 
+use crate::cells::number_of;
 use crate::ending::Ending;
 use crate::state::State;
 use crate::words::truth;
@@ -27,9 +28,9 @@ impl State {
         target: Option<usize>,
         args: &[CArg],
     ) -> Result<Option<Ending>, Memory>
-        requires small { IsSmall self.old }
+        requires small { IsSmall (seen self.old) }
         requires place { self.old.top.place + 1 < 2 ^ 64 }
-        ensures { Calls (prim.Err operation) target args.now self.old self.new result }
+        ensures { Calls (prim.Err operation) target args.now (seen self.old) (seen self.new) result }
     {
         match operation {
             ErrPrim::SetObject => match args.first() {
@@ -70,19 +71,19 @@ impl State {
     fn set_pending(&mut self, x: usize, is_alone: bool) -> Option<Ending>
         requires { self.old.top.place + 1 < 2 ^ 64 }
         ensures { (code : machine_code.Code) (target : Option ℕ) →
-            Follows (object_set code target x is_alone) result self.old self.new }
+            Follows (object_set code target x is_alone) result (seen self.old) (seen self.new) }
     {
         let key = match self.exception_at(x) {
             Err(fault) => return Some(Ending::Fault(fault)),
             Ok(found) => found.0,
         };
-        if !self.top.ledger.owns(key.serial()) {
+        if !self.top.ledger.owns(number_of(key)) {
             return Some(Ending::Fault(Fault::NotOwned));
         }
         if !is_alone {
             return Some(Ending::Fault(Fault::Kind));
         }
-        self.top.ledger.take(key.serial());
+        self.top.ledger.take(number_of(key));
         self.pending = Some(key);
         self.top.place += 1;
         None
@@ -92,7 +93,7 @@ impl State {
     fn match_pending(&mut self, target: Option<usize>, class: &str) -> Option<Ending>
         requires { self.old.top.place + 1 < 2 ^ 64 }
         ensures { Follows (λ s. applied true s target s.top.ledger []
-            (matched (class_named class.now) (pending_exception s))) result self.old self.new }
+            (matched (class_named class.now) (pending_exception s))) result (seen self.old) (seen self.new) }
     {
         let Some(class) = ExcClass::named(class) else {
             return Some(Ending::Fault(Fault::Kind));
@@ -105,7 +106,7 @@ impl State {
 
     /// The class of the exception that is pending, if one is.
     fn pending_class(&self) -> Option<ExcClass>
-        ensures { (rest : Rest) → result ≡ option_map (λ e. e.class) (pending_exception (state_of rest self.now)) }
+        ensures { (rest : Rest) → result ≡ option_map (λ e. e.class) (pending_exception (state_of rest (seen self.now))) }
     {
         let Some(key) = self.pending else {
             return None;
@@ -118,15 +119,15 @@ impl State {
 
     /// Writes the exception that is pending to the target. It is pending no more, and the frame owns it.
     fn catch_pending(&mut self, target: Option<usize>) -> Result<Option<Ending>, Memory>
-        requires small { IsSmall self.old }
+        requires small { IsSmall (seen self.old) }
         requires place { self.old.top.place + 1 < 2 ^ 64 }
         ensures { IfOk result (λ ending. Follows
-            (λ s. applied true s target s.top.ledger [] (caught s.pending)) ending self.old self.new) }
+            (λ s. applied true s target s.top.ledger [] (caught s.pending)) ending (seen self.old) (seen self.new)) }
     {
         let Some(key) = self.pending else {
             return Ok(Some(Ending::Fault(Fault::Kind)));
         };
-        self.top.ledger.add(key.serial())?;
+        self.top.ledger.add(number_of(key))?;
         self.pending = None;
         self.top.set_target(target, Word::Cell(key));
         self.top.place += 1;

@@ -5,9 +5,15 @@ ghost use Rattle.value_core.specs.Exceptions.{thrown};
 ghost use Rattle.c_core.specs.declared.fault.Fault.TheVariants as fault;
 ghost use Rattle.c_core.specs.Machine.{noted};
 ghost use Rattle.c_core.specs.Step.{Goes, Makes, Fails, with_target, next_line, if_some, applied, Shares};
-ghost use Rattle.c_runner_deeds.specs.States.{Rest, Follows, IsSmall, state_of, next_of};
+ghost use Rattle.c_runner_deeds.specs.States.{Rest, Follows, IsSmall, state_of, next_of, seen};
 ghost use Rattle.cell_heap.specs.Contents.{word_of, content_of};
+ghost use Rattle.cell_heap.specs.Numbered.{numbered};
+ghost use Rattle.c_runner_deeds.specs.Ours.{IsOurWord, maybe_refs};
+ghost use Rattle.cell_heap.specs.Ours.{AreOurs};
+ghost use Rattle.c_core.specs.Machine.{refs_in};
+ghost use Rattle.cell_heap.specs.Contents.{content_named};
 
+use crate::cells::number_of;
 use crate::ending::Ending;
 use crate::state::State;
 use crate::stolen::take_word;
@@ -18,9 +24,10 @@ use value_core::{ExcClass, Memory, Text};
 impl State {
     /// Writes what a primitive answers to its target. Without an answer its arguments were wrong.
     pub fn answer(&mut self, target: Option<usize>, word: Option<Word>) -> Option<Ending>
-        requires { self.old.top.place + 1 < 2 ^ 64 }
+        requires place { self.old.top.place + 1 < 2 ^ 64 }
+        requires ours { AreOurs self.old.cells (maybe_refs word) }
         ensures { Follows (λ s. if_some true s fault.Kind (option_map word_of word)
-            (λ w. Goes (next_line (with_target target w s)))) result self.old self.new }
+            (λ w. Goes (next_line (with_target target w s)))) result (seen self.old) (seen self.new) }
     {
         match word {
             None => Some(Ending::Fault(Fault::Kind)),
@@ -38,14 +45,15 @@ impl State {
         target: Option<usize>,
         content: Content,
     ) -> Result<Option<Ending>, Memory>
-        requires small { IsSmall self.old }
+        requires small { IsSmall (seen self.old) }
         requires place { self.old.top.place + 1 < 2 ^ 64 }
+        requires ours { AreOurs self.old.cells (refs_in (content_named content)) }
         ensures { IfOk result (λ ending. (rest : Rest) →
-            applied true (state_of rest self.old) target self.old.top.ledger [] (Makes (content_of content))
-            ≡ next_of ending (state_of (record rest { made = noted (content_of content) (length self.old.cells) rest.made }) self.new)) }
+            applied true (state_of rest (seen self.old)) target self.old.top.ledger [] (Makes (content_of content))
+            ≡ next_of ending (state_of (record rest { made = noted (content_of content) (length (numbered self.old.cells)) rest.made }) (seen self.new))) }
     {
         let key = self.cells.make(content)?;
-        self.top.ledger.add(key.serial())?;
+        self.top.ledger.add(number_of(key))?;
         self.top.set_target(target, Word::Cell(key));
         self.top.place += 1;
         Ok(None)
@@ -59,10 +67,11 @@ impl State {
         class: ExcClass,
         text: Text,
     ) -> Result<Option<Ending>, Memory>
-        requires small { IsSmall self.old }
+        requires small { IsSmall (seen self.old) }
         requires place { self.old.top.place + 1 < 2 ^ 64 }
+        requires ours { IsOurWord self.old.cells word }
         ensures { IfOk result (λ ending. Follows
-            (λ s. applied true s target s.top.ledger [] (Fails (word_of word) (thrown class text))) ending self.old self.new) }
+            (λ s. applied true s target s.top.ledger [] (Fails (word_of word) (thrown class text))) ending (seen self.old) (seen self.new)) }
     {
         self.fail_in_room(target, word, class, text)
     }
@@ -75,10 +84,11 @@ impl State {
         class: ExcClass,
         text: Text,
     ) -> Result<Option<Ending>, Memory>
-        requires room { length self.old.cells + 1 < 2 ^ 128 }
+        requires room { length (numbered self.old.cells) + 1 < 2 ^ 128 }
         requires place { self.old.top.place + 1 < 2 ^ 64 }
+        requires ours { IsOurWord self.old.cells word }
         ensures { IfOk result (λ ending. Follows
-            (λ s. applied true s target s.top.ledger [] (Fails (word_of word) (thrown class text))) ending self.old self.new) }
+            (λ s. applied true s target s.top.ledger [] (Fails (word_of word) (thrown class text))) ending (seen self.old) (seen self.new)) }
     {
         let key = self.cells.make(Content::Exc(class, text))?;
         self.pending = Some(key);
@@ -89,10 +99,11 @@ impl State {
 
     /// Writes a word to the target, and takes one reference more to its cell, if it has one.
     pub fn share(&mut self, target: Option<usize>, word: Word) -> Result<Option<Ending>, Memory>
-        requires small { IsSmall self.old }
+        requires small { IsSmall (seen self.old) }
         requires place { self.old.top.place + 1 < 2 ^ 64 }
+        requires ours { IsOurWord self.old.cells word }
         ensures { IfOk result (λ ending. Follows
-            (λ s. applied true s target s.top.ledger [] (Shares (word_of word))) ending self.old self.new) }
+            (λ s. applied true s target s.top.ledger [] (Shares (word_of word))) ending (seen self.old) (seen self.new)) }
     {
         take_word(&mut self.cells, word);
         self.top.own(word)?;

@@ -1,26 +1,19 @@
-ghost use Rattle.std.specs.Prelude.{◌≡◌, ℕ, ◌^◌, ◌<◌, true, Some, None, map, IfOk, is_some, slice_set, OnOk};
-ghost use Rattle.c_core.specs.Step as machine_step;
-ghost use Rattle.c_runner_deeds.specs.States.{frame_of, held_of, with_target};
-ghost use Rattle.cell_heap.specs.Contents.{number_of, word_of};
-ghost use Rattle.c_core.specs.Cells.{times, content_at};
-ghost use Rattle.c_core.specs.Ledgers.{more_of};
-ghost use Rattle.c_core.specs.Machine.{refs_of};
-ghost use Rattle.c_runner_deeds.specs.Parts.{is_owned, left_by, is_there};
-ghost use Rattle.cell_heap.specs.Contents as contents;
+ghost use Rattle.c_runner_deeds.specs.Ours.{KeysAreOurs, keys_once};
 
+use crate::cells::{Cells, number_of};
 use crate::output::Output;
 use crate::words::kind_of;
 use c_core::{Code, Kind};
 use c_runner_ledger::Ledger;
-use cell_heap::{Heap, Key, Word};
-use std::alloc::Global;
-use value_core::{Many, Memory, Name};
+use cell_heap::{Key, Word};
+use value_core::{Many, Memory};
 
 /// The state of a run, with the frame that runs and those that wait for it, the innermost last, what the globals hold, and
-/// the exception that is pending. `specs/States.antt` says which state of the machine it is.
+/// the exception that is pending. Each key in it is that of a cell of its own heap. `specs/States.antt` says which state of the
+/// machine it is.
 #[derive(Drop)]
 pub struct State {
-    pub cells: Heap,
+    pub cells: Cells,
     pub top: Frame,
     pub below: Many<Frame>,
     /// What each global of the code holds, nothing where it is unset.
@@ -29,6 +22,7 @@ pub struct State {
     pub pending: Option<Key>,
     pub output: Output,
     pub turns: u64,
+    pub ghost ours: { KeysAreOurs cells top.vars below globals pending } by { keys_once cells top.vars below globals pending },
 }
 
 /// A call that goes on: the number of its function, the place of its next line, its variables, what it owns, and the
@@ -43,6 +37,14 @@ pub struct Frame {
 }
 
 impl Frame {
+    ghost use Rattle.std.specs.Prelude.{◌≡◌, ℕ, ◌^◌, ◌<◌, slice_set, OnOk};
+    ghost use Rattle.c_core.specs.Cells.{times};
+    ghost use Rattle.c_core.specs.Ledgers.{more_of};
+    ghost use Rattle.c_core.specs.Machine.{refs_of};
+    ghost use Rattle.c_runner_deeds.specs.Parts.{is_owned, left_by};
+    ghost use Rattle.c_runner_deeds.specs.States.{with_target};
+    ghost use Rattle.cell_heap.specs.Contents.{word_of};
+
     /// Writes a variable, if there is one of this number.
     pub fn set(&mut self, x: usize, word: Word)
         ensures { self.new ≡ record self.old { vars = slice_set self.old.vars x word } }
@@ -65,10 +67,11 @@ impl Frame {
     /// Owns the reference of a word, if it has one.
     pub fn own(&mut self, word: Word) -> Result<(), Memory>
         requires { (c : ℕ) → times self.old.ledger c < 2 ^ 128 }
-        ensures { OnOk result (self.new ≡ record self.old { ledger = more_of (refs_of (word_of word)) self.old.ledger }) }
+        ensures owned { OnOk result (self.new ≡ record self.old { ledger = more_of (refs_of (word_of word)) self.old.ledger }) }
+        ensures vars { self.new.vars ≡ self.old.vars }
     {
         match word {
-            Word::Big(key) | Word::Cell(key) => self.ledger.add(key.serial()),
+            Word::Big(key) | Word::Cell(key) => self.ledger.add(number_of(key)),
             _ => Ok(()),
         }
     }
@@ -78,7 +81,7 @@ impl Frame {
         ensures { result ≡ is_owned (word_of word) self.now.ledger }
     {
         match word {
-            Word::Big(key) | Word::Cell(key) => self.ledger.owns(key.serial()),
+            Word::Big(key) | Word::Cell(key) => self.ledger.owns(number_of(key)),
             _ => true,
         }
     }
@@ -89,7 +92,7 @@ impl Frame {
     {
         match word {
             Word::Big(key) | Word::Cell(key) => {
-                self.ledger.take(key.serial());
+                self.ledger.take(number_of(key));
             }
             _ => {}
         }
@@ -97,16 +100,29 @@ impl Frame {
 }
 
 impl State {
+    ghost use Rattle.std.specs.Prelude.{◌≡◌, true, is_some};
+    ghost use Rattle.c_core.specs.Cells.{content_at};
+    ghost use Rattle.c_core.specs.Step as machine_step;
+    ghost use Rattle.c_runner_deeds.specs.Ours.{IsOurWord};
+    ghost use Rattle.c_runner_deeds.specs.Parts.{is_there};
+    ghost use Rattle.c_runner_deeds.specs.States.{frame_of};
+    ghost use Rattle.cell_heap.specs.Contents as contents;
+    ghost use Rattle.cell_heap.specs.Contents.{name_of, number_of};
+    ghost use Rattle.cell_heap.specs.Numbered.{numbered};
+    ghost use Rattle.cell_heap.specs.Ours.{IsOurs};
+
     /// Whether the cell of a key is there.
     pub fn is_live(&self, key: Key) -> bool
-        ensures { result ≡ is_some (content_at self.now.cells (number_of key)) }
+        requires ours { IsOurs self.now.cells (name_of key) }
+        ensures { result ≡ is_some (content_at (numbered self.now.cells) (number_of key)) }
     {
-        self.cells.count(key).is_ok()
+        self.cells.is_live(key)
     }
 
     /// Whether the cell of a word is there, if the word has one.
     pub fn is_there(&self, word: Word) -> bool
-        ensures { result ≡ is_there self.now.cells (contents.word_of word) }
+        requires ours { IsOurWord self.now.cells word }
+        ensures { result ≡ is_there (numbered self.now.cells) (contents.word_of word) }
     {
         match word {
             Word::Big(key) | Word::Cell(key) => self.is_live(key),
@@ -123,15 +139,4 @@ impl State {
             Some(function) => kind_of(function, x),
         }
     }
-}
-
-/// As many places as there are globals or attributes, each unset.
-pub fn unset(alloc: Global, globals: &[(Name, Kind)]) -> Result<Many<Option<Word>>, Memory>
-    ensures { IfOk result (λ places. map held_of places ≡ map (λ g. None) globals.now) }
-{
-    let mut places = Many::new(alloc);
-    for _global in globals {
-        places.push(None)?;
-    }
-    Ok(places)
 }

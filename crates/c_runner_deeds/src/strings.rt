@@ -10,8 +10,11 @@ ghost use Rattle.c_core.specs.Step.{Makes, tagged_effect, item_or};
 ghost use Rattle.c_core.specs.Strings.{text_less, text_length, text_item};
 ghost use Rattle.c_runner_deeds.specs.Deeds.{Calls, effect_of, done_by, done_or, then_done, then_tried, text_held, text_at, one_text, two_texts, text_and_int, texts_done, str_done};
 ghost use Rattle.c_runner_deeds.specs.Parts.{only_text};
-ghost use Rattle.c_runner_deeds.specs.States.{IsSmall};
+ghost use Rattle.c_runner_deeds.specs.States.{IsSmall, seen};
 ghost use Rattle.cell_heap.specs.Contents.{number_of, word_of};
+ghost use Rattle.cell_heap.specs.Numbered.{numbered};
+ghost use Rattle.cell_heap.specs.Ours.{IsOurs};
+ghost use Rattle.cell_heap.specs.Contents.{name_of};
 
 use crate::deed::Deed;
 use crate::ending::Ending;
@@ -33,9 +36,9 @@ impl State {
         target: Option<usize>,
         args: &[CArg],
     ) -> Result<Option<Ending>, Memory>
-        requires small { IsSmall self.old }
+        requires small { IsSmall (seen self.old) }
         requires place { self.old.top.place + 1 < 2 ^ 64 }
-        ensures { Calls (prim.Str primitive) target args.now self.old self.new result }
+        ensures { Calls (prim.Str primitive) target args.now (seen self.old) (seen self.new) result }
     {
         let deed = self.str_deed(alloc, primitive, args)?;
         self.perform_deed(target, deed)
@@ -49,7 +52,7 @@ impl State {
         args: &[CArg],
     ) -> Result<Result<Deed, Fault>, Memory>
         ensures { IfOk result (λ deed. done_by deed
-            ≡ str_done primitive self.now.cells (map word_of self.now.top.vars) args.now) }
+            ≡ str_done primitive (numbered self.now.cells) (map word_of self.now.top.vars) args.now) }
     {
         match primitive {
             StrPrim::Literal => literal(alloc, args),
@@ -62,7 +65,7 @@ impl State {
     /// Answers how many code points a text has.
     fn length(&self, args: &[CArg]) -> Result<Deed, Fault>
         ensures { done_by result ≡ then_done (λ text. tagged_effect (text_length text))
-            (one_text self.now.cells (map word_of self.now.top.vars) args.now) }
+            (one_text (numbered self.now.cells) (map word_of self.now.top.vars) args.now) }
     {
         match self.one_text(args) {
             Err(fault) => Err(fault),
@@ -73,7 +76,7 @@ impl State {
     /// Answers the code point of a text at an index.
     fn item(&self, alloc: Global, args: &[CArg]) -> Result<Result<Deed, Fault>, Memory>
         ensures { IfOk result (λ deed. done_by deed ≡ then_done (λ q. item_or (text_item q.0 q.1))
-            (text_and_int self.now.cells (map word_of self.now.top.vars) args.now)) }
+            (text_and_int (numbered self.now.cells) (map word_of self.now.top.vars) args.now)) }
     {
         match self.text_and_int(args) {
             Err(fault) => Ok(Err(fault)),
@@ -89,7 +92,7 @@ impl State {
         args: &[CArg],
     ) -> Result<Result<Deed, Fault>, Memory>
         ensures { IfOk result (λ deed. done_by deed ≡ then_tried (λ q. texts_done primitive q.0 q.1)
-            (two_texts self.now.cells (map word_of self.now.top.vars) args.now)) }
+            (two_texts (numbered self.now.cells) (map word_of self.now.top.vars) args.now)) }
     {
         match self.two_texts(args) {
             Err(fault) => Ok(Err(fault)),
@@ -100,8 +103,8 @@ impl State {
     /// The one text that the arguments are.
     fn one_text(&self, args: &[CArg]) -> Result<&Letters, Fault>
         ensures { MatchResult result
-            (λ text. one_text self.now.cells (map word_of self.now.top.vars) args.now ≡ Ok text.now)
-            (λ why. one_text self.now.cells (map word_of self.now.top.vars) args.now ≡ Err why) }
+            (λ text. one_text (numbered self.now.cells) (map word_of self.now.top.vars) args.now ≡ Ok text.now)
+            (λ why. one_text (numbered self.now.cells) (map word_of self.now.top.vars) args.now ≡ Err why) }
     {
         let text = self.text_argument(args.first())?;
         if args.len() > 1 {
@@ -113,8 +116,8 @@ impl State {
     /// The two texts that the arguments are.
     fn two_texts(&self, args: &[CArg]) -> Result<(&Letters, &Letters), Fault>
         ensures { MatchResult result
-            (λ texts. two_texts self.now.cells (map word_of self.now.top.vars) args.now ≡ Ok (texts.0.now, texts.1.now))
-            (λ why. two_texts self.now.cells (map word_of self.now.top.vars) args.now ≡ Err why) }
+            (λ texts. two_texts (numbered self.now.cells) (map word_of self.now.top.vars) args.now ≡ Ok (texts.0.now, texts.1.now))
+            (λ why. two_texts (numbered self.now.cells) (map word_of self.now.top.vars) args.now ≡ Err why) }
     {
         let first = self.text_argument(args.first())?;
         let second = self.text_argument(args.get(1))?;
@@ -127,8 +130,8 @@ impl State {
     /// The text and the `int` that the arguments are.
     fn text_and_int(&self, args: &[CArg]) -> Result<(&Letters, i128), Fault>
         ensures { MatchResult result
-            (λ found. text_and_int self.now.cells (map word_of self.now.top.vars) args.now ≡ Ok (found.0.now, found.1))
-            (λ why. text_and_int self.now.cells (map word_of self.now.top.vars) args.now ≡ Err why) }
+            (λ found. text_and_int (numbered self.now.cells) (map word_of self.now.top.vars) args.now ≡ Ok (found.0.now, found.1))
+            (λ why. text_and_int (numbered self.now.cells) (map word_of self.now.top.vars) args.now ≡ Err why) }
     {
         let text = self.text_argument(args.first())?;
         let index = self.int_argument(args.get(1))?;
@@ -141,8 +144,8 @@ impl State {
     /// The text that an argument is.
     fn text_argument(&self, argument: Option<&CArg>) -> Result<&Letters, Fault>
         ensures { MatchResult result
-            (λ text. text_at self.now.cells (map word_of self.now.top.vars) (option_copied argument.entry) ≡ Ok text.now)
-            (λ why. text_at self.now.cells (map word_of self.now.top.vars) (option_copied argument.entry) ≡ Err why) }
+            (λ text. text_at (numbered self.now.cells) (map word_of self.now.top.vars) (option_copied argument.entry) ≡ Ok text.now)
+            (λ why. text_at (numbered self.now.cells) (map word_of self.now.top.vars) (option_copied argument.entry) ≡ Err why) }
     {
         let Some(CArg::Var(x)) = argument else {
             return Err(Fault::Kind);
@@ -155,9 +158,10 @@ impl State {
 
     /// The text that a cell holds.
     fn text_in(&self, key: Key) -> Result<&Letters, Fault>
+        requires { IsOurs self.now.cells (name_of key) }
         ensures { MatchResult result
-            (λ text. text_held (content_at self.now.cells (number_of key)) ≡ Ok text.now)
-            (λ why. text_held (content_at self.now.cells (number_of key)) ≡ Err why) }
+            (λ text. text_held (content_at (numbered self.now.cells) (number_of key)) ≡ Ok text.now)
+            (λ why. text_held (content_at (numbered self.now.cells) (number_of key)) ≡ Err why) }
     {
         let Ok(content) = self.cells.content(key) else {
             return Err(Fault::Dead);

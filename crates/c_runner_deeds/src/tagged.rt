@@ -7,8 +7,14 @@ ghost use Rattle.value_core.specs.Arithmetic.{int_to_i64};
 ghost use Rattle.c_core.specs.Step.{Says, MakesInt, tagged_effect, tagged_or, fitted, unboxed};
 ghost use Rattle.c_runner_deeds.specs.Deeds.{Calls, effect_of, done_by, done_or, then_done, then_tried, int_held, int_at, one_int, two_ints, one_boxed, number_written, computed, one_done, two_done, tagged_done};
 ghost use Rattle.c_runner_deeds.specs.Parts.{one_native, one_char, only_text};
-ghost use Rattle.c_runner_deeds.specs.States.{IsSmall};
+ghost use Rattle.c_runner_deeds.specs.States.{IsSmall, seen};
 ghost use Rattle.cell_heap.specs.Contents.{number_of, word_of};
+ghost use Rattle.cell_heap.specs.Numbered.{numbered};
+ghost use Rattle.cell_heap.specs.Ours.{IsOurs};
+ghost use Rattle.cell_heap.specs.Contents.{name_of};
+ghost use Rattle.c_core.specs.Cells.{Cells};
+ghost use Rattle.cell_heap.specs.Placed.{Placed};
+ghost use Rattle.c_runner_deeds.specs.Deeds.{IsOurDeed};
 
 use crate::deed::Deed;
 use crate::ending::Ending;
@@ -33,9 +39,9 @@ impl State {
         target: Option<usize>,
         args: &[CArg],
     ) -> Result<Option<Ending>, Memory>
-        requires small { IsSmall self.old }
+        requires small { IsSmall (seen self.old) }
         requires place { self.old.top.place + 1 < 2 ^ 64 }
-        ensures { Calls (prim.Tagged primitive) target args.now self.old self.new result }
+        ensures { Calls (prim.Tagged primitive) target args.now (seen self.old) (seen self.new) result }
     {
         match primitive {
             TaggedPrim::Box => self.box_int(target, args),
@@ -51,7 +57,7 @@ impl State {
 
     /// The word that a primitive on two short `int`s answers, where it is a truth or a short `int` itself.
     fn short_answer(&self, primitive: TaggedPrim, args: &[CArg]) -> Option<Word>
-        ensures { IfSome result (λ word. tagged_done primitive self.now.cells (map word_of self.now.top.vars) args.now
+        ensures { IfSome result (λ word. tagged_done primitive (numbered self.now.cells) (map word_of self.now.top.vars) args.now
             ≡ Ok (Says (word_of word))) }
     {
         match self.two_shorts(args) {
@@ -62,7 +68,7 @@ impl State {
 
     /// The two `int`s that the arguments are, where both are short.
     fn two_shorts(&self, args: &[CArg]) -> Option<(i64, i64)>
-        ensures { IfSome result (λ found. two_ints self.now.cells (map word_of self.now.top.vars) args.now ≡ Ok (found.0, found.1)) }
+        ensures { IfSome result (λ found. two_ints (numbered self.now.cells) (map word_of self.now.top.vars) args.now ≡ Ok (found.0, found.1)) }
     {
         match args {
             [first, second] => match self.short(first) {
@@ -78,7 +84,7 @@ impl State {
 
     /// The `int` that an argument is, where it is short.
     fn short(&self, argument: &CArg) -> Option<i64>
-        ensures { IfSome result (λ n. int_at self.now.cells (map word_of self.now.top.vars) (Some argument.now) ≡ Ok n) }
+        ensures { IfSome result (λ n. int_at (numbered self.now.cells) (map word_of self.now.top.vars) (Some argument.now) ≡ Ok n) }
     {
         let CArg::Var(x) = argument else {
             return None;
@@ -96,8 +102,9 @@ impl State {
         primitive: TaggedPrim,
         args: &[CArg],
     ) -> Result<Result<Deed, Fault>, Memory>
-        ensures { IfOk result (λ deed. done_by deed
-            ≡ tagged_done primitive self.now.cells (map word_of self.now.top.vars) args.now) }
+        ensures done { IfOk result (λ deed. done_by deed
+            ≡ tagged_done primitive (numbered self.now.cells) (map word_of self.now.top.vars) args.now) }
+        ensures ours { IfOk result (λ deed. IfOk deed (IsOurDeed self.now.cells)) }
     {
         match primitive {
             TaggedPrim::FromText => Ok(from_text(args)),
@@ -134,8 +141,9 @@ impl State {
 
     /// Answers the `int` that the one argument, a number in a cell, is.
     fn unbox_int(&self, args: &[CArg]) -> Result<Deed, Fault>
-        ensures { done_by result ≡ then_done (λ q. unboxed q.0 q.1)
-            (one_boxed self.now.cells (map word_of self.now.top.vars) args.now) }
+        ensures done { done_by result ≡ then_done (λ q. unboxed q.0 q.1)
+            (one_boxed (numbered self.now.cells) (map word_of self.now.top.vars) args.now) }
+        ensures ours { IfOk result (IsOurDeed self.now.cells) }
     {
         match self.one_boxed(args) {
             Err(fault) => Err(fault),
@@ -151,7 +159,7 @@ impl State {
         args: &[CArg],
     ) -> Result<Result<Deed, Fault>, Memory>
         ensures { IfOk result (λ deed. done_by deed
-            ≡ then_tried (one_done primitive) (one_int self.now.cells (map word_of self.now.top.vars) args.now)) }
+            ≡ then_tried (one_done primitive) (one_int (numbered self.now.cells) (map word_of self.now.top.vars) args.now)) }
     {
         match self.one_int(args) {
             Err(fault) => Ok(Err(fault)),
@@ -167,7 +175,7 @@ impl State {
         args: &[CArg],
     ) -> Result<Result<Deed, Fault>, Memory>
         ensures { IfOk result (λ deed. done_by deed
-            ≡ then_tried (λ q. two_done primitive q.0 q.1) (two_ints self.now.cells (map word_of self.now.top.vars) args.now)) }
+            ≡ then_tried (λ q. two_done primitive q.0 q.1) (two_ints (numbered self.now.cells) (map word_of self.now.top.vars) args.now)) }
     {
         match self.two_ints(args) {
             Err(fault) => Ok(Err(fault)),
@@ -177,7 +185,7 @@ impl State {
 
     /// The one `int` that the arguments are.
     fn one_int(&self, args: &[CArg]) -> Result<i128, Fault>
-        ensures { result ≡ one_int self.now.cells (map word_of self.now.top.vars) args.now }
+        ensures { result ≡ one_int (numbered self.now.cells) (map word_of self.now.top.vars) args.now }
     {
         let n = self.int_argument(args.first())?;
         if args.len() > 1 {
@@ -188,7 +196,7 @@ impl State {
 
     /// The two `int`s that the arguments are.
     fn two_ints(&self, args: &[CArg]) -> Result<(i128, i128), Fault>
-        ensures { result ≡ two_ints self.now.cells (map word_of self.now.top.vars) args.now }
+        ensures { result ≡ two_ints (numbered self.now.cells) (map word_of self.now.top.vars) args.now }
     {
         let a = self.int_argument(args.first())?;
         let b = self.int_argument(args.get(1))?;
@@ -200,7 +208,7 @@ impl State {
 
     /// The `int` that an argument is.
     pub fn int_argument(&self, argument: Option<&CArg>) -> Result<i128, Fault>
-        ensures { result ≡ int_at self.now.cells (map word_of self.now.top.vars) (option_copied argument.entry) }
+        ensures { result ≡ int_at (numbered self.now.cells) (map word_of self.now.top.vars) (option_copied argument.entry) }
     {
         let Some(CArg::Var(x)) = argument else {
             return Err(Fault::Kind);
@@ -214,7 +222,8 @@ impl State {
 
     /// The number that a cell holds.
     fn int_in(&self, key: Key) -> Result<i128, Fault>
-        ensures { result ≡ int_held (content_at self.now.cells (number_of key)) }
+        requires { IsOurs self.now.cells (name_of key) }
+        ensures { result ≡ int_held (content_at (numbered self.now.cells) (number_of key)) }
     {
         let Ok(content) = self.cells.content(key) else {
             return Err(Fault::Dead);
@@ -338,7 +347,8 @@ pub fn int_deed(n: i128) -> Deed
 
 /// Answers the `int` that the number in a cell is: a short word where it is short, and else one that refers to the cell.
 fn unboxed_deed(key: Key, n: i128) -> Deed
-    ensures { effect_of result ≡ unboxed (number_of key) n }
+    ensures done { effect_of result ≡ unboxed (number_of key) n }
+    ensures ours { (cells : Cells Placed) → IsOurs cells (name_of key) → IsOurDeed cells result }
 {
     if is_short(n) {
         Deed::Says(Word::Short(n as i64))

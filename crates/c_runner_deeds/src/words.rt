@@ -1,14 +1,17 @@
 //! The words of variables, by their kinds.
-ghost use Rattle.std.specs.Prelude.{◌≡◌, true, Some, slice_get};
+ghost use Rattle.std.specs.Prelude.{◌≡◌, [], true, Some, None, map, slice_get, IfOk};
 ghost use Rattle.std.specs.Option.{option_map};
 ghost use Rattle.c_core.specs.Step.{literal_word, char_word, truth_word};
 ghost use Rattle.c_core.specs.Arguments as arguments;
 ghost use Rattle.c_core.specs.Functions.{error_word};
 ghost use Rattle.c_core.specs.Step as machine_step;
-ghost use Rattle.cell_heap.specs.Contents.{word_of};
+ghost use Rattle.c_runner_deeds.specs.States.{held_of};
+ghost use Rattle.cell_heap.specs.Contents.{word_of, optional_refs};
 
 use c_core::{CFunc, CLit, Kind};
 use cell_heap::Word;
+use std::alloc::Global;
+use value_core::{Many, Memory, Name};
 
 /// The error value of a kind, with which its variables begin.
 pub fn error_of(kind: Kind) -> Word
@@ -112,4 +115,16 @@ pub fn kind_of(function: &CFunc, x: usize) -> Option<Kind>
     ensures { result ≡ option_map (λ v. v.1) (slice_get function.now.vars x) }
 {
     function.vars.get(x).map(|var| var.1)
+}
+
+/// As many places as there are globals or attributes, each unset.
+pub fn unset(alloc: Global, globals: &[(Name, Kind)]) -> Result<Many<Option<Word>>, Memory>
+    ensures unset { IfOk result (λ places. map held_of places ≡ map (λ g. None) globals.now) }
+    ensures none { IfOk result (λ places. optional_refs places ≡ []) }
+{
+    let mut places = Many::new(alloc);
+    for _global in globals {
+        places.push(None)?;
+    }
+    Ok(places)
 }

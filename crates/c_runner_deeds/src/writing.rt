@@ -5,7 +5,7 @@ ghost use Rattle.c_core.specs.declared.primitive.IoPrim.TheVariants as io;
 ghost use Rattle.c_core.specs.declared.primitive.Primitive.TheVariants as prim;
 ghost use Rattle.c_core.specs.Step.{primitive_step};
 ghost use Rattle.c_runner_deeds.specs.Parts.{written};
-ghost use Rattle.c_runner_deeds.specs.States.{Follows};
+ghost use Rattle.c_runner_deeds.specs.States.{Follows, seen};
 
 use crate::ending::Ending;
 use crate::state::State;
@@ -18,7 +18,7 @@ impl State {
     pub fn call_write(&mut self, args: &[CArg]) -> Result<Option<Ending>, Memory>
         requires place { self.old.top.place + 1 < 2 ^ 64 }
         ensures { IfOk result (λ ending. (code : machine_code.Code) (target : Option ℕ) → Follows
-            (λ s. primitive_step true s code target args.now (prim.Io io.Write)) ending self.old self.new) }
+            (λ s. primitive_step true s code target args.now (prim.Io io.Write)) ending (seen self.old) (seen self.new)) }
     {
         match args.first() {
             Some(CArg::Var(x)) => self.write(*x, args.len() == 1),
@@ -30,7 +30,7 @@ impl State {
     fn write(&mut self, x: usize, is_alone: bool) -> Result<Option<Ending>, Memory>
         requires { self.old.top.place + 1 < 2 ^ 64 }
         ensures { IfOk result (λ ending. (code : machine_code.Code) (target : Option ℕ) →
-            Follows (written code target x is_alone) ending self.old self.new) }
+            Follows (written code target x is_alone) ending (seen self.old) (seen self.new)) }
     {
         let Some(word) = self.top.vars.get(x) else {
             return Ok(Some(Ending::Fault(Fault::Kind)));

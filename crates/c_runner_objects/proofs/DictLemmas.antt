@@ -29,12 +29,11 @@ use Rattle.c_core.proofs.Order.{release_first}
 use Rattle.c_core.proofs.ReleaseLemmas.{weight-after, release-nothing}
 use Rattle.c_runner_deeds.specs.declared.ending.Ending.{Ending}
 use Rattle.c_runner_deeds.specs.declared.state.Frame.{Frame}
-use Rattle.c_runner_deeds.specs.declared.state.State.{State}
 use Rattle.c_runner_deeds.specs.Deeds.{paired, dict_and_key, then_done, dict_item_done, dict_contains_done}
 use Rattle.c_runner_objects.specs.Dicts.{pairs_at, HoldsDict, HoldsKey, HoldsEntry, entry_parameters, shown, taken_or, both_taken_or, entry_put, entry_taken}
 use Rattle.c_runner_deeds.specs.Objects.{pairs_in, held, beside, object_of, dict_at, keyed, key_held, key_word, key_argument}
 use Rattle.c_runner_deeds.specs.Parts.{is_there, cell_argument, argument_of, is_owned, left_by, stolen_or}
-use Rattle.c_runner_deeds.specs.States.{Rest, Leads, held_of, state_of, next_of, with_target}
+use Rattle.c_runner_deeds.specs.States.{Seen, Rest, Leads, held_of, state_of, next_of, with_target}
 use Rattle.c_runner_objects.specs.Tuples.{AreOwned}
 use Rattle.slot_arena.specs.declared.key.Key.{Key}
 use Rattle.cell_heap.specs.declared.word.Word.{Word}
@@ -448,7 +447,7 @@ module _ (s : MachineState) (code : Code) where
   new_is target args e = ap (λ a. primitive_step true s code target a (prim.Dict dict.New)) (no_argument args e)
 
 -- the same for what a call answers
-pub makes_dict : {E : Type 0} (old new : State) (target : Option ℕ) (args : List CArg) (pairs : List (machine.Word × machine.Word)) (r : Result (Option Ending) E) → eqb (length args) 0 ≡ true → pairs ≡ [] → IfOk r (λ ending. (rest : Rest) → applied true (state_of rest old) target old.top.ledger [] (Makes (DictCell pairs)) ≡ next_of ending (state_of (record rest { made = noted (DictCell pairs) (length old.cells) rest.made }) new)) → IfOk r (λ ending. (code : Code) → Leads (λ s. primitive_step true s code target args (prim.Dict dict.New)) ending old new)
+pub makes_dict : {E : Type 0} (old new : Seen) (target : Option ℕ) (args : List CArg) (pairs : List (machine.Word × machine.Word)) (r : Result (Option Ending) E) → eqb (length args) 0 ≡ true → pairs ≡ [] → IfOk r (λ ending. (rest : Rest) → applied true (state_of rest old) target old.top.ledger [] (Makes (DictCell pairs)) ≡ next_of ending (state_of (record rest { made = noted (DictCell pairs) (length old.cells) rest.made }) new)) → IfOk r (λ ending. (code : Code) → Leads (λ s. primitive_step true s code target args (prim.Dict dict.New)) ending old new)
 makes_dict old new target args pairs (Ok ending) none empty h = λ code rest.
     let s = state_of rest old in (
       noted (DictCell pairs) (length old.cells) rest.made,
@@ -458,12 +457,12 @@ makes_dict old new target args pairs (Err failed) none empty h = tt
 
 -- ---- a dict that changes
 -- what two words leave of a ledger
-both_lost : (old : State) (k w : machine.Word) (mid owner : Frame) → mid ≡ record old.top { ledger = left_by k old.top.ledger } → owner ≡ record mid { ledger = left_by w mid.ledger } → owner ≡ record old.top { ledger = left_by w (left_by k old.top.ledger) }
+both_lost : (old : Seen) (k w : machine.Word) (mid owner : Frame) → mid ≡ record old.top { ledger = left_by k old.top.ledger } → owner ≡ record mid { ledger = left_by w mid.ledger } → owner ≡ record old.top { ledger = left_by w (left_by k old.top.ledger) }
 both_lost old k w mid owner mid_is owner_is =
     owner_is ∙ ap (λ (f : Frame). record f { ledger = left_by w f.ledger }) mid_is
 
 -- a pair goes behind the others
-pub entry_added : (rest : Rest) (old : State) (target : Option ℕ) (d : Key) (k w : Word) (cells : Cells Content) (mid owner top : Frame) → HoldsDict old.cells (number_of d) → cells ≡ refill_by (with_pair (contents.word_of k, contents.word_of w)) (number_of d) old.cells → mid ≡ record old.top { ledger = left_by (contents.word_of k) old.top.ledger } → owner ≡ record mid { ledger = left_by (contents.word_of w) mid.ledger } → top ≡ with_target target heap.PyNone owner → entry_put target d None k w (state_of rest old) ≡ Goes (state_of rest (record old { cells = cells; top = record top { place = top.place + 1 } }))
+pub entry_added : (rest : Rest) (old : Seen) (target : Option ℕ) (d : Key) (k w : Word) (cells : Cells Content) (mid owner top : Frame) → HoldsDict old.cells (number_of d) → cells ≡ refill_by (with_pair (contents.word_of k, contents.word_of w)) (number_of d) old.cells → mid ≡ record old.top { ledger = left_by (contents.word_of k) old.top.ledger } → owner ≡ record mid { ledger = left_by (contents.word_of w) mid.ledger } → top ≡ with_target target heap.PyNone owner → entry_put target d None k w (state_of rest old) ≡ Goes (state_of rest (record old { cells = cells; top = record top { place = top.place + 1 } }))
 entry_added rest old target d k w cells mid owner top e cells_is mid_is owner_is top_is =
     let c = number_of d in
     let u = contents.word_of k in
@@ -484,7 +483,7 @@ set_over (q ∷ ps) zero p w e =
 set_over (q ∷ ps) (suc i) p w e = ap (λ rest. q ∷ rest) (set_over ps i p w e)
 
 -- a value is written over
-pub value_put : (rest : Rest) (old : State) (target : Option ℕ) (d : Key) (place : ℕ) (k w : Word) (stood : Option Word) (filled first cells : Cells Content) (mid owner top : Frame) → HoldsDict old.cells (number_of d) → place < length (pairs_at old.cells (number_of d)) → option_map contents.word_of stood ≡ words.word_at old.cells (number_of d) place → filled ≡ refill_by (with_word place (Some (contents.word_of w))) (number_of d) old.cells → first ≡ release refs_in filled (set_refs (held_of (Some k) ∷ [])) → cells ≡ release refs_in first (set_refs (held_of stood ∷ [])) → mid ≡ record old.top { ledger = left_by (contents.word_of k) old.top.ledger } → owner ≡ record mid { ledger = left_by (contents.word_of w) mid.ledger } → top ≡ with_target target heap.PyNone owner → entry_put target d (Some place) k w (state_of rest old) ≡ Goes (state_of rest (record old { cells = cells; top = record top { place = top.place + 1 } }))
+pub value_put : (rest : Rest) (old : Seen) (target : Option ℕ) (d : Key) (place : ℕ) (k w : Word) (stood : Option Word) (filled first cells : Cells Content) (mid owner top : Frame) → HoldsDict old.cells (number_of d) → place < length (pairs_at old.cells (number_of d)) → option_map contents.word_of stood ≡ words.word_at old.cells (number_of d) place → filled ≡ refill_by (with_word place (Some (contents.word_of w))) (number_of d) old.cells → first ≡ release refs_in filled (set_refs (held_of (Some k) ∷ [])) → cells ≡ release refs_in first (set_refs (held_of stood ∷ [])) → mid ≡ record old.top { ledger = left_by (contents.word_of k) old.top.ledger } → owner ≡ record mid { ledger = left_by (contents.word_of w) mid.ledger } → top ≡ with_target target heap.PyNone owner → entry_put target d (Some place) k w (state_of rest old) ≡ Goes (state_of rest (record old { cells = cells; top = record top { place = top.place + 1 } }))
 value_put rest old target d place k w stood filled first cells mid owner top e within stood_is filled_is first_is cells_is mid_is owner_is top_is =
     let c = number_of d in
     let u = contents.word_of k in
@@ -501,7 +500,7 @@ value_put rest old target d place k w stood filled first cells mid owner top e w
     (both_lost old u v mid owner mid_is owner_is) top_is
 
 -- a pair is taken out
-pub pair_out : (rest : Rest) (old : State) (target : Option ℕ) (d : Key) (place : ℕ) (k w answer : Word) (filled first cells : Cells Content) (top : Frame) → HoldsDict old.cells (number_of d) → contents.word_of answer ≡ CharWord 1 → Some (contents.word_of k, contents.word_of w) ≡ pair_at old.cells (number_of d) place → filled ≡ refill_by (without_pair place) (number_of d) old.cells → first ≡ release refs_in filled (set_refs (held_of (Some k) ∷ [])) → cells ≡ release refs_in first (set_refs (held_of (Some w) ∷ [])) → top ≡ with_target target answer old.top → entry_taken target d place (state_of rest old) ≡ Goes (state_of rest (record old { cells = cells; top = record top { place = top.place + 1 } }))
+pub pair_out : (rest : Rest) (old : Seen) (target : Option ℕ) (d : Key) (place : ℕ) (k w answer : Word) (filled first cells : Cells Content) (top : Frame) → HoldsDict old.cells (number_of d) → contents.word_of answer ≡ CharWord 1 → Some (contents.word_of k, contents.word_of w) ≡ pair_at old.cells (number_of d) place → filled ≡ refill_by (without_pair place) (number_of d) old.cells → first ≡ release refs_in filled (set_refs (held_of (Some k) ∷ [])) → cells ≡ release refs_in first (set_refs (held_of (Some w) ∷ [])) → top ≡ with_target target answer old.top → entry_taken target d place (state_of rest old) ≡ Goes (state_of rest (record old { cells = cells; top = record top { place = top.place + 1 } }))
 pair_out rest old target d place k w answer filled first cells top e is_one pair_is filled_is first_is cells_is top_is =
     let c = number_of d in
     let u = contents.word_of k in
@@ -517,6 +516,6 @@ pair_out rest old target d place k w answer filled first cells top e is_one pair
     (given_both filled first cells (Some k) (Some w) u v refl refl first_is cells_is) same top_is
 
 -- there is a pair at the place
-pub pair_is_there : (old : State) (d : Key) (place : ℕ) → HoldsDict old.cells (number_of d) → place < length (pairs_at old.cells (number_of d)) → None ≡ pair_at old.cells (number_of d) place → ⊥
+pub pair_is_there : (old : Seen) (d : Key) (place : ℕ) → HoldsDict old.cells (number_of d) → place < length (pairs_at old.cells (number_of d)) → None ≡ pair_at old.cells (number_of d) place → ⊥
 pair_is_there old d place e within none =
     some_item (pairs_at old.cells (number_of d)) place within (sym (none ∙ ap (option_and_then (pair_in place)) e))

@@ -28,12 +28,11 @@ use Rattle.c_core.specs.Step as step
 use Rattle.c_core.specs.Step.{Next, Goes, Ends, Faulted, Effect, Wrong, Makes, Changes, if_some, if_true, if_variable, if_stolen, if_argument, if_arguments, faulted, applied, primitive_step, kind_of, slot_fits, answer_fits, instance_of, attribute_at, attribute_got, attribute_set, slot_got, slot_set, of_word, lent}
 use Rattle.c_runner_deeds.specs.declared.ending.Ending.{Ending}
 use Rattle.c_runner_deeds.specs.declared.state.Frame.{Frame}
-use Rattle.c_runner_deeds.specs.declared.state.State.{State}
 use Rattle.c_runner_deeds.specs.Deeds.{then_done, then_tried, lent_done, performed, instance_and_place}
 use Rattle.c_runner_objects.specs.Instances.{slot_in, slot_at, takes_kind, held_read, slot_read, attribute_done, instance_held, class_at, attributes_at, HoldsInstance, attribute_put}
 use Rattle.c_runner_deeds.specs.Objects.{instance_in, held, beside, object_of, instance_at, written_number}
 use Rattle.c_runner_deeds.specs.Parts.{argument_of, left_by, stolen_or, class_of}
-use Rattle.c_runner_deeds.specs.States.{Rest, Leads, held_of, state_of, next_of, with_target}
+use Rattle.c_runner_deeds.specs.States.{Seen, Rest, Leads, held_of, state_of, next_of, with_target}
 use Rattle.slot_arena.specs.declared.key.Key.{Key}
 use Rattle.cell_heap.specs.declared.word.Word.{Word}
 use Rattle.cell_heap.specs.declared.word.Word.TheVariants as heap
@@ -222,12 +221,12 @@ module _ (s : MachineState) (code : Code) (x : Option ℕ) where
   new_is args n k one e is = new_called args n (Some k) one e is
 
 -- the same step in other words
-pub leads_on : {E : Type 0} (does other : MachineState → Next) (old new : State) (r : Result (Option Ending) E) → ((rest : Rest) → other (state_of rest old) ≡ does (state_of rest old)) → IfOk r (λ ending. Leads does ending old new) → IfOk r (λ ending. Leads other ending old new)
+pub leads_on : {E : Type 0} (does other : MachineState → Next) (old new : Seen) (r : Result (Option Ending) E) → ((rest : Rest) → other (state_of rest old) ≡ does (state_of rest old)) → IfOk r (λ ending. Leads does ending old new) → IfOk r (λ ending. Leads other ending old new)
 leads_on does other old new (Ok ending) same h = λ rest. let led = h rest in (led.0, same rest ∙ led.1)
 leads_on does other old new (Err failed) same h = tt
 
 -- what leads to a state has made an object
-pub makes_instance : {E : Type 0} (old new : State) (code : Code) (target : Option ℕ) (args : List CArg) (n : ℕ) (k : CClass) (attributes : List (Option machine.Word)) (r : Result (Option Ending) E) → eqb (length args) 1 ≡ true → class_of code args ≡ Some n → slice_get code.classes n ≡ Some k → attributes ≡ map (λ a. None) k.attrs → IfOk r (λ ending. (rest : Rest) → applied true (state_of rest old) target old.top.ledger [] (Makes (InstCell n attributes)) ≡ next_of ending (state_of (record rest { made = noted (InstCell n attributes) (length old.cells) rest.made }) new)) → IfOk r (λ ending. Leads (λ s. primitive_step true s code target args (prim.Instance instance.New)) ending old new)
+pub makes_instance : {E : Type 0} (old new : Seen) (code : Code) (target : Option ℕ) (args : List CArg) (n : ℕ) (k : CClass) (attributes : List (Option machine.Word)) (r : Result (Option Ending) E) → eqb (length args) 1 ≡ true → class_of code args ≡ Some n → slice_get code.classes n ≡ Some k → attributes ≡ map (λ a. None) k.attrs → IfOk r (λ ending. (rest : Rest) → applied true (state_of rest old) target old.top.ledger [] (Makes (InstCell n attributes)) ≡ next_of ending (state_of (record rest { made = noted (InstCell n attributes) (length old.cells) rest.made }) new)) → IfOk r (λ ending. Leads (λ s. primitive_step true s code target args (prim.Instance instance.New)) ending old new)
 makes_instance old new code target args n k attributes (Ok ending) one e is unset h = λ rest.
     let s = state_of rest old in (
       noted (InstCell n attributes) (length old.cells) rest.made,
@@ -413,7 +412,7 @@ something [] i lt = absurd (omega (arith, lt))
 something (x ∷ xs) zero lt = (x, refl)
 something (x ∷ xs) (suc i) lt = something xs i (omega (arith, lt))
 
-pub attribute_is_written : (rest : Rest) (old : State) (target : Option ℕ) (key : Key) (place : ℕ) (w : Word) (stood : Option Word) (filled cells : Cells Content) (owner top : Frame) → HoldsInstance old.cells (number_of key) → place < length (attributes_at old.cells (number_of key)) → option_map contents.word_of stood ≡ word_at old.cells (number_of key) place → filled ≡ refill_by (with_word place (Some (contents.word_of w))) (number_of key) old.cells → cells ≡ release refs_in filled (set_refs (held_of stood ∷ [])) → owner ≡ record old.top { ledger = left_by (contents.word_of w) old.top.ledger } → top ≡ with_target target heap.PyNone owner → attribute_put target key place w (state_of rest old) ≡ Goes (state_of rest (record old { cells = cells; top = record top { place = top.place + 1 } }))
+pub attribute_is_written : (rest : Rest) (old : Seen) (target : Option ℕ) (key : Key) (place : ℕ) (w : Word) (stood : Option Word) (filled cells : Cells Content) (owner top : Frame) → HoldsInstance old.cells (number_of key) → place < length (attributes_at old.cells (number_of key)) → option_map contents.word_of stood ≡ word_at old.cells (number_of key) place → filled ≡ refill_by (with_word place (Some (contents.word_of w))) (number_of key) old.cells → cells ≡ release refs_in filled (set_refs (held_of stood ∷ [])) → owner ≡ record old.top { ledger = left_by (contents.word_of w) old.top.ledger } → top ≡ with_target target heap.PyNone owner → attribute_put target key place w (state_of rest old) ≡ Goes (state_of rest (record old { cells = cells; top = record top { place = top.place + 1 } }))
 attribute_is_written rest old target key place w stood filled cells owner top e within stood_is filled_is cells_is owner_is top_is =
     let c = number_of key in
     let class = class_at old.cells c in

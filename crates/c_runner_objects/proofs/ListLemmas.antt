@@ -30,12 +30,11 @@ use Rattle.c_core.specs.Step.{Next, Goes, Ends, Faulted, Effect, Makes, Changes,
 use Rattle.c_core.proofs.ReleaseLemmas.{release-nothing}
 use Rattle.c_runner_deeds.specs.declared.ending.Ending.{Ending}
 use Rattle.c_runner_deeds.specs.declared.state.Frame.{Frame}
-use Rattle.c_runner_deeds.specs.declared.state.State.{State}
 use Rattle.c_runner_deeds.specs.Deeds.{Calls, MayMake, alone, int_held, int_of, int_at, one_list}
 use Rattle.c_runner_objects.specs.Lists.{items_held, items_at, HoldsList, item_added, item_put, item_taken}
 use Rattle.c_runner_deeds.specs.Objects.{items_in, held, beside, object_of, list_at}
 use Rattle.c_runner_deeds.specs.Parts.{argument_of, left_by, stolen_or}
-use Rattle.c_runner_deeds.specs.States.{Rest, Follows, Leads, held_of, state_of, next_of, with_target}
+use Rattle.c_runner_deeds.specs.States.{Seen, Rest, Follows, Leads, held_of, state_of, next_of, with_target}
 use Rattle.slot_arena.specs.declared.key.Key.{Key}
 use Rattle.cell_heap.specs.declared.word.Word.{Word}
 use Rattle.cell_heap.specs.declared.word.Word.TheVariants as heap
@@ -306,7 +305,7 @@ module _ (s : MachineState) (code : Code) where
   new_is target args e = ap (λ a. primitive_step true s code target a (prim.List list.New)) (no_argument args e)
 
 -- ---- the same for what a call answers: what leads to a state may have made an object
-pub makes_list : {E : Type 0} (old new : State) (target : Option ℕ) (args : List CArg) (items : List machine.Word) (r : Result (Option Ending) E) → eqb (length args) 0 ≡ true → items ≡ [] → IfOk r (λ ending. (rest : Rest) → applied true (state_of rest old) target old.top.ledger [] (Makes (ListCell items)) ≡ next_of ending (state_of (record rest { made = noted (ListCell items) (length old.cells) rest.made }) new)) → IfOk r (λ ending. (code : Code) → Leads (λ s. primitive_step true s code target args (prim.List list.New)) ending old new)
+pub makes_list : {E : Type 0} (old new : Seen) (target : Option ℕ) (args : List CArg) (items : List machine.Word) (r : Result (Option Ending) E) → eqb (length args) 0 ≡ true → items ≡ [] → IfOk r (λ ending. (rest : Rest) → applied true (state_of rest old) target old.top.ledger [] (Makes (ListCell items)) ≡ next_of ending (state_of (record rest { made = noted (ListCell items) (length old.cells) rest.made }) new)) → IfOk r (λ ending. (code : Code) → Leads (λ s. primitive_step true s code target args (prim.List list.New)) ending old new)
 makes_list old new target args items (Ok ending) none empty h = λ code rest.
     let s = state_of rest old in (
       noted (ListCell items) (length old.cells) rest.made,
@@ -314,15 +313,15 @@ makes_list old new target args items (Ok ending) none empty h = λ code rest.
     )
 makes_list old new target args items (Err failed) none empty h = tt
 
-pub calls_quietly : {E : Type 0} (p : Primitive) (target : Option ℕ) (args : List CArg) (old new : State) (r : Result (Option Ending) E) → Calls p target args old new r → MayMake p target args old new r
+pub calls_quietly : {E : Type 0} (p : Primitive) (target : Option ℕ) (args : List CArg) (old new : Seen) (r : Result (Option Ending) E) → Calls p target args old new r → MayMake p target args old new r
 calls_quietly p target args old new (Ok ending) h = λ code rest. (rest.made, h code rest)
 calls_quietly p target args old new (Err failed) h = tt
 
 -- ---- a list that changes
 -- a cell is refilled, a word is answered, and references are given up
-pub changed : (rest : Rest) (old : State) (target : Option ℕ) (c : ℕ) (content : Content) (answer : Word) (l : Ledger) (up gone : List ℕ) (filled cells : Cells Content) (owner top : Frame) → filled ≡ refill content c old.cells → cells ≡ release refs_in filled up → owner ≡ record old.top { ledger = more_of (refs_of (contents.word_of answer)) l } → top ≡ with_target target answer owner → applied true (state_of rest old) target l gone (Changes c content (contents.word_of answer) up) ≡ Goes (state_of rest (record old { cells = cells; top = record top { place = top.place + 1 } }))
+pub changed : (rest : Rest) (old : Seen) (target : Option ℕ) (c : ℕ) (content : Content) (answer : Word) (l : Ledger) (up gone : List ℕ) (filled cells : Cells Content) (owner top : Frame) → filled ≡ refill content c old.cells → cells ≡ release refs_in filled up → owner ≡ record old.top { ledger = more_of (refs_of (contents.word_of answer)) l } → top ≡ with_target target answer owner → applied true (state_of rest old) target l gone (Changes c content (contents.word_of answer) up) ≡ Goes (state_of rest (record old { cells = cells; top = record top { place = top.place + 1 } }))
 changed rest old target c content answer l up gone filled cells owner top filled_is cells_is owner_is top_is =
-    let made : State = record old { cells = release refs_in (refill content c old.cells) up; top = record old.top { ledger = more_of (refs_of (contents.word_of answer)) l } } in
+    let made : Seen = record old { cells = release refs_in (refill content c old.cells) up; top = record old.top { ledger = more_of (refs_of (contents.word_of answer)) l } } in
     ap (λ t. Goes (next_line t)) (target_set rest made target answer)
     ∙ sym (ap (λ cs. Goes (state_of rest (record old { cells = cs; top = record top { place = top.place + 1 } }))) (cells_is ∙ ap (λ h. release refs_in h up) filled_is)
     ∙ ap (λ f. Goes (state_of rest (record made { top = record f { place = f.place + 1 } }))) (top_is ∙ ap (with_target target answer) owner_is))
@@ -335,7 +334,7 @@ lists cells c e = subst (λ o. IfSome o (λ content. is_list content ≡ true)) 
 pub never_dead : (cells : Cells Content) (c : ℕ) → HoldsList cells c → content_at cells c ≡ None → ⊥
 never_dead cells c e none = let both : Some (ListCell (items_at cells c)) ≡ None = sym e ∙ none in cc
 
-pub added : (rest : Rest) (old : State) (target : Option ℕ) (key : Key) (w : Word) (cells : Cells Content) (owner top : Frame) → HoldsList old.cells (number_of key) → cells ≡ refill_by (with_last (contents.word_of w)) (number_of key) old.cells → owner ≡ record old.top { ledger = left_by (contents.word_of w) old.top.ledger } → top ≡ with_target target heap.PyNone owner → item_added target key w (state_of rest old) ≡ Goes (state_of rest (record old { cells = cells; top = record top { place = top.place + 1 } }))
+pub added : (rest : Rest) (old : Seen) (target : Option ℕ) (key : Key) (w : Word) (cells : Cells Content) (owner top : Frame) → HoldsList old.cells (number_of key) → cells ≡ refill_by (with_last (contents.word_of w)) (number_of key) old.cells → owner ≡ record old.top { ledger = left_by (contents.word_of w) old.top.ledger } → top ≡ with_target target heap.PyNone owner → item_added target key w (state_of rest old) ≡ Goes (state_of rest (record old { cells = cells; top = record top { place = top.place + 1 } }))
 added rest old target key w cells owner top e cells_is owner_is top_is =
     let c = number_of key in
     let v = contents.word_of w in
@@ -348,7 +347,7 @@ some_item [] i lt e = omega (arith, lt)
 some_item (x ∷ xs) zero lt e = cc
 some_item (x ∷ xs) (suc i) lt e = some_item xs i (omega (arith, lt)) e
 
-written_over : (rest : Rest) (old : State) (target : Option ℕ) (key : Key) (place : ℕ) (w answer : Word) (stood : Option Word) (filled cells : Cells Content) (owner top : Frame) → place < length (items_at old.cells (number_of key)) → contents.word_of answer ≡ CharWord 1 → option_map contents.word_of stood ≡ slice_get (items_at old.cells (number_of key)) place → filled ≡ refill (ListCell (slice_set (items_at old.cells (number_of key)) place (contents.word_of w))) (number_of key) old.cells → cells ≡ release refs_in filled (set_refs (held_of stood ∷ [])) → owner ≡ record old.top { ledger = left_by (contents.word_of w) old.top.ledger } → top ≡ with_target target answer owner → item_put target key (Some place) w (state_of rest old) ≡ Goes (state_of rest (record old { cells = cells; top = record top { place = top.place + 1 } }))
+written_over : (rest : Rest) (old : Seen) (target : Option ℕ) (key : Key) (place : ℕ) (w answer : Word) (stood : Option Word) (filled cells : Cells Content) (owner top : Frame) → place < length (items_at old.cells (number_of key)) → contents.word_of answer ≡ CharWord 1 → option_map contents.word_of stood ≡ slice_get (items_at old.cells (number_of key)) place → filled ≡ refill (ListCell (slice_set (items_at old.cells (number_of key)) place (contents.word_of w))) (number_of key) old.cells → cells ≡ release refs_in filled (set_refs (held_of stood ∷ [])) → owner ≡ record old.top { ledger = left_by (contents.word_of w) old.top.ledger } → top ≡ with_target target answer owner → item_put target key (Some place) w (state_of rest old) ≡ Goes (state_of rest (record old { cells = cells; top = record top { place = top.place + 1 } }))
 written_over rest old target key place w answer None filled cells owner top within is_one stood_is filled_is cells_is owner_is top_is =
     absurd (some_item (items_at old.cells (number_of key)) place within (sym stood_is))
 written_over rest old target key place w answer (Some stood) filled cells owner top within is_one stood_is filled_is cells_is owner_is top_is =
@@ -363,7 +362,7 @@ written_over rest old target key place w answer (Some stood) filled cells owner 
     ∙ changed rest old target c (ListCell (slice_set items place v)) answer l (refs_of (contents.word_of stood)) (refs_of v) filled cells owner top
     filled_is (cells_is ∙ ap (release refs_in filled) (refs_alone (contents.word_of stood))) owned top_is
 
-pub item_written : (rest : Rest) (old : State) (target : Option ℕ) (key : Key) (place : ℕ) (w answer : Word) (stood : Option Word) (filled cells : Cells Content) (owner top : Frame) → HoldsList old.cells (number_of key) → place < length (items_at old.cells (number_of key)) → contents.word_of answer ≡ CharWord 1 → option_map contents.word_of stood ≡ word_at old.cells (number_of key) place → filled ≡ refill_by (with_word place (Some (contents.word_of w))) (number_of key) old.cells → cells ≡ release refs_in filled (set_refs (held_of stood ∷ [])) → owner ≡ record old.top { ledger = left_by (contents.word_of w) old.top.ledger } → top ≡ with_target target answer owner → item_put target key (Some place) w (state_of rest old) ≡ Goes (state_of rest (record old { cells = cells; top = record top { place = top.place + 1 } }))
+pub item_written : (rest : Rest) (old : Seen) (target : Option ℕ) (key : Key) (place : ℕ) (w answer : Word) (stood : Option Word) (filled cells : Cells Content) (owner top : Frame) → HoldsList old.cells (number_of key) → place < length (items_at old.cells (number_of key)) → contents.word_of answer ≡ CharWord 1 → option_map contents.word_of stood ≡ word_at old.cells (number_of key) place → filled ≡ refill_by (with_word place (Some (contents.word_of w))) (number_of key) old.cells → cells ≡ release refs_in filled (set_refs (held_of stood ∷ [])) → owner ≡ record old.top { ledger = left_by (contents.word_of w) old.top.ledger } → top ≡ with_target target answer owner → item_put target key (Some place) w (state_of rest old) ≡ Goes (state_of rest (record old { cells = cells; top = record top { place = top.place + 1 } }))
 item_written rest old target key place w answer stood filled cells owner top e within is_one stood_is filled_is cells_is owner_is top_is =
     let c = number_of key in
     written_over rest old target key place w answer stood filled cells owner top within is_one
@@ -372,7 +371,7 @@ item_written rest old target key place w answer stood filled cells owner top e w
     cells_is owner_is top_is
 
 -- a failure behind which a word is given up
-pub fails_released : {E : Type 0} (old : State) (target : Option ℕ) (w : Word) (v : machine.Word) (class : ExcClass) (text wanted : List ℕ) (cells : Cells Content) (top : Frame) (new : State) (r : Result (Option Ending) E) → top ≡ record old.top { ledger = left_by (contents.word_of w) old.top.ledger } → cells ≡ release refs_in old.cells (set_refs (held_of (Some w) ∷ [])) → text ≡ wanted → IfOk r (λ ending. Follows (λ s. applied true s target s.top.ledger [] (Fails v (thrown class text))) ending (record old { top = top; cells = cells }) new) → IfOk r (λ ending. Follows (λ s. applied true s target (left_by (contents.word_of w) s.top.ledger) (refs_of (contents.word_of w)) (Fails v (thrown class wanted))) ending old new)
+pub fails_released : {E : Type 0} (old : Seen) (target : Option ℕ) (w : Word) (v : machine.Word) (class : ExcClass) (text wanted : List ℕ) (cells : Cells Content) (top : Frame) (new : Seen) (r : Result (Option Ending) E) → top ≡ record old.top { ledger = left_by (contents.word_of w) old.top.ledger } → cells ≡ release refs_in old.cells (set_refs (held_of (Some w) ∷ [])) → text ≡ wanted → IfOk r (λ ending. Follows (λ s. applied true s target s.top.ledger [] (Fails v (thrown class text))) ending (record old { top = top; cells = cells }) new) → IfOk r (λ ending. Follows (λ s. applied true s target (left_by (contents.word_of w) s.top.ledger) (refs_of (contents.word_of w)) (Fails v (thrown class wanted))) ending old new)
 fails_released old target w v class text wanted cells top new (Ok ending) top_is cells_is text_is h = λ rest.
     let s = state_of rest old in
     let u = contents.word_of w in
@@ -402,7 +401,7 @@ no_last : (items : List machine.Word) → None ≡ slice_get items (last_place i
 no_last [] e = refl
 no_last (x ∷ items) e = absurd (some_item (x ∷ items) (last_place (x ∷ items)) (omega arith) (sym e))
 
-pub item_popped : (rest : Rest) (old : State) (target : Option ℕ) (key : Key) (w : Word) (cells : Cells Content) (owner top : Frame) → HoldsList old.cells (number_of key) → cells ≡ refill_by without_last (number_of key) old.cells → Some (contents.word_of w) ≡ last_at old.cells (number_of key) → owner ≡ record old.top { ledger = more_of (refs_of (contents.word_of w)) old.top.ledger } → top ≡ with_target target w owner → item_taken target key (state_of rest old) ≡ Goes (state_of rest (record old { cells = cells; top = record top { place = top.place + 1 } }))
+pub item_popped : (rest : Rest) (old : Seen) (target : Option ℕ) (key : Key) (w : Word) (cells : Cells Content) (owner top : Frame) → HoldsList old.cells (number_of key) → cells ≡ refill_by without_last (number_of key) old.cells → Some (contents.word_of w) ≡ last_at old.cells (number_of key) → owner ≡ record old.top { ledger = more_of (refs_of (contents.word_of w)) old.top.ledger } → top ≡ with_target target w owner → item_taken target key (state_of rest old) ≡ Goes (state_of rest (record old { cells = cells; top = record top { place = top.place + 1 } }))
 item_popped rest old target key w cells owner top e cells_is last_is owner_is top_is =
     let c = number_of key in
     let items = items_at old.cells c in
@@ -421,7 +420,7 @@ refill_same content zero (Some cell ∷ cells) e =
 refill_same content (suc c) (o ∷ cells) e = ap (λ rest. o ∷ rest) (refill_same content c cells e)
 
 -- from an empty list nothing is taken, and the call fails
-pub fails_empty : {E : Type 0} (old : State) (target : Option ℕ) (key : Key) (cells : Cells Content) (text : List ℕ) (new : State) (r : Result (Option Ending) E) → HoldsList old.cells (number_of key) → cells ≡ refill_by without_last (number_of key) old.cells → None ≡ last_at old.cells (number_of key) → text ≡ codes "pop from empty list" → IfOk r (λ ending. Follows (λ s. applied true s target s.top.ledger [] (Fails NoObject (thrown IndexError text))) ending (record old { cells = cells }) new) → IfOk r (λ ending. Follows (item_taken target key) ending old new)
+pub fails_empty : {E : Type 0} (old : Seen) (target : Option ℕ) (key : Key) (cells : Cells Content) (text : List ℕ) (new : Seen) (r : Result (Option Ending) E) → HoldsList old.cells (number_of key) → cells ≡ refill_by without_last (number_of key) old.cells → None ≡ last_at old.cells (number_of key) → text ≡ codes "pop from empty list" → IfOk r (λ ending. Follows (λ s. applied true s target s.top.ledger [] (Fails NoObject (thrown IndexError text))) ending (record old { cells = cells }) new) → IfOk r (λ ending. Follows (item_taken target key) ending old new)
 fails_empty old target key cells text new (Ok ending) e cells_is last_is text_is h = λ rest.
     let c = number_of key in
     let empty : items_at old.cells c ≡ [] = no_last (items_at old.cells c) (last_is ∙ ap (option_and_then last_in) e) in

@@ -26,9 +26,8 @@ use Rattle.c_core.proofs.ReleaseLemmas.{times-append}
 use Rattle.c_runner_deeds.specs.declared.ending.Ending.{Ending}
 use Rattle.c_runner_deeds.specs.declared.ending.Ending.TheVariants as outcome
 use Rattle.c_runner_deeds.specs.declared.state.Frame.{Frame}
-use Rattle.c_runner_deeds.specs.declared.state.State.{State}
 use Rattle.c_runner_deeds.specs.Parts.{if_argument, is_there, argument_of, is_owned, left_by}
-use Rattle.c_runner_deeds.specs.States.{Rest, Follows, IsSmall, state_of, next_of}
+use Rattle.c_runner_deeds.specs.States.{Seen, Rest, Follows, IsSmall, state_of, next_of}
 use Rattle.c_runner_objects.specs.Tuples.{pack_parameters, arguments_of, AreObjects, lost_all, AreOwned, all_stolen_or}
 use Rattle.slot_arena.specs.declared.key.Key.{Key}
 use Rattle.cell_heap.specs.declared.word.Word.{Word}
@@ -145,7 +144,7 @@ lost_few [] l x = omega arith
 lost_few (w ∷ ws) l x = omega (arith, lost_few ws (left_by w l) x, left_few w l x)
 
 -- a state stays small where words leave its ledger
-pub small_without : (old : State) (ws : List machine.Word) (top : Frame) → IsSmall old → top ≡ record old.top { ledger = lost_all ws old.top.ledger } → IsSmall (record old { top = top })
+pub small_without : (old : Seen) (ws : List machine.Word) (top : Frame) → IsSmall old → top ≡ record old.top { ledger = lost_all ws old.top.ledger } → IsSmall (record old { top = top })
 small_without old ws top small is = record {
   made = small.made;
   counts = small.counts;
@@ -154,7 +153,7 @@ small_without old ws top small is = record {
       omega (arith, small.ledgers c, kept, lost_few ws old.top.ledger c);
 }
 
-pub place_kept : (old : State) (ws : List machine.Word) (top : Frame) (n : ℕ) → top ≡ record old.top { ledger = lost_all ws old.top.ledger } → old.top.place + 1 < n → top.place + 1 < n
+pub place_kept : (old : Seen) (ws : List machine.Word) (top : Frame) (n : ℕ) → top ≡ record old.top { ledger = lost_all ws old.top.ledger } → old.top.place + 1 < n → top.place + 1 < n
 place_kept old ws top n is lt = let same_place : top.place ≡ old.top.place = ap (λ f. f.place) is in omega (arith, lt, same_place)
 
 -- ---- the parameters
@@ -291,14 +290,14 @@ abbrev pub packed_by : Option ℕ → MachineState → List Argument → Ledger 
 packed_by target s all l =
     applied true s target l (stolen pack_parameters all) (of_words (λ ws. Makes (TupleCell ws)) (words_in all))
 
-abbrev pub StolenAs : State → List CArg → Result (List Word) Fault → Type 0
+abbrev pub StolenAs : Seen → List CArg → Result (List Word) Fault → Type 0
 StolenAs old args r =
     (rest : Rest) (code : Code) (go : List Argument → Ledger → Next) → if_arguments true (state_of rest old) code pack_parameters args [] old.top.ledger go ≡ all_stolen_or r (state_of rest old) go
 
-pub none_stolen : (old : State) (code : Code) (target : Option ℕ) (args : List CArg) (why : Fault) → StolenAs old args (Err why) → Follows (λ s. primitive_step true s code target args (prim.Tuple tuple.Pack)) (Some (outcome.Fault why)) old old
+pub none_stolen : (old : Seen) (code : Code) (target : Option ℕ) (args : List CArg) (why : Fault) → StolenAs old args (Err why) → Follows (λ s. primitive_step true s code target args (prim.Tuple tuple.Pack)) (Some (outcome.Fault why)) old old
 none_stolen old code target args why found = λ rest. found rest code (packed_by target (state_of rest old))
 
-pub tuple_packed : {E : Type 0} (old new : State) (target : Option ℕ) (args : List CArg) (words : List Word) (top : Frame) (r : Result (Option Ending) E) → StolenAs old args (Ok words) → AreObjects old.cells (map contents.word_of words) → top ≡ record old.top { ledger = lost_all (map contents.word_of words) old.top.ledger } → IfOk r (λ ending. (rest : Rest) → applied true (state_of rest (record old { top = top })) target top.ledger [] (Makes (TupleCell (map contents.word_of words))) ≡ next_of ending (state_of rest new)) → IfOk r (λ ending. (code : Code) → Follows (λ s. primitive_step true s code target args (prim.Tuple tuple.Pack)) ending old new)
+pub tuple_packed : {E : Type 0} (old new : Seen) (target : Option ℕ) (args : List CArg) (words : List Word) (top : Frame) (r : Result (Option Ending) E) → StolenAs old args (Ok words) → AreObjects old.cells (map contents.word_of words) → top ≡ record old.top { ledger = lost_all (map contents.word_of words) old.top.ledger } → IfOk r (λ ending. (rest : Rest) → applied true (state_of rest (record old { top = top })) target top.ledger [] (Makes (TupleCell (map contents.word_of words))) ≡ next_of ending (state_of rest new)) → IfOk r (λ ending. (code : Code) → Follows (λ s. primitive_step true s code target args (prim.Tuple tuple.Pack)) ending old new)
 tuple_packed old new target args words top (Ok ending) found objects top_is made = λ code rest.
     let s = state_of rest old in
     let ws = map contents.word_of words in

@@ -13,6 +13,7 @@ use Rattle.c_core.specs.Machine.{Word, Content, InstCell, Frame, MachineState}
 use Rattle.c_core.specs.Step.{Next, Ends, Faulted, Effect, Shares, Fails, applied, kind_of, slot_set, undefined}
 use Rattle.c_runner_objects.specs.declared.instances.AttributeWrite.{AttributeWrite}
 use Rattle.c_runner_deeds.specs.Deeds.{then_tried, instance_and_place}
+use Rattle.c_runner_deeds.specs.Ours.{maybe_refs}
 use Rattle.c_runner_deeds.specs.Parts.{left_by}
 use Rattle.slot_arena.specs.declared.key.Key.{Key}
 use Rattle.cell_heap.specs.declared.word.Word as heap
@@ -40,6 +41,11 @@ abbrev pub held_read : CClass → List ℕ × Kind → Option (Option Word) → 
 held_read k a None = Err fault.Kind
 held_read k a (Some None) = Ok (Fails (error_word a.1) (undefined a.0 k.name))
 held_read k a (Some (Some w)) = Ok (Shares w)
+
+-- the names in what is read
+abbrev pub held_refs : Option (Option heap.Word) → List ℕ
+held_refs None = []
+held_refs (Some o) = maybe_refs o
 
 -- a slot, if there is one, is read of an instance with these attributes
 abbrev pub slot_read : Code → Frame → Option ℕ → List (Option Word) → Option (ℕ × (CClass × (List ℕ × Kind))) → Result Effect Fault

@@ -12,8 +12,12 @@ ghost use Rattle.c_core.specs.Step.{Next, if_arguments, primitive_step};
 ghost use Rattle.c_runner_objects.specs.Dicts.{HoldsDict, HoldsKey, HoldsEntry, pairs_at, entry_parameters, taken_or, both_taken_or, entry_put, entry_written, entry_taken};
 ghost use Rattle.c_runner_deeds.specs.Deeds.{Calls, MayMake};
 ghost use Rattle.c_runner_deeds.specs.Parts.{argument_of, is_owned, left_by, stolen_or};
-ghost use Rattle.c_runner_deeds.specs.States.{Rest, Follows, IsSmall, state_of};
+ghost use Rattle.c_runner_deeds.specs.States.{Rest, Follows, IsSmall, state_of, seen};
 ghost use Rattle.cell_heap.specs.Contents.{number_of, word_of};
+ghost use Rattle.cell_heap.specs.Numbered.{numbered};
+ghost use Rattle.cell_heap.specs.Contents.{name_of};
+ghost use Rattle.cell_heap.specs.Ours.{IsOurs};
+ghost use Rattle.c_runner_deeds.specs.Ours.{IsOurWord};
 
 use crate::entries::dict_deed;
 use crate::keys::{dict_key, is_key, key_place, key_text};
@@ -43,9 +47,9 @@ pub fn call_dict(
     target: Option<usize>,
     args: &[CArg],
 ) -> Result<Option<Ending>, Memory>
-    requires small { IsSmall state.old }
+    requires small { IsSmall (seen state.old) }
     requires place { state.old.top.place + 1 < 2 ^ 64 }
-    ensures { MayMake (prim.Dict operation) target args.now state.old state.new result }
+    ensures { MayMake (prim.Dict operation) target args.now (seen state.old) (seen state.new) result }
 {
     match operation {
         DictPrim::New => new_dict(state, alloc, target, args),
@@ -65,9 +69,9 @@ fn new_dict(
     target: Option<usize>,
     args: &[CArg],
 ) -> Result<Option<Ending>, Memory>
-    requires small { IsSmall state.old }
+    requires small { IsSmall (seen state.old) }
     requires place { state.old.top.place + 1 < 2 ^ 64 }
-    ensures { MayMake (prim.Dict dict_prim.New) target args.now state.old state.new result }
+    ensures { MayMake (prim.Dict dict_prim.New) target args.now (seen state.old) (seen state.new) result }
 {
     if args.is_empty() {
         let dict = Pairs::new(alloc)?;
@@ -85,7 +89,7 @@ fn set_entry(
     args: &[CArg],
 ) -> Result<Option<Ending>, Memory>
     requires { state.old.top.place + 1 < 2 ^ 64 }
-    ensures { Calls (prim.Dict dict_prim.SetItem) target args.now state.old state.new result }
+    ensures { Calls (prim.Dict dict_prim.SetItem) target args.now (seen state.old) (seen state.new) result }
 {
     match entry_write(state, args) {
         Err(fault) => Ok(Some(Ending::Fault(fault))),
@@ -100,11 +104,14 @@ fn set_entry(
 /// the dict.
 fn entry_write(state: &State, args: &[CArg]) -> Result<EntryWrite, Fault>
     ensures found { (rest : Rest) (code : machine_code.Code) (target : Option ℕ) →
-        (let s = state_of rest state.now in
+        (let s = state_of rest (seen state.now) in
         primitive_step true s code target args.now (prim.Dict dict_prim.SetItem) ≡ entry_written target result s) }
-    ensures dict { IfOk result (λ found. HoldsDict state.now.cells (number_of found.dict)) }
+    ensures dict { IfOk result (λ found. HoldsDict (numbered state.now.cells) (number_of found.dict)) }
     ensures within { IfOk result (λ found. IfSome found.place
-        (λ place. place < length (pairs_at state.now.cells (number_of found.dict)))) }
+        (λ place. place < length (pairs_at (numbered state.now.cells) (number_of found.dict)))) }
+    ensures ours { IfOk result (λ found. IsOurs state.now.cells (name_of found.dict)) }
+    ensures key { IfOk result (λ found. IsOurWord state.now.cells found.key) }
+    ensures word { IfOk result (λ found. IsOurWord state.now.cells found.word) }
 {
     let dict = match state.dict_argument(args.first()) {
         Err(fault) => return Err(fault),
@@ -124,9 +131,11 @@ fn entry_write(state: &State, args: &[CArg]) -> Result<EntryWrite, Fault>
 /// The key and the word that the second argument and the third and last one give away.
 fn stolen_entry(state: &State, args: &[CArg]) -> Result<(Word, Word), Fault>
     ensures stolen { (rest : Rest) (code : machine_code.Code) (earlier : List Argument) (go : List Argument → Ledger → Next) →
-        (let s = state_of rest state.now in
+        (let s = state_of rest (seen state.now) in
         if_arguments true s code entry_parameters (drop 1 args.now) earlier s.top.ledger go ≡ both_taken_or result s go) }
-    ensures entry { IfOk result (λ found. HoldsEntry state.now.cells (word_of found.0) (word_of found.1)) }
+    ensures entry { IfOk result (λ found. HoldsEntry (numbered state.now.cells) (word_of found.0) (word_of found.1)) }
+    ensures key { IfOk result (λ found. IsOurWord state.now.cells found.0) }
+    ensures word { IfOk result (λ found. IsOurWord state.now.cells found.1) }
 {
     let Some(first) = args.get(1) else {
         return Err(Fault::Kind);
@@ -151,12 +160,13 @@ fn stolen_entry(state: &State, args: &[CArg]) -> Result<(Word, Word), Fault>
 /// The key of a dict that an argument gives away. The frame is to own its reference.
 fn stolen_key(state: &State, argument: &CArg) -> Result<Word, Fault>
     ensures stolen { (rest : Rest) (code : machine_code.Code) (earlier : List Argument) (go : Argument → Ledger → Next) →
-        (let s = state_of rest state.now in
+        (let s = state_of rest (seen state.now) in
         machine_step.if_argument true s code (Steals (Is Object) AKey) argument.now earlier s.top.ledger go
         ≡ stolen_or result s go) }
-    ensures word { IfOk result (λ word. word_in Object (argument_of state.now.cells (word_of word)) ≡ Some (word_of word)) }
-    ensures key { IfOk result (λ word. HoldsKey state.now.cells (word_of word)) }
+    ensures word { IfOk result (λ word. word_in Object (argument_of (numbered state.now.cells) (word_of word)) ≡ Some (word_of word)) }
+    ensures key { IfOk result (λ word. HoldsKey (numbered state.now.cells) (word_of word)) }
     ensures owned { IfOk result (λ word. is_owned (word_of word) state.now.top.ledger ≡ true) }
+    ensures ours { IfOk result (IsOurWord state.now.cells) }
 {
     let word = state.passed(Kind::Object, argument)?;
     if !is_key(state, word) {
@@ -172,10 +182,11 @@ fn stolen_key(state: &State, argument: &CArg) -> Result<Word, Fault>
 fn stolen_behind(state: &State, earlier: Word, argument: &CArg) -> Result<Word, Fault>
     requires { is_owned (word_of earlier) state.now.top.ledger ≡ true }
     ensures stolen { (rest : Rest) (code : machine_code.Code) (before : List Argument) (go : Argument → Ledger → Next) →
-        (let s = state_of rest state.now in
+        (let s = state_of rest (seen state.now) in
         machine_step.if_argument true s code (Steals (Is Object) Anything) argument.now before (left_by (word_of earlier) s.top.ledger) go
         ≡ taken_or result (left_by (word_of earlier) s.top.ledger) s go) }
-    ensures word { IfOk result (λ word. word_in Object (argument_of state.now.cells (word_of word)) ≡ Some (word_of word)) }
+    ensures word { IfOk result (λ word. word_in Object (argument_of (numbered state.now.cells) (word_of word)) ≡ Some (word_of word)) }
+    ensures ours { IfOk result (IsOurWord state.now.cells) }
 {
     let word = state.passed(Kind::Object, argument)?;
     if !owns_beside(&state.top, &[earlier], word) {
@@ -193,8 +204,11 @@ fn add_entry(
     word: Word,
 ) -> Result<Option<Ending>, Memory>
     requires place { state.old.top.place + 1 < 2 ^ 64 }
-    requires dict { HoldsDict state.old.cells (number_of dict) }
-    ensures { IfOk result (λ ending. Follows (entry_put target dict None key word) ending state.old state.new) }
+    requires dict { HoldsDict (numbered state.old.cells) (number_of dict) }
+    requires ours { IsOurs state.old.cells (name_of dict) }
+    requires key { IsOurWord state.old.cells key }
+    requires word { IsOurWord state.old.cells word }
+    ensures { IfOk result (λ ending. Follows (entry_put target dict None key word) ending (seen state.old) (seen state.new)) }
 {
     match state.cells.dict_push(dict, (key, word)) {
         Err(HeapError::Memory) => Err(Memory),
@@ -221,9 +235,12 @@ fn put_value(
     word: Word,
 ) -> Option<Ending>
     requires place { state.old.top.place + 1 < 2 ^ 64 }
-    requires dict { HoldsDict state.old.cells (number_of dict) }
-    requires within { place < length (pairs_at state.old.cells (number_of dict)) }
-    ensures { Follows (entry_put target dict (Some place) key word) result state.old state.new }
+    requires dict { HoldsDict (numbered state.old.cells) (number_of dict) }
+    requires within { place < length (pairs_at (numbered state.old.cells) (number_of dict)) }
+    requires ours { IsOurs state.old.cells (name_of dict) }
+    requires key { IsOurWord state.old.cells key }
+    requires word { IsOurWord state.old.cells word }
+    ensures { Follows (entry_put target dict (Some place) key word) result (seen state.old) (seen state.new) }
 {
     match state.cells.set_word(dict, place, Some(word)) {
         // The cell is there, as was tested first.
@@ -247,9 +264,9 @@ fn delete_entry(
     target: Option<usize>,
     args: &[CArg],
 ) -> Result<Option<Ending>, Memory>
-    requires small { IsSmall state.old }
+    requires small { IsSmall (seen state.old) }
     requires place { state.old.top.place + 1 < 2 ^ 64 }
-    ensures { Calls (prim.Dict dict_prim.DelItem) target args.now state.old state.new result }
+    ensures { Calls (prim.Dict dict_prim.DelItem) target args.now (seen state.old) (seen state.new) result }
 {
     match dict_key(state, args) {
         Err(fault) => Ok(Some(Ending::Fault(fault))),
@@ -266,9 +283,10 @@ fn delete_entry(
 /// Takes the pair at a place out of the dict that a cell holds, and gives up what it held.
 fn take_entry(state: &mut State, target: Option<usize>, dict: Key, place: usize) -> Option<Ending>
     requires place { state.old.top.place + 1 < 2 ^ 64 }
-    requires dict { HoldsDict state.old.cells (number_of dict) }
-    requires within { place < length (pairs_at state.old.cells (number_of dict)) }
-    ensures { Follows (entry_taken target dict place) result state.old state.new }
+    requires dict { HoldsDict (numbered state.old.cells) (number_of dict) }
+    requires within { place < length (pairs_at (numbered state.old.cells) (number_of dict)) }
+    requires ours { IsOurs state.old.cells (name_of dict) }
+    ensures { Follows (entry_taken target dict place) result (seen state.old) (seen state.new) }
 {
     match state.cells.dict_take(dict, place) {
         // The cell is there, as was tested first, and the place too.

@@ -4,6 +4,12 @@ ghost use Rattle.c_core.specs.Step as machine_step;
 ghost use Rattle.c_core.specs.Step.{Shares, of_pair};
 ghost use Rattle.c_runner_deeds.specs.Deeds.{effect_of, done_by, dict_done, dict_item_done, dict_contains_done, dict_size_done, dict_key_done, dict_length_done};
 ghost use Rattle.cell_heap.specs.Contents.{word_of, pair_of};
+ghost use Rattle.cell_heap.specs.Numbered.{numbered};
+ghost use Rattle.cell_heap.specs.Ours.{AreOurs};
+ghost use Rattle.cell_heap.specs.Contents.{pairs_refs};
+ghost use Rattle.c_runner_deeds.specs.Deeds.{IsOurDeed};
+ghost use Rattle.c_core.specs.Cells.{Cells};
+ghost use Rattle.cell_heap.specs.Placed.{Placed};
 
 use crate::keys::{dict_key, key_place, key_text};
 use c_core::{CArg, DictPrim, Fault};
@@ -19,8 +25,9 @@ pub(crate) fn dict_deed(
     operation: DictPrim,
     args: &[CArg],
 ) -> Result<Result<Deed, Fault>, Memory>
-    ensures { IfOk result (λ deed. done_by deed
-        ≡ dict_done operation state.now.cells (map word_of state.now.top.vars) args.now) }
+    ensures done { IfOk result (λ deed. done_by deed
+        ≡ dict_done operation (numbered state.now.cells) (map word_of state.now.top.vars) args.now) }
+    ensures ours { IfOk result (λ deed. IfOk deed (IsOurDeed state.now.cells)) }
 {
     match operation {
         DictPrim::GetItem => dict_item_deed(state, alloc, args),
@@ -38,8 +45,9 @@ fn dict_item_deed(
     alloc: Global,
     args: &[CArg],
 ) -> Result<Result<Deed, Fault>, Memory>
-    ensures { IfOk result (λ deed. done_by deed
-        ≡ dict_item_done state.now.cells (map word_of state.now.top.vars) args.now) }
+    ensures done { IfOk result (λ deed. done_by deed
+        ≡ dict_item_done (numbered state.now.cells) (map word_of state.now.top.vars) args.now) }
+    ensures ours { IfOk result (λ deed. IfOk deed (IsOurDeed state.now.cells)) }
 {
     match state.dict_and_key(args) {
         Err(fault) => Ok(Err(fault)),
@@ -55,7 +63,8 @@ fn dict_item_deed(
 
 /// Answers whether a dict has a key.
 fn dict_contains_deed(state: &State, args: &[CArg]) -> Result<Deed, Fault>
-    ensures { done_by result ≡ dict_contains_done state.now.cells (map word_of state.now.top.vars) args.now }
+    ensures done { done_by result ≡ dict_contains_done (numbered state.now.cells) (map word_of state.now.top.vars) args.now }
+    ensures ours { IfOk result (IsOurDeed state.now.cells) }
 {
     match dict_key(state, args) {
         Err(fault) => Err(fault),
@@ -69,8 +78,9 @@ fn dict_size_deed(
     alloc: Global,
     args: &[CArg],
 ) -> Result<Result<Deed, Fault>, Memory>
-    ensures { IfOk result (λ deed. done_by deed
-        ≡ dict_size_done state.now.cells (map word_of state.now.top.vars) args.now) }
+    ensures done { IfOk result (λ deed. done_by deed
+        ≡ dict_size_done (numbered state.now.cells) (map word_of state.now.top.vars) args.now) }
+    ensures ours { IfOk result (λ deed. IfOk deed (IsOurDeed state.now.cells)) }
 {
     match state.dict_and_int(args) {
         Err(fault) => Ok(Err(fault)),
@@ -80,7 +90,8 @@ fn dict_size_deed(
 
 /// Answers the key at a place of a dict.
 fn dict_key_deed(state: &State, args: &[CArg]) -> Result<Deed, Fault>
-    ensures { done_by result ≡ dict_key_done state.now.cells (map word_of state.now.top.vars) args.now }
+    ensures done { done_by result ≡ dict_key_done (numbered state.now.cells) (map word_of state.now.top.vars) args.now }
+    ensures ours { IfOk result (IsOurDeed state.now.cells) }
 {
     match state.dict_and_int(args) {
         Err(fault) => Err(fault),
@@ -90,7 +101,8 @@ fn dict_key_deed(state: &State, args: &[CArg]) -> Result<Deed, Fault>
 
 /// Answers how many pairs a dict has.
 fn dict_length_deed(state: &State, args: &[CArg]) -> Result<Deed, Fault>
-    ensures { done_by result ≡ dict_length_done state.now.cells (map word_of state.now.top.vars) args.now }
+    ensures done { done_by result ≡ dict_length_done (numbered state.now.cells) (map word_of state.now.top.vars) args.now }
+    ensures ours { IfOk result (IsOurDeed state.now.cells) }
 {
     match state.one_dict(args) {
         Err(fault) => Err(fault),
@@ -100,7 +112,8 @@ fn dict_length_deed(state: &State, args: &[CArg]) -> Result<Deed, Fault>
 
 /// Answers the value of the pair at a place, where there is one.
 fn value(pairs: &[(Word, Word)], place: usize) -> Deed
-    ensures { effect_of result ≡ of_pair (λ p. Shares p.1) (slice_get (map pair_of pairs.now) place) }
+    ensures done { effect_of result ≡ of_pair (λ p. Shares p.1) (slice_get (map pair_of pairs.now) place) }
+    ensures ours { (cells : Cells Placed) → AreOurs cells (pairs_refs pairs.now) → IsOurDeed cells result }
 {
     match pairs.get(place) {
         Some(pair) => Deed::Shares(pair.1),
@@ -110,7 +123,8 @@ fn value(pairs: &[(Word, Word)], place: usize) -> Deed
 
 /// Answers the key of the pair at a place, where there is one.
 fn key_at(pairs: &[(Word, Word)], place: i128) -> Deed
-    ensures { effect_of result ≡ machine_step.key_at (map pair_of pairs.now) place }
+    ensures done { effect_of result ≡ machine_step.key_at (map pair_of pairs.now) place }
+    ensures ours { (cells : Cells Placed) → AreOurs cells (pairs_refs pairs.now) → IsOurDeed cells result }
 {
     match usize::try_from(place) {
         Ok(place) => key(pairs, place),
@@ -119,7 +133,8 @@ fn key_at(pairs: &[(Word, Word)], place: i128) -> Deed
 }
 
 fn key(pairs: &[(Word, Word)], place: usize) -> Deed
-    ensures { effect_of result ≡ of_pair (λ p. Shares p.0) (slice_get (map pair_of pairs.now) place) }
+    ensures done { effect_of result ≡ of_pair (λ p. Shares p.0) (slice_get (map pair_of pairs.now) place) }
+    ensures ours { (cells : Cells Placed) → AreOurs cells (pairs_refs pairs.now) → IsOurDeed cells result }
 {
     match pairs.get(place) {
         Some(pair) => Deed::Shares(pair.0),
@@ -129,7 +144,8 @@ fn key(pairs: &[(Word, Word)], place: usize) -> Deed
 
 /// Answers 1 where a dict has as many pairs as it had, and fails where it has not.
 fn sized(alloc: Global, is_same: bool) -> Result<Deed, Memory>
-    ensures { IfOk result (λ deed. effect_of deed ≡ machine_step.sized is_same) }
+    ensures done { IfOk result (λ deed. effect_of deed ≡ machine_step.sized is_same) }
+    ensures ours { IfOk result (λ deed. (cells : Cells Placed) → IsOurDeed cells deed) }
 {
     if is_same {
         Ok(Deed::Says(Word::Char(1)))

@@ -9,12 +9,21 @@ ghost use Rattle.c_core.specs.Step.{primitive_step};
 ghost use Rattle.c_runner_deeds.specs.Deeds.{done_by};
 ghost use Rattle.c_runner_objects.specs.Instances as spec;
 ghost use Rattle.c_runner_objects.specs.Instances.{HoldsInstance, attributes_at, takes_kind, held_read, attribute_done, attribute_put, attribute_written};
-ghost use Rattle.c_runner_deeds.specs.States.{Rest, Follows, Leads, IsSmall, frame_of, held_of, state_of};
+ghost use Rattle.c_runner_deeds.specs.States.{Rest, Follows, Leads, IsSmall, frame_of, held_of, state_of, seen};
 ghost use Rattle.c_runner_deeds.specs.Parts.{class_of};
 ghost use Rattle.cell_heap.specs.Contents.{number_of, word_of};
+ghost use Rattle.cell_heap.specs.Numbered.{numbered};
+ghost use Rattle.cell_heap.specs.Contents.{name_of};
+ghost use Rattle.cell_heap.specs.Ours.{IsOurs, AreOurs};
+ghost use Rattle.c_runner_deeds.specs.Ours.{IsOurWord};
+ghost use Rattle.c_runner_objects.specs.Instances.{held_refs};
+ghost use Rattle.c_runner_deeds.specs.Deeds.{IsOurDeed};
+ghost use Rattle.c_core.specs.Cells.{Cells};
+ghost use Rattle.cell_heap.specs.Placed.{Placed};
 
+use crate::items::lent;
 use c_core::{AttrPrim, CArg, CClass, Code, Fault, InstancePrim, Kind};
-use c_runner_deeds::{Deed, Ending, State, error_of, give_word, lent, unset, written_number};
+use c_runner_deeds::{Deed, Ending, State, error_of, give_word, unset, written_number};
 use cell_heap::{Content, Dead, Key, Word};
 use std::alloc::Global;
 use value_core::{ExcClass, Memory, Name, Text};
@@ -37,11 +46,11 @@ pub fn call_instance(
     target: Option<usize>,
     args: &[CArg],
 ) -> Result<Option<Ending>, Memory>
-    requires small { IsSmall state.old }
+    requires small { IsSmall (seen state.old) }
     requires place { state.old.top.place + 1 < 2 ^ 64 }
     requires class { class ≡ class_of code.now args.now }
     ensures { IfOk result (λ ending. Leads
-        (λ s. primitive_step true s code.now target args.now (prim.Instance operation)) ending state.old state.new) }
+        (λ s. primitive_step true s code.now target args.now (prim.Instance operation)) ending (seen state.old) (seen state.new)) }
 {
     match operation {
         InstancePrim::New => new_instance(state, alloc, code, class, target, args),
@@ -57,11 +66,11 @@ fn new_instance(
     target: Option<usize>,
     args: &[CArg],
 ) -> Result<Option<Ending>, Memory>
-    requires small { IsSmall state.old }
+    requires small { IsSmall (seen state.old) }
     requires place { state.old.top.place + 1 < 2 ^ 64 }
     requires class { class ≡ class_of code.now args.now }
     ensures { IfOk result (λ ending. Leads
-        (λ s. primitive_step true s code.now target args.now (prim.Instance instance_prim.New)) ending state.old state.new) }
+        (λ s. primitive_step true s code.now target args.now (prim.Instance instance_prim.New)) ending (seen state.old) (seen state.new)) }
 {
     if args.len() != 1 {
         return Ok(Some(Ending::Fault(Fault::Kind)));
@@ -85,10 +94,10 @@ pub fn call_attribute(
     target: Option<usize>,
     args: &[CArg],
 ) -> Result<Option<Ending>, Memory>
-    requires small { IsSmall state.old }
+    requires small { IsSmall (seen state.old) }
     requires place { state.old.top.place + 1 < 2 ^ 64 }
     ensures { IfOk result (λ ending. Follows
-        (λ s. primitive_step true s code.now target args.now (prim.Attr operation)) ending state.old state.new) }
+        (λ s. primitive_step true s code.now target args.now (prim.Attr operation)) ending (seen state.old) (seen state.new)) }
 {
     match operation {
         AttrPrim::Get => {
@@ -111,8 +120,9 @@ fn attribute_deed(
     target: Option<usize>,
     args: &[CArg],
 ) -> Result<Result<Deed, Fault>, Memory>
-    ensures { IfOk result (λ deed. done_by deed
-        ≡ attribute_done code.now (frame_of state.now.top) target state.now.cells (map word_of state.now.top.vars) args.now) }
+    ensures done { IfOk result (λ deed. done_by deed
+        ≡ attribute_done code.now (frame_of state.now.top) target (numbered state.now.cells) (map word_of state.now.top.vars) args.now) }
+    ensures ours { IfOk result (λ deed. IfOk deed (IsOurDeed state.now.cells)) }
 {
     let found = match state.instance_and_place(args) {
         Err(fault) => return Ok(Err(fault)),
@@ -145,7 +155,7 @@ fn set_attribute(
     args: &[CArg],
 ) -> Option<Ending>
     requires { state.old.top.place + 1 < 2 ^ 64 }
-    ensures { Follows (λ s. primitive_step true s code.now target args.now (prim.Attr attr_prim.Set)) result state.old state.new }
+    ensures { Follows (λ s. primitive_step true s code.now target args.now (prim.Attr attr_prim.Set)) result (seen state.old) (seen state.new) }
 {
     match attribute_write(state, code, args) {
         Err(fault) => Some(Ending::Fault(fault)),
@@ -157,10 +167,12 @@ fn set_attribute(
 /// third and last one gives away.
 fn attribute_write(state: &State, code: &Code, args: &[CArg]) -> Result<AttributeWrite, Fault>
     ensures found { (rest : Rest) (target : Option ℕ) →
-        (let s = state_of rest state.now in
+        (let s = state_of rest (seen state.now) in
         primitive_step true s code.now target args.now (prim.Attr attr_prim.Set) ≡ attribute_written target result s) }
-    ensures instance { IfOk result (λ found. HoldsInstance state.now.cells (number_of found.key)) }
-    ensures within { IfOk result (λ found. found.place < length (attributes_at state.now.cells (number_of found.key))) }
+    ensures instance { IfOk result (λ found. HoldsInstance (numbered state.now.cells) (number_of found.key)) }
+    ensures within { IfOk result (λ found. found.place < length (attributes_at (numbered state.now.cells) (number_of found.key))) }
+    ensures ours { IfOk result (λ found. IsOurs state.now.cells (name_of found.key)) }
+    ensures word { IfOk result (λ found. IsOurWord state.now.cells found.word) }
 {
     let found = match state.instance_argument(args.first()) {
         Err(fault) => return Err(fault),
@@ -202,9 +214,11 @@ fn put_attribute(
     word: Word,
 ) -> Option<Ending>
     requires place { state.old.top.place + 1 < 2 ^ 64 }
-    requires instance { HoldsInstance state.old.cells (number_of key) }
-    requires within { place < length (attributes_at state.old.cells (number_of key)) }
-    ensures { Follows (attribute_put target key place word) result state.old state.new }
+    requires instance { HoldsInstance (numbered state.old.cells) (number_of key) }
+    requires within { place < length (attributes_at (numbered state.old.cells) (number_of key)) }
+    requires ours { IsOurs state.old.cells (name_of key) }
+    requires word { IsOurWord state.old.cells word }
+    ensures { Follows (attribute_put target key place word) result (seen state.old) (seen state.new) }
 {
     match state.cells.set_word(key, place, Some(word)) {
         // The cell is there, as was tested first.
@@ -253,7 +267,8 @@ fn read(
     slot: &(Name, Kind),
     held: Option<&Option<Word>>,
 ) -> Result<Result<Deed, Fault>, Memory>
-    ensures { IfOk result (λ deed. done_by deed ≡ held_read class.now slot.now (option_map held_of (option_copied held.entry))) }
+    ensures done { IfOk result (λ deed. done_by deed ≡ held_read class.now slot.now (option_map held_of (option_copied held.entry))) }
+    ensures ours { (cells : Cells Placed) → AreOurs cells (held_refs (option_copied held.entry)) → IfOk result (λ deed. IfOk deed (IsOurDeed cells)) }
 {
     let Some(held) = held else {
         return Ok(Err(Fault::Kind));

@@ -1,12 +1,19 @@
 //! What the primitives do that read a list or a tuple.
 ghost use Rattle.std.specs.Prelude.{◌≡◌, length, map, slice_get, IfOk};
 ghost use Rattle.value_core.specs.Characters as characters;
+ghost use Rattle.c_core.specs.Step as machine_step;
 ghost use Rattle.c_core.specs.Step.{Shares, of_word, item_at, part_at};
-ghost use Rattle.c_runner_deeds.specs.Deeds.{effect_of, done_by, list_done, list_item_done, list_length_done, tuple_done, tuple_item_done, tuple_length_done};
+ghost use Rattle.c_runner_deeds.specs.Deeds.{effect_of, done_by, lent_done, list_done, list_item_done, list_length_done, tuple_done, tuple_item_done, tuple_length_done};
 ghost use Rattle.cell_heap.specs.Contents.{word_of};
+ghost use Rattle.cell_heap.specs.Numbered.{numbered};
+ghost use Rattle.cell_heap.specs.Ours.{AreOurs};
+ghost use Rattle.cell_heap.specs.Contents.{words_refs};
+ghost use Rattle.c_runner_deeds.specs.Deeds.{IsOurDeed};
+ghost use Rattle.c_core.specs.Cells.{Cells};
+ghost use Rattle.cell_heap.specs.Placed.{Placed};
 
 use c_core::{CArg, Fault, ListPrim, TuplePrim};
-use c_runner_deeds::{Deed, State, int_deed, lent};
+use c_runner_deeds::{Deed, State, int_deed};
 use cell_heap::Word;
 use std::alloc::Global;
 use value_core::{ExcClass, Memory, Text, place_of};
@@ -18,8 +25,9 @@ pub(crate) fn list_deed(
     operation: ListPrim,
     args: &[CArg],
 ) -> Result<Result<Deed, Fault>, Memory>
-    ensures { IfOk result (λ deed. done_by deed
-        ≡ list_done operation state.now.cells (map word_of state.now.top.vars) args.now) }
+    ensures done { IfOk result (λ deed. done_by deed
+        ≡ list_done operation (numbered state.now.cells) (map word_of state.now.top.vars) args.now) }
+    ensures ours { IfOk result (λ deed. IfOk deed (IsOurDeed state.now.cells)) }
 {
     match operation {
         ListPrim::GetItem => list_item_deed(state, alloc, args),
@@ -36,7 +44,8 @@ pub(crate) fn list_deed(
 
 /// What a primitive does that reads a tuple, if its arguments are right.
 pub(crate) fn tuple_deed(state: &State, operation: TuplePrim, args: &[CArg]) -> Result<Deed, Fault>
-    ensures { done_by result ≡ tuple_done operation state.now.cells (map word_of state.now.top.vars) args.now }
+    ensures done { done_by result ≡ tuple_done operation (numbered state.now.cells) (map word_of state.now.top.vars) args.now }
+    ensures ours { IfOk result (IsOurDeed state.now.cells) }
 {
     match operation {
         TuplePrim::GetItem => tuple_item_deed(state, args),
@@ -52,8 +61,9 @@ fn list_item_deed(
     alloc: Global,
     args: &[CArg],
 ) -> Result<Result<Deed, Fault>, Memory>
-    ensures { IfOk result (λ deed. done_by deed
-        ≡ list_item_done state.now.cells (map word_of state.now.top.vars) args.now) }
+    ensures done { IfOk result (λ deed. done_by deed
+        ≡ list_item_done (numbered state.now.cells) (map word_of state.now.top.vars) args.now) }
+    ensures ours { IfOk result (λ deed. IfOk deed (IsOurDeed state.now.cells)) }
 {
     match state.list_and_int(args) {
         Err(fault) => Ok(Err(fault)),
@@ -63,7 +73,8 @@ fn list_item_deed(
 
 /// Answers how many items a list has.
 fn list_length_deed(state: &State, args: &[CArg]) -> Result<Deed, Fault>
-    ensures { done_by result ≡ list_length_done state.now.cells (map word_of state.now.top.vars) args.now }
+    ensures done { done_by result ≡ list_length_done (numbered state.now.cells) (map word_of state.now.top.vars) args.now }
+    ensures ours { IfOk result (IsOurDeed state.now.cells) }
 {
     match state.one_list(args) {
         Err(fault) => Err(fault),
@@ -73,7 +84,8 @@ fn list_length_deed(state: &State, args: &[CArg]) -> Result<Deed, Fault>
 
 /// Answers how many parts a tuple has.
 fn tuple_length_deed(state: &State, args: &[CArg]) -> Result<Deed, Fault>
-    ensures { done_by result ≡ tuple_length_done state.now.cells (map word_of state.now.top.vars) args.now }
+    ensures done { done_by result ≡ tuple_length_done (numbered state.now.cells) (map word_of state.now.top.vars) args.now }
+    ensures ours { IfOk result (IsOurDeed state.now.cells) }
 {
     match state.one_tuple(args) {
         Err(fault) => Err(fault),
@@ -83,7 +95,8 @@ fn tuple_length_deed(state: &State, args: &[CArg]) -> Result<Deed, Fault>
 
 /// Answers the part of a tuple of a number.
 fn tuple_item_deed(state: &State, args: &[CArg]) -> Result<Deed, Fault>
-    ensures { done_by result ≡ tuple_item_done state.now.cells (map word_of state.now.top.vars) args.now }
+    ensures done { done_by result ≡ tuple_item_done (numbered state.now.cells) (map word_of state.now.top.vars) args.now }
+    ensures ours { IfOk result (IsOurDeed state.now.cells) }
 {
     match state.tuple_and_number(args) {
         Err(fault) => Err(fault),
@@ -93,8 +106,9 @@ fn tuple_item_deed(state: &State, args: &[CArg]) -> Result<Deed, Fault>
 
 /// Answers the item of a list at an index, or fails. A negative index counts from the end.
 fn indexed_item(alloc: Global, items: &[Word], index: i128) -> Result<Deed, Memory>
-    ensures { IfOk result (λ deed. effect_of deed
+    ensures done { IfOk result (λ deed. effect_of deed
         ≡ item_at (characters.place_of (length (map word_of items.now)) index) (map word_of items.now)) }
+    ensures ours { (cells : Cells Placed) → AreOurs cells (words_refs items.now) → IfOk result (IsOurDeed cells) }
 {
     match place_of(items.len(), index) {
         Some(place) => Ok(item(items, place)),
@@ -107,7 +121,8 @@ fn indexed_item(alloc: Global, items: &[Word], index: i128) -> Result<Deed, Memo
 
 /// Answers the part of a tuple of a number, where there is one.
 fn part(parts: &[Word], number: i64) -> Deed
-    ensures { effect_of result ≡ part_at (map word_of parts.now) number }
+    ensures done { effect_of result ≡ part_at (map word_of parts.now) number }
+    ensures ours { (cells : Cells Placed) → AreOurs cells (words_refs parts.now) → IsOurDeed cells result }
 {
     match usize::try_from(number) {
         Ok(place) => item(parts, place),
@@ -117,10 +132,33 @@ fn part(parts: &[Word], number: i64) -> Deed
 
 /// Answers the item at a place, where there is one.
 fn item(items: &[Word], place: usize) -> Deed
-    ensures { effect_of result ≡ of_word Shares (slice_get (map word_of items.now) place) }
+    ensures done { effect_of result ≡ of_word Shares (slice_get (map word_of items.now) place) }
+    ensures ours { (cells : Cells Placed) → AreOurs cells (words_refs items.now) → IsOurDeed cells result }
 {
     match items.get(place) {
         Some(word) => Deed::Shares(*word),
         None => Deed::Wrong,
+    }
+}
+
+/// Lends what is read.
+pub(crate) fn lent(deed: Result<Deed, Fault>) -> Result<Deed, Fault>
+    ensures done { done_by result ≡ lent_done (done_by deed) }
+    ensures ours { (cells : Cells Placed) → IfOk deed (IsOurDeed cells) → IfOk result (IsOurDeed cells) }
+{
+    match deed {
+        Err(fault) => Err(fault),
+        Ok(deed) => Ok(lend(deed)),
+    }
+}
+
+/// Lends what a deed shares.
+fn lend(deed: Deed) -> Deed
+    ensures done { effect_of result ≡ machine_step.lent (effect_of deed) }
+    ensures ours { (cells : Cells Placed) → IsOurDeed cells deed → IsOurDeed cells result }
+{
+    match deed {
+        Deed::Shares(word) => Deed::Lends(word),
+        other => other,
     }
 }

@@ -8,6 +8,10 @@ ghost use Rattle.c_runner_objects.specs.Dicts.{HoldsDict, HoldsKey, pairs_at, sh
 ghost use Rattle.c_runner_deeds.specs.Parts.{argument_of};
 ghost use Rattle.cell_heap.specs.Contents.{number_of, word_of};
 ghost use Rattle.cell_heap.specs.Pairs.{place_for};
+ghost use Rattle.cell_heap.specs.Numbered.{numbered};
+ghost use Rattle.cell_heap.specs.Contents.{name_of};
+ghost use Rattle.cell_heap.specs.Ours.{IsOurs};
+ghost use Rattle.c_runner_deeds.specs.Ours.{IsOurWord};
 
 use c_core::{CArg, Fault};
 use c_runner_deeds::State;
@@ -17,10 +21,12 @@ use value_core::{Memory, Text, number_text};
 
 /// The cell of the dict and the key that the arguments are.
 pub(crate) fn dict_key(state: &State, args: &[CArg]) -> Result<(Key, Word), Fault>
-    ensures { MatchResult result
-        (λ found. deeds.dict_and_key state.now.cells (map word_of state.now.top.vars) args.now
-        ≡ Ok ((number_of found.0, pairs_at state.now.cells (number_of found.0)), word_of found.1))
-        (λ why. deeds.dict_and_key state.now.cells (map word_of state.now.top.vars) args.now ≡ Err why) }
+    ensures found { MatchResult result
+        (λ found. deeds.dict_and_key (numbered state.now.cells) (map word_of state.now.top.vars) args.now
+        ≡ Ok ((number_of found.0, pairs_at (numbered state.now.cells) (number_of found.0)), word_of found.1))
+        (λ why. deeds.dict_and_key (numbered state.now.cells) (map word_of state.now.top.vars) args.now ≡ Err why) }
+    ensures ours { IfOk result (λ found. IsOurs state.now.cells (name_of found.0)) }
+    ensures key { IfOk result (λ found. IsOurWord state.now.cells found.1) }
 {
     match state.dict_and_key(args) {
         Err(fault) => Err(fault),
@@ -30,7 +36,8 @@ pub(crate) fn dict_key(state: &State, args: &[CArg]) -> Result<(Key, Word), Faul
 
 /// Whether a word is a truth, or its cell holds a number or a text.
 pub(crate) fn is_key(state: &State, word: Word) -> bool
-    ensures { result ≡ is_holding AKey (argument_of state.now.cells (word_of word)) }
+    requires { IsOurWord state.now.cells word }
+    ensures { result ≡ is_holding AKey (argument_of (numbered state.now.cells) (word_of word)) }
 {
     match word {
         Word::PyTrue | Word::PyFalse => true,
@@ -44,9 +51,11 @@ pub(crate) fn is_key(state: &State, word: Word) -> bool
 
 /// The place of a key in the dict that a cell holds, if the dict has an equal one.
 pub(crate) fn key_place(state: &State, dict: Key, key: Word) -> Option<usize>
-    requires dict { HoldsDict state.now.cells (number_of dict) }
-    requires key { HoldsKey state.now.cells (word_of key) }
-    ensures { result ≡ place_for state.now.cells (key_of state.now.cells (word_of key)) (pairs_at state.now.cells (number_of dict)) }
+    requires dict { HoldsDict (numbered state.now.cells) (number_of dict) }
+    requires key { HoldsKey (numbered state.now.cells) (word_of key) }
+    requires ours { IsOurs state.now.cells (name_of dict) }
+    requires word { IsOurWord state.now.cells key }
+    ensures { result ≡ place_for (numbered state.now.cells) (key_of (numbered state.now.cells) (word_of key)) (pairs_at (numbered state.now.cells) (number_of dict)) }
 {
     match state.cells.dict_find(dict, key) {
         // Both are there.
@@ -57,7 +66,8 @@ pub(crate) fn key_place(state: &State, dict: Key, key: Word) -> Option<usize>
 
 /// A key as it is printed.
 pub(crate) fn key_text(state: &State, alloc: Global, key: Word) -> Result<Text, Memory>
-    ensures { IfOk result (λ text. text ≡ shown (key_of state.now.cells (word_of key))) }
+    requires { IsOurWord state.now.cells key }
+    ensures { IfOk result (λ text. text ≡ shown (key_of (numbered state.now.cells) (word_of key))) }
 {
     match key {
         Word::PyTrue => Text::from_str(alloc, "True"),

@@ -10,8 +10,12 @@ ghost use Rattle.c_core.specs.Step.{Fails, applied, primitive_step};
 ghost use Rattle.c_runner_objects.specs.Lists.{HoldsList, items_at, item_added, item_put, item_taken, appended, item_set};
 ghost use Rattle.c_runner_deeds.specs.Deeds.{Calls, MayMake};
 ghost use Rattle.c_runner_deeds.specs.Parts.{left_by};
-ghost use Rattle.c_runner_deeds.specs.States.{Rest, Follows, IsSmall, state_of};
+ghost use Rattle.c_runner_deeds.specs.States.{Rest, Follows, IsSmall, state_of, seen};
 ghost use Rattle.cell_heap.specs.Contents.{number_of, word_of};
+ghost use Rattle.cell_heap.specs.Numbered.{numbered};
+ghost use Rattle.cell_heap.specs.Contents.{name_of};
+ghost use Rattle.cell_heap.specs.Ours.{IsOurs};
+ghost use Rattle.c_runner_deeds.specs.Ours.{IsOurWord};
 
 use crate::items::list_deed;
 use c_core::{CArg, Fault, Kind, ListPrim};
@@ -36,9 +40,9 @@ pub fn call_list(
     target: Option<usize>,
     args: &[CArg],
 ) -> Result<Option<Ending>, Memory>
-    requires small { IsSmall state.old }
+    requires small { IsSmall (seen state.old) }
     requires place { state.old.top.place + 1 < 2 ^ 64 }
-    ensures { MayMake (prim.List operation) target args.now state.old state.new result }
+    ensures { MayMake (prim.List operation) target args.now (seen state.old) (seen state.new) result }
 {
     match operation {
         ListPrim::New => new_list(state, alloc, target, args),
@@ -59,9 +63,9 @@ fn new_list(
     target: Option<usize>,
     args: &[CArg],
 ) -> Result<Option<Ending>, Memory>
-    requires small { IsSmall state.old }
+    requires small { IsSmall (seen state.old) }
     requires place { state.old.top.place + 1 < 2 ^ 64 }
-    ensures { MayMake (prim.List list_prim.New) target args.now state.old state.new result }
+    ensures { MayMake (prim.List list_prim.New) target args.now (seen state.old) (seen state.new) result }
 {
     if args.is_empty() {
         state.make_cell(target, Content::List(Many::new(alloc)))
@@ -73,7 +77,7 @@ fn new_list(
 /// Puts a word at the end of a list, which takes over its reference.
 fn append(state: &mut State, target: Option<usize>, args: &[CArg]) -> Result<Option<Ending>, Memory>
     requires { state.old.top.place + 1 < 2 ^ 64 }
-    ensures { Calls (prim.List list_prim.Append) target args.now state.old state.new result }
+    ensures { Calls (prim.List list_prim.Append) target args.now (seen state.old) (seen state.new) result }
 {
     match list_and_word(state, args) {
         Err(fault) => Ok(Some(Ending::Fault(fault))),
@@ -84,9 +88,11 @@ fn append(state: &mut State, target: Option<usize>, args: &[CArg]) -> Result<Opt
 /// The list that the first argument is, and the word that the second and last one gives away.
 fn list_and_word(state: &State, args: &[CArg]) -> Result<(Key, Word), Fault>
     ensures found { (rest : Rest) (code : machine_code.Code) (target : Option ℕ) →
-        (let s = state_of rest state.now in
+        (let s = state_of rest (seen state.now) in
         primitive_step true s code target args.now (prim.List list_prim.Append) ≡ appended target result s) }
-    ensures list { IfOk result (λ found. HoldsList state.now.cells (number_of found.0)) }
+    ensures list { IfOk result (λ found. HoldsList (numbered state.now.cells) (number_of found.0)) }
+    ensures ours { IfOk result (λ found. IsOurs state.now.cells (name_of found.0)) }
+    ensures word { IfOk result (λ found. IsOurWord state.now.cells found.1) }
 {
     let key = match state.list_argument(args.first()) {
         Err(fault) => return Err(fault),
@@ -113,8 +119,10 @@ fn add_item(
     word: Word,
 ) -> Result<Option<Ending>, Memory>
     requires place { state.old.top.place + 1 < 2 ^ 64 }
-    requires list { HoldsList state.old.cells (number_of key) }
-    ensures { IfOk result (λ ending. Follows (item_added target key word) ending state.old state.new) }
+    requires list { HoldsList (numbered state.old.cells) (number_of key) }
+    requires ours { IsOurs state.old.cells (name_of key) }
+    requires word { IsOurWord state.old.cells word }
+    ensures { IfOk result (λ ending. Follows (item_added target key word) ending (seen state.old) (seen state.new)) }
 {
     match state.cells.push_word(key, word) {
         Err(HeapError::Memory) => Err(Memory),
@@ -136,9 +144,9 @@ fn set_item(
     target: Option<usize>,
     args: &[CArg],
 ) -> Result<Option<Ending>, Memory>
-    requires small { IsSmall state.old }
+    requires small { IsSmall (seen state.old) }
     requires place { state.old.top.place + 1 < 2 ^ 64 }
-    ensures { Calls (prim.List list_prim.SetItem) target args.now state.old state.new result }
+    ensures { Calls (prim.List list_prim.SetItem) target args.now (seen state.old) (seen state.new) result }
 {
     match item_write(state, args) {
         Err(fault) => Ok(Some(Ending::Fault(fault))),
@@ -153,11 +161,13 @@ fn set_item(
 /// one gives away.
 fn item_write(state: &State, args: &[CArg]) -> Result<ItemWrite, Fault>
     ensures found { (rest : Rest) (code : machine_code.Code) (target : Option ℕ) →
-        (let s = state_of rest state.now in
+        (let s = state_of rest (seen state.now) in
         primitive_step true s code target args.now (prim.List list_prim.SetItem) ≡ item_set target result s) }
-    ensures list { IfOk result (λ found. HoldsList state.now.cells (number_of found.key)) }
+    ensures list { IfOk result (λ found. HoldsList (numbered state.now.cells) (number_of found.key)) }
     ensures within { IfOk result (λ found. IfSome found.place
-        (λ place. place < length (items_at state.now.cells (number_of found.key)))) }
+        (λ place. place < length (items_at (numbered state.now.cells) (number_of found.key)))) }
+    ensures ours { IfOk result (λ found. IsOurs state.now.cells (name_of found.key)) }
+    ensures word { IfOk result (λ found. IsOurWord state.now.cells found.word) }
 {
     let found = match state.list_argument(args.first()) {
         Err(fault) => return Err(fault),
@@ -191,11 +201,12 @@ fn fail_to_put(
     target: Option<usize>,
     word: Word,
 ) -> Result<Option<Ending>, Memory>
-    requires small { IsSmall state.old }
+    requires small { IsSmall (seen state.old) }
     requires place { state.old.top.place + 1 < 2 ^ 64 }
+    requires word { IsOurWord state.old.cells word }
     ensures { IfOk result (λ ending. Follows
         (λ s. applied true s target (left_by (word_of word) s.top.ledger) (refs_of (word_of word))
-        (Fails (CharWord 2) (thrown exception_class.IndexError (codes "list assignment index out of range")))) ending state.old state.new) }
+        (Fails (CharWord 2) (thrown exception_class.IndexError (codes "list assignment index out of range")))) ending (seen state.old) (seen state.new)) }
 {
     let text = Text::from_str(alloc, "list assignment index out of range")?;
     state.top.lose(word);
@@ -212,9 +223,11 @@ fn put_item(
     word: Word,
 ) -> Option<Ending>
     requires place { state.old.top.place + 1 < 2 ^ 64 }
-    requires list { HoldsList state.old.cells (number_of key) }
-    requires within { place < length (items_at state.old.cells (number_of key)) }
-    ensures { Follows (item_put target key (Some place) word) result state.old state.new }
+    requires list { HoldsList (numbered state.old.cells) (number_of key) }
+    requires within { place < length (items_at (numbered state.old.cells) (number_of key)) }
+    requires ours { IsOurs state.old.cells (name_of key) }
+    requires word { IsOurWord state.old.cells word }
+    ensures { Follows (item_put target key (Some place) word) result (seen state.old) (seen state.new) }
 {
     match state.cells.set_word(key, place, Some(word)) {
         // The cell is there, as was tested first.
@@ -236,9 +249,9 @@ fn pop(
     target: Option<usize>,
     args: &[CArg],
 ) -> Result<Option<Ending>, Memory>
-    requires small { IsSmall state.old }
+    requires small { IsSmall (seen state.old) }
     requires place { state.old.top.place + 1 < 2 ^ 64 }
-    ensures { Calls (prim.List list_prim.Pop) target args.now state.old state.new result }
+    ensures { Calls (prim.List list_prim.Pop) target args.now (seen state.old) (seen state.new) result }
 {
     let key = match state.one_list(args) {
         Err(fault) => return Ok(Some(Ending::Fault(fault))),
@@ -254,10 +267,11 @@ fn take_item(
     target: Option<usize>,
     key: Key,
 ) -> Result<Option<Ending>, Memory>
-    requires small { IsSmall state.old }
+    requires small { IsSmall (seen state.old) }
     requires place { state.old.top.place + 1 < 2 ^ 64 }
-    requires list { HoldsList state.old.cells (number_of key) }
-    ensures { IfOk result (λ ending. Follows (item_taken target key) ending state.old state.new) }
+    requires list { HoldsList (numbered state.old.cells) (number_of key) }
+    requires ours { IsOurs state.old.cells (name_of key) }
+    ensures { IfOk result (λ ending. Follows (item_taken target key) ending (seen state.old) (seen state.new)) }
 {
     match state.cells.pop_word(key) {
         // The cell is there, as was tested first.

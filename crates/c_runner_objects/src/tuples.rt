@@ -10,13 +10,16 @@ ghost use Rattle.c_core.specs.Machine.{refs, refs_of};
 ghost use Rattle.c_core.specs.Step.{Next, if_arguments};
 ghost use Rattle.c_runner_deeds.specs.Deeds.{Calls};
 ghost use Rattle.c_runner_deeds.specs.Parts.{is_owned};
-ghost use Rattle.c_runner_deeds.specs.States.{Rest, IsSmall, state_of};
+ghost use Rattle.c_runner_deeds.specs.States.{Rest, IsSmall, state_of, seen};
 ghost use Rattle.c_runner_objects.specs.Tuples.{pack_parameters, AreObjects, AreOwned, lost_all, all_stolen_or};
 ghost use Rattle.cell_heap.specs.Contents.{word_of};
+ghost use Rattle.cell_heap.specs.Numbered.{numbered};
+ghost use Rattle.cell_heap.specs.Ours.{AreOurs};
+ghost use Rattle.cell_heap.specs.Contents.{words_refs};
 
 use crate::items::tuple_deed;
 use c_core::{CArg, Fault, Kind, TuplePrim};
-use c_runner_deeds::{Ending, Frame, State};
+use c_runner_deeds::{Ending, Frame, State, number_of};
 use c_runner_ledger::Ledger;
 use cell_heap::{Content, Word};
 use std::alloc::Global;
@@ -33,9 +36,9 @@ pub fn call_tuple(
     target: Option<usize>,
     args: &[CArg],
 ) -> Result<Option<Ending>, Memory>
-    requires small { IsSmall state.old }
+    requires small { IsSmall (seen state.old) }
     requires place { state.old.top.place + 1 < 2 ^ 64 }
-    ensures { Calls (prim.Tuple operation) target args.now state.old state.new result }
+    ensures { Calls (prim.Tuple operation) target args.now (seen state.old) (seen state.new) result }
 {
     match operation {
         TuplePrim::Pack => pack(state, alloc, target, args),
@@ -53,9 +56,9 @@ fn pack(
     target: Option<usize>,
     args: &[CArg],
 ) -> Result<Option<Ending>, Memory>
-    requires small { IsSmall state.old }
+    requires small { IsSmall (seen state.old) }
     requires place { state.old.top.place + 1 < 2 ^ 64 }
-    ensures { Calls (prim.Tuple tuple.Pack) target args.now state.old state.new result }
+    ensures { Calls (prim.Tuple tuple.Pack) target args.now (seen state.old) (seen state.new) result }
 {
     let found = stolen_objects(state, alloc, args)?;
     match found {
@@ -74,9 +77,10 @@ fn stolen_objects(
     args: &[CArg],
 ) -> Result<Result<Many<Word>, Fault>, Memory>
     ensures stolen { IfOk result (λ found. (rest : Rest) (code : machine_code.Code) (go : List Argument → Ledger → Next) →
-        (let s = state_of rest state.now in
+        (let s = state_of rest (seen state.now) in
         if_arguments true s code pack_parameters args.now [] s.top.ledger go ≡ all_stolen_or found s go)) }
-    ensures objects { IfOk result (λ found. IfOk found (λ words. AreObjects state.now.cells (map word_of words))) }
+    ensures objects { IfOk result (λ found. IfOk found (λ words. AreObjects (numbered state.now.cells) (map word_of words))) }
+    ensures ours { IfOk result (λ found. IfOk found (λ words. AreOurs state.now.cells (words_refs words))) }
 {
     if args.is_empty() {
         return Ok(Err(Fault::Kind));
@@ -105,7 +109,7 @@ pub(crate) fn owns_beside(frame: &Frame, words: &[Word], word: Word) -> bool
 {
     match word {
         Word::Big(key) | Word::Cell(key) => {
-            let serial = key.serial();
+            let serial = number_of(key);
             frame
                 .ledger
                 .owns_more_than(serial, references(words, serial))
@@ -140,7 +144,7 @@ fn references_of(word: Word, serial: u128) -> usize
     ensures few { result ≤ 1 }
 {
     match word {
-        Word::Big(key) | Word::Cell(key) => { if key.serial() == serial { 1 } else { 0 } }
+        Word::Big(key) | Word::Cell(key) => { if number_of(key) == serial { 1 } else { 0 } }
         _ => 0,
     }
 }

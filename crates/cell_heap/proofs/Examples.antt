@@ -1,5 +1,5 @@
 -- The definitions at small values.
-use Rattle.std.proofs.Common.{◌≡◌, ℕ, [], ◌∷◌, Some, None, refl}
+use Rattle.std.proofs.Common.{◌≡◌, ℕ, ◌+◌, ◌*◌, ◌^◌, false, [], ◌∷◌, Some, None, refl}
 use Rattle.c_core.specs.Cells.{Cells, content_at, count_at, make, take_one}
 use Rattle.c_core.specs.Machine.{Content, StrCell, ListCell, TupleCell, DictCell, InstCell, ObjectCell, NoneObject, TrueObject, FalseObject, refs_in}
 use Rattle.c_core.specs.Release.{release}
@@ -7,9 +7,11 @@ use Rattle.slot_arena.specs.declared.key.Key.{Key}
 use Rattle.slot_arena.specs.Serials.{key_with}
 use Rattle.cell_heap.specs.declared.word.Word.TheVariants.{Cell as CellWord, PyNone}
 use Rattle.cell_heap.specs.declared.content.Content.TheVariants.{Dict, Inst}
-use Rattle.cell_heap.specs.Contents.{content_of}
+use Rattle.cell_heap.specs.Contents.{name_of, slot_in, number_of, content_named, content_of}
+use Rattle.cell_heap.specs.Numbered.{numbered}
 use Rattle.cell_heap.specs.Numbers.{numbers_of}
 use Rattle.cell_heap.specs.Pairs.{place_at, with_pair, without_pair, pair_at}
+use Rattle.cell_heap.specs.Placed.{Placed, number_in, held_at, refs_under, refill_held, is_there, place_under}
 use Rattle.cell_heap.specs.Words.{with_word, with_last, without_last, refill_by, word_at, last_at}
 
 abbrev key : ℕ → Key
@@ -39,9 +41,9 @@ both_given = refl
 made_after : numbers_of (make text (None ∷ None ∷ [])) ≡ 2 ∷ []
 made_after = refl
 
--- keys are the machine's numbers in every place of a content
-placed : (content_of (Dict (record { pairs = (CellWord (key 3), CellWord (key 4)) ∷ []; marks = None })) ≡ DictCell ((ObjectCell 3, ObjectCell 4) ∷ [])) × (content_of (Inst 5 (None ∷ Some PyNone ∷ [])) ≡ InstCell 5 (None ∷ Some NoneObject ∷ []))
-placed = (refl, refl)
+-- keys are the machine's numbers in every place of a content, by their serials or by their names
+called : (content_of (Dict (record { pairs = (CellWord (key 3), CellWord (key 4)) ∷ []; marks = None })) ≡ DictCell ((ObjectCell 3, ObjectCell 4) ∷ [])) × (content_of (Inst 5 (None ∷ Some PyNone ∷ [])) ≡ InstCell 5 (None ∷ Some NoneObject ∷ [])) × (content_named (Dict (record { pairs = (CellWord (key 3), PyNone) ∷ []; marks = None })) ≡ DictCell ((ObjectCell (7 * 2 ^ 128 + 3), NoneObject) ∷ [])) × (slot_in (name_of (key 3)) ≡ 7) × (number_of (key 3) ≡ 3)
+called = (refl, refl, refl, refl, refl)
 
 -- a list with two items: one is written over, one is put behind them, and the last one is taken off
 abbrev items : Content
@@ -83,3 +85,36 @@ paired = (refl, refl)
 -- where there is no such pair, or no dict, nothing is taken out
 not_taken : (refill_by (without_pair 2) 1 dict ≡ dict) × (pair_at dict 1 2 ≡ None) × (refill_by (without_pair 0) 1 list ≡ list)
 not_taken = (refl, refl, refl)
+
+-- ---- a heap: a text in slot 4, and a tuple in slot 2 that holds it, and that holds the text's serial with another slot
+abbrev name : ℕ → ℕ → ℕ
+name slot serial = slot * 2 ^ 128 + serial
+
+abbrev mixed : Content
+mixed = TupleCell (ObjectCell (name 4 0) ∷ ObjectCell (name 3 0) ∷ [])
+
+abbrev heap : Cells Placed
+heap = make (record { slot = 2; holds = mixed }) (take_one 0 (make (record { slot = 4; holds = text }) []))
+
+-- a key is in the map where its slot and its serial are the cell's
+in_map : (held_at heap (name 4 0) ≡ Some text) × (held_at heap (name 3 0) ≡ None) × (held_at heap (name 2 1) ≡ Some mixed) × (held_at heap (name 4 1) ≡ None) × (held_at heap (name 4 2) ≡ None)
+in_map = (refl, refl, refl, refl, refl)
+
+-- what another slot names is passed over as the tuple goes, so the text loses one reference of two
+passed_over : release (refs_under heap) heap (number_in heap (name 2 1) ∷ []) ≡ Some (record { count = 1; content = record { slot = 4; holds = text } }) ∷ None ∷ []
+passed_over = refl
+
+-- it equals no key of a dict, nor is it one
+abbrev keyed : Cells Placed
+keyed = make (record { slot = 2; holds = DictCell ((ObjectCell (name 3 0), NoneObject) ∷ (ObjectCell (name 4 0), TrueObject) ∷ []) }) (make (record { slot = 4; holds = text }) [])
+
+no_key : (place_under keyed (name 2 1) (ObjectCell (name 4 0)) ≡ Some 1) × (place_under keyed (name 2 1) (ObjectCell (name 3 0)) ≡ None) × (is_there keyed (ObjectCell (name 3 0)) ≡ false) × (place_under keyed (name 3 1) (ObjectCell (name 4 0)) ≡ None)
+no_key = (refl, refl, refl, refl)
+
+-- nothing is written through it
+not_there : (refill_held (with_word 0 (Some NoneObject)) (name 3 1) heap ≡ heap) × (take_one (number_in heap (name 3 0)) heap ≡ heap)
+not_there = (refl, refl)
+
+-- by numbers the slots are not seen
+by_number : numbered heap ≡ make (TupleCell (ObjectCell 0 ∷ ObjectCell 0 ∷ [])) (take_one 0 (make text []))
+by_number = refl

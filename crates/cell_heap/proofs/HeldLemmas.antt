@@ -1,39 +1,23 @@
--- Cells in an arena are the machine's: what a key finds, and what a change of one entry and one entry more make.
-use Rattle.std.proofs.Common.{◌≡◌, refl, sym, ap, ◌∙◌, ℕ, zero, suc, ◌+◌, ◌^◌, ◌<◌, eqb, eq-eqb, eqb-true, List, [], ◌∷◌, ◌++◌, length, get_or, set, Option, Some, None}
+-- Cells in an arena are those of a heap: what a key finds, and what a change of one entry and one entry more make.
+use Rattle.std.proofs.Common.{◌≡◌, refl, sym, ap, ◌∙◌, ℕ, zero, suc, ◌+◌, ◌*◌, ◌%◌, ◌^◌, ◌<◌, ◌≤◌, arith, Bool, true, false, cond, eqb, eqb-true, List, [], ◌∷◌, ◌++◌, length, get_or, set, Option, Some, None}
 use Rattle.std.specs.Prelude.{map, is_some, Result, Ok, Err, IfOk}
 use Rattle.std.specs.Option.{option_map}
-use Rattle.std.proofs.lemmas.Bool.{cond-true}
-use Rattle.std.proofs.lemmas.Option.{cond_some, same_Some}
+use Rattle.std.proofs.lemmas.Option.{cond_some}
 use Rattle.std.proofs.lemmas.List.{map-append, length-map}
 use Rattle.c_core.specs.Cells.{Cell, Cells, change, counted, count_at, content_of, content_at, make}
-use Rattle.c_core.specs.Machine as machine
 use Rattle.slot_arena.specs.declared.key.Key.{Key}
 use Rattle.slot_arena.specs.Serials.{serial_of, key_with}
-use Rattle.slot_arena.specs.Contents.{Entry, value_in, key_in, keys_from}
-use Rattle.slot_arena.proofs.KeyLemmas.{serial_of-key_with, key_with-serial_of}
+use Rattle.slot_arena.specs.Contents as arena
+use Rattle.slot_arena.specs.Contents.{Entry, Contents, value_in, value_at}
+use Rattle.slot_arena.proofs.KeyLemmas.{serial_of-key_with}
 use Rattle.cell_heap.specs.declared.cells.CountedCell.{CountedCell}
-use Rattle.cell_heap.specs.Contents as contents
-use Rattle.cell_heap.specs.Held.{cell_at, cell_of, cell_in, cells_of}
-use Rattle.cell_heap.specs.Numbers.{numbers_from}
-
-module _ {X : Type 0} where
-  pub content_at-cell : (cells : Cells X) (c : ℕ) → content_at cells c ≡ content_of (cell_at cells c)
-  content_at-cell [] c = refl
-  content_at-cell (o ∷ cells) zero = refl
-  content_at-cell (o ∷ cells) (suc c) = content_at-cell cells c
-
-  pub count_at-cell : (cells : Cells X) (c : ℕ) → count_at cells c ≡ counted (cell_at cells c)
-  count_at-cell [] c = refl
-  count_at-cell (o ∷ cells) zero = refl
-  count_at-cell (o ∷ cells) (suc c) = count_at-cell cells c
-
--- a test for a cell is one for its content
-pub is_held : {A : Type 0} (f : A → CountedCell) (o : Option A) (cells : Cells machine.Content) (c : ℕ) → option_map cell_of (option_map f o) ≡ cell_at cells c → is_some o ≡ is_some (content_at cells c)
-is_held {A = A} f o cells c is = of_cell o ∙ ap (λ q. is_some (content_of q)) is ∙ sym (ap is_some (content_at-cell cells c))
-  where
-    of_cell : (o : Option A) → is_some o ≡ is_some (content_of (option_map cell_of (option_map f o)))
-    of_cell None = refl
-    of_cell (Some a) = refl
+use Rattle.cell_heap.specs.declared.content.Content.{Content}
+use Rattle.cell_heap.specs.Contents.{name_of, number_of, slot_in, serial_in, content_named}
+use Rattle.cell_heap.specs.Held.{cell_at, cell_of, cell_in, cells_of, IsNamed}
+use Rattle.cell_heap.specs.Numbers.{keys_from, numbers_from}
+use Rattle.cell_heap.specs.Placed.{Placed, lies_in, number_in, held_at}
+use Rattle.cell_heap.proofs.CellLemmas.{content_at-cell, count_at-cell, past}
+use Rattle.cell_heap.proofs.OursLemmas.{number_gone, number_there}
 
 abbrev pub Entries : Type 0
 Entries = List (Option (Entry CountedCell))
@@ -44,38 +28,10 @@ cell_at-cells [] n = refl
 cell_at-cells (o ∷ entries) zero = refl
 cell_at-cells (o ∷ entries) (suc n) = cell_at-cells entries n
 
-pub none_found : (entries : Entries) (n : ℕ) → None ≡ key_in n (get_or entries n None) → cell_at (cells_of entries) n ≡ None
-none_found entries n none = cell_at-cells entries n ∙ of_entry (get_or entries n None) none
-  where
-    of_entry : (o : Option (Entry CountedCell)) → None ≡ key_in n o → cell_in o ≡ None
-    of_entry None none = refl
-    of_entry (Some entry) none = absurd (cc)
+pub content_at-cells : (entries : Entries) (n : ℕ) → content_at (cells_of entries) n ≡ content_of (cell_in (get_or entries n None))
+content_at-cells entries n = content_at-cell (cells_of entries) n ∙ ap content_of (cell_at-cells entries n)
 
--- the key that was found has the number, and finds its cell
-pub found : (entries : Entries) (n : ℕ) (key : Key) → Some key ≡ key_in n (get_or entries n None) → (serial_of key ≡ n) × (option_map cell_of (value_in key.slot (get_or entries (serial_of key) None)) ≡ cell_at (cells_of entries) n)
-found entries n key is = of_entry (get_or entries n None) refl is
-  where
-    of_entry : (o : Option (Entry CountedCell)) → get_or entries n None ≡ o → Some key ≡ key_in n o → (serial_of key ≡ n) × (option_map cell_of (value_in key.slot (get_or entries (serial_of key) None)) ≡ cell_at (cells_of entries) n)
-    of_entry None at is = absurd (cc)
-    of_entry (Some entry) at is =
-        let same : key ≡ key_with entry.slot n = same_Some _ _ is in
-        let made : serial_of (key_with entry.slot n) ≡ n = serial_of-key_with entry.slot n in
-        let value : value_in entry.slot (Some entry) ≡ Some entry.value =
-        cond-true (eqb entry.slot entry.slot) (Some entry.value) None (eq-eqb entry.slot entry.slot refl) in (
-          ap serial_of same ∙ made,
-          ap (option_map cell_of) (ap (λ k. value_in k.slot (get_or entries (serial_of k) None)) same ∙ ap (λ m. value_in entry.slot (get_or entries m None)) made ∙ ap (value_in entry.slot) at ∙ value)
-              ∙ sym (cell_at-cells entries n ∙ ap cell_in at),
-        )
-
--- a key is found where there is a content
-pub is_found : (entries : Entries) (n : ℕ) → is_some (key_in n (get_or entries n None)) ≡ is_some (content_at (cells_of entries) n)
-is_found entries n = of_entry (get_or entries n None) ∙ sym (ap is_some (content_at-cell (cells_of entries) n ∙ ap content_of (cell_at-cells entries n)))
-  where
-    of_entry : (o : Option (Entry CountedCell)) → is_some (key_in n o) ≡ is_some (content_of (cell_in o))
-    of_entry None = refl
-    of_entry (Some entry) = refl
-
--- a key that finds a value in its own slot
+-- the entry of a key that finds a value
 pub own : (slot : ℕ) (o : Option (Entry CountedCell)) (value : CountedCell) → Some value ≡ value_in slot o → o ≡ Some (record { slot = slot; value = value })
 own slot None value is = absurd (cc)
 own slot (Some entry) value is =
@@ -83,49 +39,100 @@ own slot (Some entry) value is =
     let here = eqb-true entry.slot slot parts.0 in
     ap (λ k. Some (record { slot = k; value = entry.value })) here ∙ ap (λ v. Some (record { slot = slot; value = v })) parts.1
 
-pub own_cell : (entries : Entries) (key : Key) (value : CountedCell) → Some value ≡ value_in key.slot (get_or entries (serial_of key) None) → cell_at (cells_of entries) (serial_of key) ≡ Some (cell_of value)
-own_cell entries key value is = cell_at-cells entries (serial_of key) ∙ ap cell_in (own key.slot (get_or entries (serial_of key) None) value is)
+pub own_cell : (a : Contents CountedCell) (key : Key) (value : CountedCell) → Some value ≡ value_at a key → cell_at (cells_of a.entries) (serial_of key) ≡ Some (cell_of key.slot value)
+own_cell a key value is =
+    cell_at-cells a.entries (serial_of key) ∙ ap cell_in (own key.slot (get_or a.entries (serial_of key) None) value is)
 
--- it is the key of its serial
-pub own_key : (entries : Entries) (key : Key) (value : CountedCell) → key.serial.low < 2 ^ 64 → Some value ≡ value_in key.slot (get_or entries (serial_of key) None) → Some key ≡ key_in (serial_of key) (get_or entries (serial_of key) None)
-own_key entries key value small is =
-    sym (ap (key_in (serial_of key)) (own key.slot (get_or entries (serial_of key) None) value is) ∙ ap Some (key_with-serial_of key small))
+pub own_number : (a : Contents CountedCell) (key : Key) (value : CountedCell) → IsNamed key → Some value ≡ value_at a key → number_in (cells_of a.entries) (name_of key) ≡ serial_of key
+own_number a key value named is =
+    let cells = cells_of a.entries in
+    let p : Placed = record { slot = key.slot; holds = content_named value.content } in
+    let there : content_at cells (serial_in (name_of key)) ≡ Some p =
+    ap (content_at cells) named.serial ∙ content_at-cell cells (serial_of key) ∙ ap content_of (own_cell a key value is) in
+    number_there cells (name_of key) p there (sym named.slot) ∙ named.serial
+
+pub cell_found : (a : Contents CountedCell) (key : Key) (value : CountedCell) → IsNamed key → Some value ≡ value_at a key → cell_at (cells_of a.entries) (number_in (cells_of a.entries) (name_of key)) ≡ Some (cell_of key.slot value)
+cell_found a key value named is = ap (cell_at (cells_of a.entries)) (own_number a key value named is) ∙ own_cell a key value is
+
+-- a key that finds none names nothing
+pub cell_lost : (a : Contents CountedCell) (key : Key) → IsNamed key → None ≡ value_at a key → cell_at (cells_of a.entries) (number_in (cells_of a.entries) (name_of key)) ≡ None
+cell_lost a key named is =
+    ap (cell_at cells) (of_entry (get_or a.entries (serial_of key) None) refl is) ∙ past cells (length cells) (omega arith)
+  where
+    cells : Cells Placed
+    cells = cells_of a.entries
+
+    at : (o : Option (Entry CountedCell)) → get_or a.entries (serial_of key) None ≡ o → content_at (cells_of a.entries) (serial_in (name_of key)) ≡ content_of (cell_in o)
+    at o e = ap (content_at (cells_of a.entries)) named.serial ∙ content_at-cells a.entries (serial_of key) ∙ ap (λ q. content_of (cell_in q)) e
+
+    by_slot : (entry : Entry CountedCell) (b : Bool) → get_or a.entries (serial_of key) None ≡ Some entry → eqb entry.slot key.slot ≡ b → None ≡ cond (eqb entry.slot key.slot) (Some entry.value) None → number_in (cells_of a.entries) (name_of key) ≡ length (cells_of a.entries)
+    by_slot entry true e same none = absurd (let found = none ∙ ap (λ b. cond b (Some entry.value) None) same in cc)
+    by_slot entry false e other none =
+        ap (λ o. cond (lies_in (slot_in (name_of key)) o) (serial_in (name_of key)) (length (cells_of a.entries))) (at (Some entry) e)
+        ∙ ap (λ s. cond (eqb entry.slot s) (serial_in (name_of key)) (length (cells_of a.entries))) named.slot
+        ∙ ap (λ b. cond b (serial_in (name_of key)) (length (cells_of a.entries))) other
+
+    of_entry : (o : Option (Entry CountedCell)) → get_or a.entries (serial_of key) None ≡ o → None ≡ value_in key.slot o → number_in (cells_of a.entries) (name_of key) ≡ length (cells_of a.entries)
+    of_entry None e none = number_gone (cells_of a.entries) (name_of key) (at None e)
+    of_entry (Some entry) e none = by_slot entry (eqb entry.slot key.slot) e refl none
+
+-- what the heap's map has there
+holding : {o : Option (Cell Placed)} (cells : Cells Placed) (name : ℕ) → cell_at cells (number_in cells name) ≡ o → held_at cells name ≡ option_map (λ (p : Placed). p.holds) (content_of o)
+holding cells name is =
+    ap (option_map (λ p. p.holds)) (content_at-cell cells (number_in cells name) ∙ ap content_of is)
+
+pub held_found : (a : Contents CountedCell) (key : Key) (value : CountedCell) → IsNamed key → Some value ≡ value_at a key → held_at (cells_of a.entries) (name_of key) ≡ Some (content_named value.content)
+held_found a key value named is = holding (cells_of a.entries) (name_of key) (cell_found a key value named is)
+
+pub held_lost : (a : Contents CountedCell) (key : Key) → IsNamed key → None ≡ value_at a key → held_at (cells_of a.entries) (name_of key) ≡ None
+held_lost a key named is = holding (cells_of a.entries) (name_of key) (cell_lost a key named is)
+
+pub count_found : (a : Contents CountedCell) (key : Key) (value : CountedCell) → IsNamed key → Some value ≡ value_at a key → count_at (cells_of a.entries) (number_in (cells_of a.entries) (name_of key)) ≡ value.count
+count_found a key value named is =
+    count_at-cell (cells_of a.entries) (number_in (cells_of a.entries) (name_of key)) ∙ ap counted (cell_found a key value named is)
+
+-- a test for a value is one for what it holds
+pub is_held : {B : Type 0} (f : B → CountedCell) (a : Contents CountedCell) (key : Key) (o : Option B) → IsNamed key → option_map f o ≡ value_at a key → is_some o ≡ is_some (held_at (cells_of a.entries) (name_of key))
+is_held f a key None named is = sym (ap is_some (held_lost a key named is))
+is_held f a key (Some b) named is = sym (ap is_some (held_found a key (f b) named is))
 
 -- ---- one entry changes, or there is one more
-pub cells-set : (by : Option (Cell machine.Content) → Option (Cell machine.Content)) (entries : Entries) (n : ℕ) (o : Option (Entry CountedCell)) → by (cell_at (cells_of entries) n) ≡ cell_in o → cells_of (set entries n o) ≡ change by n (cells_of entries)
+cells-set : (by : Option (Cell Placed) → Option (Cell Placed)) (entries : Entries) (n : ℕ) (o : Option (Entry CountedCell)) → by (cell_at (cells_of entries) n) ≡ cell_in o → cells_of (set entries n o) ≡ change by n (cells_of entries)
 cells-set by [] n o is = refl
 cells-set by (first ∷ entries) zero o is = ap (λ c. c ∷ cells_of entries) (sym is)
 cells-set by (first ∷ entries) (suc n) o is = ap (λ cs. cell_in first ∷ cs) (cells-set by entries n o is)
 
--- the entry of a key that was found
-pub cells-written : (by : Option (Cell machine.Content) → Option (Cell machine.Content)) (entries : Entries) (n : ℕ) (key : Key) (o : Option (Entry CountedCell)) → Some key ≡ key_in n (get_or entries n None) → by (cell_at (cells_of entries) n) ≡ cell_in o → cells_of (set entries (serial_of key) o) ≡ change by n (cells_of entries)
-cells-written by entries n key o is written =
-    let at = found entries n key is in
-    cells-set by entries (serial_of key) o (ap (λ m. by (cell_at (cells_of entries) m)) at.0 ∙ written)
-    ∙ ap (λ m. change by m (cells_of entries)) at.0
+-- the entry of a key
+pub cells-written : (by : Option (Cell Placed) → Option (Cell Placed)) (a : Contents CountedCell) (key : Key) (value : CountedCell) (o : Option (Entry CountedCell)) → IsNamed key → Some value ≡ value_at a key → by (Some (cell_of key.slot value)) ≡ cell_in o → cells_of (set a.entries (serial_of key) o) ≡ change by (number_in (cells_of a.entries) (name_of key)) (cells_of a.entries)
+cells-written by a key value o named is written =
+    cells-set by a.entries (serial_of key) o (ap by (own_cell a key value is) ∙ written)
+    ∙ ap (λ n. change by n (cells_of a.entries)) (sym (own_number a key value named is))
 
--- what stands there
-pub cell_found : (entries : Entries) (n : ℕ) (key : Key) (value : CountedCell) → Some key ≡ key_in n (get_or entries n None) → Some value ≡ value_in key.slot (get_or entries (serial_of key) None) → cell_at (cells_of entries) n ≡ Some (cell_of value)
-cell_found entries n key value is there = sym ((found entries n key is).1) ∙ ap (option_map cell_of) (sym there)
-
-pub cell_lost : (entries : Entries) (n : ℕ) (key : Key) → Some key ≡ key_in n (get_or entries n None) → None ≡ value_in key.slot (get_or entries (serial_of key) None) → cell_at (cells_of entries) n ≡ None
-cell_lost entries n key is there = sym ((found entries n key is).1) ∙ ap (option_map cell_of) (sym there)
-
-pub cells-made : (entries : Entries) (slot : ℕ) (content : machine.Content) (cell : CountedCell) → cell_of cell ≡ record { count = 1; content = content } → cells_of (entries ++ Some (record { slot = slot; value = cell }) ∷ []) ≡ make content (cells_of entries)
-cells-made entries slot content cell is =
-    map-append cell_in entries (Some (record { slot = slot; value = cell }) ∷ [])
-    ∙ ap (λ c. cells_of entries ++ Some c ∷ []) is
+pub cells-made : (entries : Entries) (slot : ℕ) (content : Content) → cells_of (entries ++ Some (record { slot = slot; value = record { count = 1; content = content } }) ∷ []) ≡ make (record { slot = slot; holds = content_named content }) (cells_of entries)
+cells-made entries slot content =
+    map-append cell_in entries (Some (record { slot = slot; value = record { count = 1; content = content } }) ∷ [])
 
 pub length-cells : (entries : Entries) → length (cells_of entries) ≡ length entries
 length-cells entries = length-map entries cell_in
 
--- the numbers of the arena's keys are those of the cells
-pub numbers-cells : (n : ℕ) (entries : Entries) → map contents.number_of (keys_from n entries) ≡ numbers_from n (cells_of entries)
-numbers-cells n [] = refl
-numbers-cells n (None ∷ entries) = numbers-cells (n + 1) entries
-numbers-cells n (Some entry ∷ entries) =
-    ap (λ m. m ∷ map contents.number_of (keys_from (n + 1) entries)) (serial_of-key_with entry.slot n)
-    ∙ ap (λ ns. n ∷ ns) (numbers-cells (n + 1) entries)
+-- ---- the arena's keys are those of the cells
+pub keys-cells : (n : ℕ) (entries : Entries) → arena.keys_from n entries ≡ keys_from n (cells_of entries)
+keys-cells n [] = refl
+keys-cells n (None ∷ entries) = keys-cells (n + 1) entries
+keys-cells n (Some entry ∷ entries) = ap (λ ks. key_with entry.slot n ∷ ks) (keys-cells (n + 1) entries)
+
+number_with : (slot n : ℕ) → n < 2 ^ 128 → number_of (key_with slot n) ≡ n
+number_with slot n small = ap (λ m. (slot * 2 ^ 128 + m) % 2 ^ 128) (serial_of-key_with slot n) ∙ rest
+  where
+    rest : (slot * 2 ^ 128 + n) % 2 ^ 128 ≡ n
+    rest = omega (arith, small)
+
+pub numbers-cells : (n : ℕ) (entries : Entries) → n + length entries ≤ 2 ^ 128 → map number_of (arena.keys_from n entries) ≡ numbers_from n (cells_of entries)
+numbers-cells n [] few = refl
+numbers-cells n (None ∷ entries) few = numbers-cells (n + 1) entries (omega (arith, few))
+numbers-cells n (Some entry ∷ entries) few =
+    ap (λ m. m ∷ map number_of (arena.keys_from (n + 1) entries)) (number_with entry.slot n (omega (arith, few)))
+    ∙ ap (λ ns. n ∷ ns) (numbers-cells (n + 1) entries (omega (arith, few)))
 
 -- a consequence of what was answered
 pub if_ok : {T E : Type 0} {P Q : T → Type 0} (r : Result T E) → ((x : T) → P x → Q x) → IfOk r P → IfOk r Q

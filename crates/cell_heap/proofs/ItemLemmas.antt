@@ -5,7 +5,7 @@ use Rattle.std.specs.Option.{option_map, option_flatten, unwrap_or}
 use Rattle.std.proofs.lemmas.List.{map-append, length-append}
 use Rattle.c_core.specs.Machine as machine
 use Rattle.cell_heap.specs.declared.word.Word.{Word}
-use Rattle.cell_heap.specs.Contents.{word_of, pair_of}
+use Rattle.cell_heap.specs.Contents.{word_named, pair_named}
 use Rattle.cell_heap.specs.Words.{set_value}
 
 pub set_none : {A : Type 0} (xs : List A) (i : ℕ) (y : A) → slice_get xs i ≡ None → xs ≡ slice_set xs i y
@@ -30,22 +30,22 @@ flat_get f (Some x ∷ xs) zero = refl
 flat_get f (x ∷ xs) (suc i) = flat_get f xs i
 
 -- ---- pairs
-pub value_none : (ps : List (Word × Word)) (i : ℕ) (o : Option machine.Word) → slice_get ps i ≡ None → map pair_of ps ≡ set_value (map pair_of ps) i o
+pub value_none : (ps : List (Word × Word)) (i : ℕ) (o : Option machine.Word) → slice_get ps i ≡ None → map pair_named ps ≡ set_value (map pair_named ps) i o
 value_none [] i o e = refl
 value_none (p ∷ ps) zero o e = cc
-value_none (p ∷ ps) (suc i) o e = ap (λ z. pair_of p ∷ z) (value_none ps i o e)
+value_none (p ∷ ps) (suc i) o e = ap (λ z. pair_named p ∷ z) (value_none ps i o e)
 
-or_mapped : (o : Option Word) (w : Word) → word_of (unwrap_or o w) ≡ unwrap_or (option_map word_of o) (word_of w)
+or_mapped : (o : Option Word) (w : Word) → word_named (unwrap_or o w) ≡ unwrap_or (option_map word_named o) (word_named w)
 or_mapped None w = refl
 or_mapped (Some v) w = refl
 
-pub value_set : (ps : List (Word × Word)) (i : ℕ) (o : Option Word) (old : Word × Word) → slice_get ps i ≡ Some old → map pair_of (slice_set ps i (old.0, unwrap_or o old.1)) ≡ set_value (map pair_of ps) i (option_map word_of o)
+pub value_set : (ps : List (Word × Word)) (i : ℕ) (o : Option Word) (old : Word × Word) → slice_get ps i ≡ Some old → map pair_named (slice_set ps i (old.0, unwrap_or o old.1)) ≡ set_value (map pair_named ps) i (option_map word_named o)
 value_set [] i o old e = cc
 value_set (p ∷ ps) zero o old e =
     let is : p ≡ old = cc in
-    ap (λ (q : Word × Word). (word_of q.0, word_of (unwrap_or o q.1)) ∷ map pair_of ps) (sym is)
-    ∙ ap (λ w. (word_of p.0, w) ∷ map pair_of ps) (or_mapped o p.1)
-value_set (p ∷ ps) (suc i) o old e = ap (λ z. pair_of p ∷ z) (value_set ps i o old e)
+    ap (λ (q : Word × Word). (word_named q.0, word_named (unwrap_or o q.1)) ∷ map pair_named ps) (sym is)
+    ∙ ap (λ w. (word_named p.0, w) ∷ map pair_named ps) (or_mapped o p.1)
+value_set (p ∷ ps) (suc i) o old e = ap (λ z. pair_named p ∷ z) (value_set ps i o old e)
 
 -- ---- the last item
 length_more : {A : Type 0} (xs : List A) (y : A) → length (xs ++ y ∷ []) - 1 ≡ length xs
@@ -55,9 +55,9 @@ get_end : {A : Type 0} (xs : List A) (y : A) → slice_get (xs ++ y ∷ []) (len
 get_end [] y = refl
 get_end (x ∷ xs) y = get_end xs y
 
-pub last_item : (items rest : List Word) (o : Option Word) → MatchOption o ((items ≡ []) × (rest ≡ [])) (λ w. items ≡ rest ++ w ∷ []) → option_map word_of o ≡ slice_get (map word_of items) (length (map word_of items) - 1)
-last_item items rest None e = sym (ap (λ z. slice_get (map word_of z) (length (map word_of z) - 1)) e.0)
+pub last_item : (items rest : List Word) (o : Option Word) → MatchOption o ((items ≡ []) × (rest ≡ [])) (λ w. items ≡ rest ++ w ∷ []) → option_map word_named o ≡ slice_get (map word_named items) (length (map word_named items) - 1)
+last_item items rest None e = sym (ap (λ z. slice_get (map word_named z) (length (map word_named z) - 1)) e.0)
 last_item items rest (Some w) e =
-    let ws = map word_of rest in
-    let is : map word_of items ≡ ws ++ word_of w ∷ [] = ap (map word_of) e ∙ map-append word_of rest (w ∷ []) in
-    sym (ap (λ z. slice_get z (length z - 1)) is ∙ ap (slice_get (ws ++ word_of w ∷ [])) (length_more ws (word_of w)) ∙ get_end ws (word_of w))
+    let ws = map word_named rest in
+    let is : map word_named items ≡ ws ++ word_named w ∷ [] = ap (map word_named) e ∙ map-append word_named rest (w ∷ []) in
+    sym (ap (λ z. slice_get z (length z - 1)) is ∙ ap (slice_get (ws ++ word_named w ∷ [])) (length_more ws (word_named w)) ∙ get_end ws (word_named w))

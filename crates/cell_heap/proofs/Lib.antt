@@ -1,3 +1,6 @@
+pub mod CellLemmas
+pub mod OursLemmas
+pub mod NumberedLemmas
 pub mod HeldLemmas
 pub mod MarkLemmas
 pub mod ReleaseLemmas

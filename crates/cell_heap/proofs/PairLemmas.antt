@@ -3,17 +3,18 @@ use Rattle.std.proofs.Common.{◌≡◌, refl, sym, ap, ◌∙◌, ℕ, zero, su
 use Rattle.std.specs.Prelude.{map, nat_lt}
 use Rattle.std.specs.List.{prefix_len, position_or_len, position}
 use Rattle.std.proofs.lemmas.List.{map-append, length-map}
-use Rattle.c_core.specs.Cells.{Cells, content_at}
-use Rattle.c_core.specs.Keys.{Key, key_of}
-use Rattle.c_core.specs.Machine.{Word, Content}
+use Rattle.c_core.specs.Cells.{Cells}
+use Rattle.c_core.specs.Keys.{Key}
+use Rattle.c_core.specs.Machine.{Word}
 use Rattle.cell_heap.specs.declared.word.Word as word
 use Rattle.cell_heap.specs.declared.content.Content as held
 use Rattle.cell_heap.specs.declared.pairs.Pairs.{Pairs}
 use Rattle.cell_heap.specs.declared.content.Content.TheVariants.{Dict}
-use Rattle.cell_heap.specs.Contents.{pair_of, content_of}
+use Rattle.cell_heap.specs.Contents.{pair_named, content_named}
 use Rattle.cell_heap.specs.Marks.{first_words}
 use Rattle.cell_heap.specs.Words.{set_value}
-use Rattle.cell_heap.specs.Pairs.{place_for, pairs_held, place_at}
+use Rattle.cell_heap.specs.Pairs.{pairs_held}
+use Rattle.cell_heap.specs.Placed.{Placed, held_at, key_under, place_among, place_under}
 
 -- ---- the place at which a test passes
 prefix_mapped : {A B : Type 0} (f : A → B) (p : B → Bool) (xs : List A) → prefix_len p (map f xs) ≡ prefix_len (λ x. p (f x)) xs
@@ -27,18 +28,18 @@ position_mapped f p xs =
     ∙ ap (λ m. cond (nat_lt n m) (Some n) None) (length-map xs f))
 
 -- what holds no dict has no place for a key
-no_pairs : (x : held.Content) → ((dict : Pairs) → x ≡ Dict dict → ⊥) → pairs_held (Some (content_of x)) ≡ []
+no_pairs : (x : held.Content) → ((dict : Pairs) → x ≡ Dict dict → ⊥) → pairs_held (Some (content_named x)) ≡ []
 no_pairs (Dict dict) other = absurd (other dict refl)
 no_pairs _ other = refl
 
-none_among : (cells : Cells Content) (o : Option Key) → None ≡ place_for cells o []
+none_among : (cells : Cells Placed) (o : Option Key) → None ≡ place_among cells o []
 none_among cells None = refl
 none_among cells (Some k) = refl
 
-pub no_place : (cells : Cells Content) (c : ℕ) (w : Word) (x : held.Content) → content_at cells c ≡ Some (content_of x) → ((dict : Pairs) → x ≡ Dict dict → ⊥) → None ≡ place_at cells c w
-no_place cells c w x there other =
-    none_among cells (key_of cells w)
-    ∙ sym (ap (λ o. place_for cells (key_of cells w) (pairs_held o)) there ∙ ap (place_for cells (key_of cells w)) (no_pairs x other))
+pub no_place : (cells : Cells Placed) (name : ℕ) (w : Word) (x : held.Content) → held_at cells name ≡ Some (content_named x) → ((dict : Pairs) → x ≡ Dict dict → ⊥) → None ≡ place_under cells name w
+no_place cells name w x there other =
+    none_among cells (key_under cells w)
+    ∙ sym (ap (λ o. place_among cells (key_under cells w) (pairs_held o)) there ∙ ap (place_among cells (key_under cells w)) (no_pairs x other))
 
 -- ---- a pair is taken out
 map_take : {A B : Type 0} (f : A → B) (i : ℕ) (xs : List A) → map f (take i xs) ≡ take i (map f xs)
@@ -58,15 +59,15 @@ map_without f i xs =
     ∙ ap (λ ys. take i (map f xs) ++ ys) (map_drop f (i + 1) xs)
 
 -- ---- a value is written
-firsts_of : (ps : List (word.Word × word.Word)) → first_words ps ≡ map (λ p. p.0) (map pair_of ps)
+firsts_of : (ps : List (word.Word × word.Word)) → first_words ps ≡ map (λ p. p.0) (map pair_named ps)
 firsts_of [] = refl
-firsts_of (p ∷ ps) = ap (λ ws. (pair_of p).0 ∷ ws) (firsts_of ps)
+firsts_of (p ∷ ps) = ap (λ ws. (pair_named p).0 ∷ ws) (firsts_of ps)
 
 firsts_stay : (ps : List (Word × Word)) (i : ℕ) (o : Option Word) → map (λ p. p.0) (set_value ps i o) ≡ map (λ p. p.0) ps
 firsts_stay [] i o = refl
 firsts_stay (p ∷ ps) zero o = refl
 firsts_stay (p ∷ ps) (suc i) o = ap (λ ws. p.0 ∷ ws) (firsts_stay ps i o)
 
-pub keys_written : (ps qs : List (word.Word × word.Word)) (i : ℕ) (o : Option Word) → map pair_of qs ≡ set_value (map pair_of ps) i o → first_words qs ≡ first_words ps
+pub keys_written : (ps qs : List (word.Word × word.Word)) (i : ℕ) (o : Option Word) → map pair_named qs ≡ set_value (map pair_named ps) i o → first_words qs ≡ first_words ps
 keys_written ps qs i o is =
-    firsts_of qs ∙ ap (map (λ p. p.0)) is ∙ firsts_stay (map pair_of ps) i o ∙ sym (firsts_of ps)
+    firsts_of qs ∙ ap (map (λ p. p.0)) is ∙ firsts_stay (map pair_named ps) i o ∙ sym (firsts_of ps)

@@ -1,5 +1,8 @@
 pub mod Contents
+pub mod Placed
 pub mod Numbers
+pub mod Numbered
+pub mod Ours
 pub mod Words
 pub mod Pairs
 pub mod Seen

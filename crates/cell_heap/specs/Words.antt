@@ -53,12 +53,13 @@ without_last (ListCell items) = ListCell (take (length items - 1) items)
 without_last content = content
 
 -- the cells with what a cell holds replaced by a function of it; where the cell is gone they stay
-abbrev pub refill_from : (Content → Content) → Option Content → ℕ → Cells Content → Cells Content
-refill_from f None c cells = cells
-refill_from f (Some content) c cells = refill (f content) c cells
+module _ {X : Type 0} where
+  abbrev pub refill_from : (X → X) → Option X → ℕ → Cells X → Cells X
+  refill_from f None c cells = cells
+  refill_from f (Some content) c cells = refill (f content) c cells
 
-abbrev pub refill_by : (Content → Content) → ℕ → Cells Content → Cells Content
-refill_by f c cells = refill_from f (content_at cells c) c cells
+  abbrev pub refill_by : (X → X) → ℕ → Cells X → Cells X
+  refill_by f c cells = refill_from f (content_at cells c) c cells
 
 -- the word at a place of a cell, and the last one of the list that a cell holds
 abbrev pub word_at : Cells Content → ℕ → ℕ → Option Word

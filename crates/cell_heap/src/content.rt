@@ -1,6 +1,6 @@
 ghost use Rattle.std.specs.Prelude.{◌≡◌, [], map, slice_get, slice_set, IfSome, OnOk, OnErr};
 ghost use Rattle.std.specs.Option.{option_map};
-ghost use Rattle.cell_heap.specs.Contents.{word_of, pair_of, content_of};
+ghost use Rattle.cell_heap.specs.Contents.{word_named, pair_named, content_named};
 ghost use Rattle.cell_heap.specs.Marks.{marks_of, keys_in, KeepsKeys, IsPut, IsTakenOut};
 ghost use Rattle.cell_heap.specs.Pairs.{with_pair, pair_in, without_pair};
 ghost use Rattle.cell_heap.specs.Words.{word_in, set_item, set_value, with_word, with_last, last_in, without_last};
@@ -32,7 +32,7 @@ pub enum Content {
 impl Content {
     /// Forgets the marks of a dict's keys.
     pub(crate) fn forget_marks(&mut self)
-        ensures content { content_of self.new ≡ content_of self.old }
+        ensures content { content_named self.new ≡ content_named self.old }
         ensures marks { IfSome (marks_of self.new) (λ marks. (marks ≡ []) × (keys_in self.new ≡ [])) }
     {
         if let Content::Dict(dict) = self {
@@ -42,7 +42,7 @@ impl Content {
 
     /// The word at a place: an item, the value of a pair, or what an attribute holds.
     pub(crate) fn word_at(&self, place: usize) -> Option<Word>
-        ensures { option_map word_of result ≡ word_in place (content_of self.now) }
+        ensures { option_map word_named result ≡ word_in place (content_named self.now) }
     {
         match self {
             Content::Int(_) | Content::Str(_) | Content::Exc(_, _) => None,
@@ -57,8 +57,8 @@ impl Content {
 
     /// Writes a word to a place, or nothing to that of an attribute, and answers what stood there.
     pub(crate) fn set_word(&mut self, place: usize, word: Option<Word>) -> Option<Word>
-        ensures written { content_of self.new ≡ with_word place (option_map word_of word) (content_of self.old) }
-        ensures old { option_map word_of result ≡ word_in place (content_of self.old) }
+        ensures written { content_named self.new ≡ with_word place (option_map word_named word) (content_named self.old) }
+        ensures old { option_map word_named result ≡ word_in place (content_named self.old) }
         ensures keys { KeepsKeys self.old self.new }
     {
         match self {
@@ -72,8 +72,8 @@ impl Content {
 
     /// Puts a word at the end of a list.
     pub(crate) fn push_word(&mut self, word: Word) -> Result<(), Memory>
-        ensures ok { OnOk result (content_of self.new ≡ with_last (word_of word) (content_of self.old)) }
-        ensures err { OnErr result (content_of self.new ≡ content_of self.old) }
+        ensures ok { OnOk result (content_named self.new ≡ with_last (word_named word) (content_named self.old)) }
+        ensures err { OnErr result (content_named self.new ≡ content_named self.old) }
         ensures keys { KeepsKeys self.old self.new }
     {
         match self {
@@ -84,8 +84,8 @@ impl Content {
 
     /// Takes the last word off a list that has one.
     pub(crate) fn pop_word(&mut self) -> Option<Word>
-        ensures rest { content_of self.new ≡ without_last (content_of self.old) }
-        ensures last { option_map word_of result ≡ last_in (content_of self.old) }
+        ensures rest { content_named self.new ≡ without_last (content_named self.old) }
+        ensures last { option_map word_named result ≡ last_in (content_named self.old) }
         ensures keys { KeepsKeys self.old self.new }
     {
         match self {
@@ -96,7 +96,7 @@ impl Content {
 
     /// Puts a pair behind the others of a dict, whose key has a mark or none.
     pub(crate) fn push_pair(&mut self, pair: (Word, Word), mark: Option<u64>) -> Result<(), Memory>
-        ensures ok { OnOk result (content_of self.new ≡ with_pair (pair_of pair) (content_of self.old)) }
+        ensures ok { OnOk result (content_named self.new ≡ with_pair (pair_named pair) (content_named self.old)) }
         ensures marked { OnOk result (IsPut pair mark self.old self.new) }
         ensures err { OnErr result (self.new ≡ self.old) }
     {
@@ -108,8 +108,8 @@ impl Content {
 
     /// Takes the pair at a place out of a dict that has one there.
     pub(crate) fn take_pair(&mut self, alloc: Global, place: usize) -> Option<(Word, Word)>
-        ensures rest { content_of self.new ≡ without_pair place (content_of self.old) }
-        ensures pair { option_map pair_of result ≡ pair_in place (content_of self.old) }
+        ensures rest { content_named self.new ≡ without_pair place (content_named self.old) }
+        ensures pair { option_map pair_named result ≡ pair_in place (content_named self.old) }
         ensures marked { IsTakenOut place self.old self.new }
     {
         match self {
@@ -135,7 +135,7 @@ fn replaced<T: Copy>(elements: &mut Many<T>, place: usize, element: T) -> Option
 
 // Writes a word to a place of the items, if there is such a place, and answers the one that stood there.
 fn write_item(items: &mut Many<Word>, place: usize, word: Option<Word>) -> Option<Word>
-    ensures written { map word_of items.new ≡ set_item (map word_of items.old) place (option_map word_of word) }
+    ensures written { map word_named items.new ≡ set_item (map word_named items.old) place (option_map word_named word) }
     ensures old { result ≡ slice_get items.old place }
 {
     match word {
@@ -146,7 +146,7 @@ fn write_item(items: &mut Many<Word>, place: usize, word: Option<Word>) -> Optio
 
 // Writes a word as the value of the pair at a place, if there is such a place, and answers the one that stood there.
 fn write_value(pairs: &mut Many<(Word, Word)>, place: usize, word: Option<Word>) -> Option<Word>
-    ensures written { map pair_of pairs.new ≡ set_value (map pair_of pairs.old) place (option_map word_of word) }
+    ensures written { map pair_named pairs.new ≡ set_value (map pair_named pairs.old) place (option_map word_named word) }
     ensures old { result ≡ option_map (λ pair. pair.1) (slice_get pairs.old place) }
 {
     match pairs.get(place).copied() {

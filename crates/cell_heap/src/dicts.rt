@@ -2,12 +2,11 @@
 ghost use Rattle.std.specs.Prelude.{◌≡◌, map, slice_get, IfSome};
 ghost use Rattle.std.specs.List.{position};
 ghost use Rattle.std.specs.Option.{option_copied, option_map};
-ghost use Rattle.c_core.specs.Cells.{content_at};
 ghost use Rattle.c_core.specs.Keys as keys;
-ghost use Rattle.cell_heap.specs.Contents.{number_of, word_of, pair_of, content_of};
+ghost use Rattle.cell_heap.specs.Contents.{name_of, word_named, pair_named, content_named};
 ghost use Rattle.cell_heap.specs.Held.{cells_of};
 ghost use Rattle.cell_heap.specs.Marks.{marks_in, AreMarked, has_key, mark_of, number_mark, text_mark};
-ghost use Rattle.cell_heap.specs.Pairs as pairs_of;
+ghost use Rattle.cell_heap.specs.Placed.{held_at, key_under, is_there, place_among};
 ghost use Rattle.cell_heap.specs.Seen.{key_seen};
 
 use crate::cells::{CountedCell, lookup};
@@ -25,9 +24,9 @@ pub(crate) enum DictKey<'a> {
     Truth(bool),
 }
 
-/// Whether the cell of a word is there, if it has one.
+/// Whether the key of a word is in the map, if it has one.
 pub(crate) fn has_cell(cells: &Arena<CountedCell>, word: Word) -> bool
-    ensures { result ≡ pairs_of.has_cell (cells_of cells.now.entries) (word_of word) }
+    ensures { result ≡ is_there (cells_of cells.now.entries) (word_named word) }
 {
     match word {
         Word::Big(key) | Word::Cell(key) => lookup(cells, key).is_some(),
@@ -37,8 +36,8 @@ pub(crate) fn has_cell(cells: &Arena<CountedCell>, word: Word) -> bool
 
 /// The place of the first pair of a dict whose key equals that of a word. There is none where the word is no key.
 pub(crate) fn place_of_key(cells: &Arena<CountedCell>, dict: &Pairs, word: Word) -> Option<usize>
-    requires { IfSome (marks_in dict.now) (AreMarked (cells_of cells.now.entries) (map (λ pair. word_of pair.0) dict.now.pairs)) }
-    ensures { result ≡ pairs_of.place_for (cells_of cells.now.entries) (keys.key_of (cells_of cells.now.entries) (word_of word)) (map pair_of dict.now.pairs) }
+    requires { IfSome (marks_in dict.now) (AreMarked (cells_of cells.now.entries) (map (λ pair. word_named pair.0) dict.now.pairs)) }
+    ensures { result ≡ place_among (cells_of cells.now.entries) (key_under (cells_of cells.now.entries) (word_named word)) (map pair_named dict.now.pairs) }
 {
     match key_of(cells, word) {
         None => None,
@@ -48,8 +47,8 @@ pub(crate) fn place_of_key(cells: &Arena<CountedCell>, dict: &Pairs, word: Word)
 
 /// The place of the first pair of a dict that has this key.
 fn place_in(cells: &Arena<CountedCell>, dict: &Pairs, key: DictKey<'_>) -> Option<usize>
-    requires { IfSome (marks_in dict.now) (AreMarked (cells_of cells.now.entries) (map (λ pair. word_of pair.0) dict.now.pairs)) }
-    ensures { result ≡ position (λ pair. keys.is_key (key_seen key.entry) (keys.key_of (cells_of cells.now.entries) (word_of pair.0))) dict.now.pairs }
+    requires { IfSome (marks_in dict.now) (AreMarked (cells_of cells.now.entries) (map (λ pair. word_named pair.0) dict.now.pairs)) }
+    ensures { result ≡ position (λ pair. keys.is_key (key_seen key.entry) (key_under (cells_of cells.now.entries) (word_named pair.0))) dict.now.pairs }
 {
     match &dict.marks {
         None => place_of(cells, dict.pairs.as_slice(), key),
@@ -64,8 +63,8 @@ fn marked_place(
     marks: &IndexSet<u64>,
     key: DictKey<'_>,
 ) -> Option<usize>
-    requires { AreMarked (cells_of cells.now.entries) (map (λ pair. word_of pair.0) pairs.now) marks.now.keys }
-    ensures { result ≡ position (λ pair. keys.is_key (key_seen key.entry) (keys.key_of (cells_of cells.now.entries) (word_of pair.0))) pairs.now }
+    requires { AreMarked (cells_of cells.now.entries) (map (λ pair. word_named pair.0) pairs.now) marks.now.keys }
+    ensures { result ≡ position (λ pair. keys.is_key (key_seen key.entry) (key_under (cells_of cells.now.entries) (word_named pair.0))) pairs.now }
 {
     match marks.get_index_of(&mark(key)) {
         None => None,
@@ -97,7 +96,7 @@ fn is_key_at(
 
 /// The mark of the key that a word is, if it is one.
 pub(crate) fn mark_of_word(cells: &Arena<CountedCell>, word: Word) -> Option<u64>
-    ensures { result ≡ option_map mark_of (keys.key_of (cells_of cells.now.entries) (word_of word)) }
+    ensures { result ≡ option_map mark_of (key_under (cells_of cells.now.entries) (word_named word)) }
 {
     match key_of(cells, word) {
         None => None,
@@ -125,9 +124,9 @@ fn number_mark(n: i128) -> u64
 }
 
 fn text_mark(bytes: &[u8]) -> u64
-    ensures { result ≡ text_mark 0 bytes.now }
+    ensures { result ≡ text_mark 1 bytes.now }
 {
-    let mut mark = 0;
+    let mut mark = 1;
     for byte in bytes {
         mark = ((mark as u128 * 1_099_511_628_211 + u128::from(*byte))
             % 0x1_0000_0000_0000_0000) as u64;
@@ -137,14 +136,14 @@ fn text_mark(bytes: &[u8]) -> u64
 
 /// The place of the first of pairs that has this key.
 fn place_of(cells: &Arena<CountedCell>, pairs: &[(Word, Word)], key: DictKey<'_>) -> Option<usize>
-    ensures { result ≡ position (λ pair. keys.is_key (key_seen key.entry) (keys.key_of (cells_of cells.now.entries) (word_of pair.0))) pairs.now }
+    ensures { result ≡ position (λ pair. keys.is_key (key_seen key.entry) (key_under (cells_of cells.now.entries) (word_named pair.0))) pairs.now }
 {
     pairs.iter().position(|pair| is_key(cells, key, pair.0))
 }
 
 /// Whether a word is a key that equals this one.
 fn is_key(cells: &Arena<CountedCell>, key: DictKey<'_>, word: Word) -> bool
-    ensures { result ≡ keys.is_key (key_seen key.entry) (keys.key_of (cells_of cells.now.entries) (word_of word)) }
+    ensures { result ≡ keys.is_key (key_seen key.entry) (key_under (cells_of cells.now.entries) (word_named word)) }
 {
     match key_of(cells, word) {
         None => false,
@@ -152,9 +151,9 @@ fn is_key(cells: &Arena<CountedCell>, key: DictKey<'_>, word: Word) -> bool
     }
 }
 
-/// What a word is as a key, nothing where it is none or its cell is gone.
+/// What a word is as a key of a dict, nothing where it is none or its own key is not in the map.
 fn key_of(cells: &Arena<CountedCell>, word: Word) -> Option<DictKey<'_>>
-    ensures { option_map key_seen result ≡ keys.key_of (cells_of cells.now.entries) (word_of word) }
+    ensures { option_map key_seen result ≡ key_under (cells_of cells.now.entries) (word_named word) }
 {
     match word {
         Word::PyTrue => Some(DictKey::Truth(true)),
@@ -167,9 +166,9 @@ fn key_of(cells: &Arena<CountedCell>, word: Word) -> Option<DictKey<'_>>
     }
 }
 
-/// What the cell that a key names holds, if it is there.
+/// What the cell that a key names holds, if it is in the map.
 fn held(cells: &Arena<CountedCell>, key: Key) -> Option<&Content>
-    ensures { option_map content_of (option_copied result) ≡ content_at (cells_of cells.now.entries) (number_of key) }
+    ensures { option_map content_named (option_copied result) ≡ held_at (cells_of cells.now.entries) (name_of key) }
 {
     match lookup(cells, key) {
         None => None,
@@ -179,7 +178,7 @@ fn held(cells: &Arena<CountedCell>, key: Key) -> Option<&Content>
 
 /// What a content is as a key, if it is one.
 fn key_in(content: &Content) -> Option<DictKey<'_>>
-    ensures { option_map key_seen result ≡ keys.key_in (content_of content.now) }
+    ensures { option_map key_seen result ≡ keys.key_in (content_named content.now) }
 {
     match content {
         Content::Int(n) => Some(DictKey::Number(*n)),

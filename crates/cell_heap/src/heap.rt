@@ -1,4 +1,4 @@
-use crate::cells::{CountedCell, found, lookup, lookup_mut};
+use crate::cells::{CountedCell, lookup, lookup_mut};
 use crate::content::Content;
 use crate::dicts::{has_cell, mark_of_word, place_of_key};
 use crate::release::give;
@@ -9,7 +9,7 @@ use std::marker::Model;
 use thiserror::Error;
 use value_core::{Many, Memory as NoMemory};
 
-/// The cell of the key is gone.
+/// The key is not in the map: its cell is gone, or the key is another heap's.
 #[derive(Clone, Copy, Debug, PartialEq, Eq, Error)]
 #[error("the cell is gone")]
 pub struct Dead;
@@ -17,7 +17,7 @@ pub struct Dead;
 /// Why a call that may take memory did nothing.
 #[derive(Clone, Copy, Debug, PartialEq, Eq, Error)]
 pub enum HeapError {
-    /// The cell of the key is gone.
+    /// The key is not in the map: its cell is gone, or the key is another heap's.
     #[error("the cell is gone")]
     Dead,
     #[error("there is no memory")]
@@ -35,7 +35,9 @@ impl From<NoMemory> for HeapError {
     }
 }
 
-/// Counted cells. Contracts see them as the machine's cells (`Cells` of c_core).
+/// Counted cells. Contracts see them as a map from keys: the machine's cells (`Cells` of c_core) by serial, each with the slot
+/// in which it lies (`specs/Placed.antt`). A key is in the map where the cell of its serial is there and lies in the key's
+/// slot; each call by another key answers that the cell is gone.
 #[derive(Drop)]
 pub struct Heap {
     alloc: Global,
@@ -44,9 +46,9 @@ pub struct Heap {
 
 impl Model for Heap {
     ghost use Rattle.c_core.specs.Cells.{Cells};
-    ghost use Rattle.c_core.specs.Machine.{Content};
+    ghost use Rattle.cell_heap.specs.Placed.{Placed};
 
-    ghost Value = { Cells Content };
+    ghost Value = { Cells Placed };
 
     ghost use Rattle.std.specs.Prelude.{◌≡◌, []};
     ghost use Rattle.cell_heap.specs.Held.{cells_of};
@@ -59,14 +61,15 @@ impl Model for Heap {
 
 impl Heap {
     ghost use Rattle.std.specs.Prelude.{◌≡◌, ◌+◌, ◌^◌, ◌<◌, ◌&&◌, [], ◌∷◌, length, map, is_ok, is_some, is_none, true, Some, None, IfSome, IfOk, OnOk, OnErr, MatchResult};
-    ghost use Rattle.c_core.specs.Cells.{content_at, count_at, make, take_one};
-    ghost use Rattle.c_core.specs.Machine.{refs_in};
+    ghost use Rattle.c_core.specs.Cells.{count_at, make, take_one};
     ghost use Rattle.c_core.specs.Release.{release};
-    ghost use Rattle.std.specs.Option.{option_map};
-    ghost use Rattle.cell_heap.specs.Contents.{number_of, word_of, pair_of, content_of};
-    ghost use Rattle.cell_heap.specs.Numbers.{numbers_of};
-    ghost use Rattle.cell_heap.specs.Pairs.{has_cell, place_at, is_dict, with_pair, without_pair, pair_at};
-    ghost use Rattle.cell_heap.specs.Words.{with_word, with_last, without_last, is_list, refill_by, word_at, last_at, is_dead};
+    ghost use Rattle.std.specs.Option.{option_map, option_and_then};
+    ghost use Rattle.slot_arena.specs.Serials.{serial_of};
+    ghost use Rattle.cell_heap.specs.Contents.{name_of, number_of, word_named, pair_named, content_named};
+    ghost use Rattle.cell_heap.specs.Placed.{placed_under, number_in, held_at, refs_under, refill_held, is_there, place_under};
+    ghost use Rattle.cell_heap.specs.Numbers.{keys_of, numbers_of};
+    ghost use Rattle.cell_heap.specs.Pairs.{is_dict, with_pair, without_pair, pair_in};
+    ghost use Rattle.cell_heap.specs.Words.{with_word, with_last, without_last, is_list, word_in, last_in, is_dead};
 
     /// No cell was made yet. It takes no memory.
     pub fn new(alloc: Global) -> Heap
@@ -86,8 +89,9 @@ impl Heap {
     /// `Memory`; then the heap is as before.
     pub fn make(&mut self, mut content: Content) -> Result<Key, NoMemory>
         requires { length self.old + 1 < 2 ^ 128 }
+        ensures serial { IfOk result (λ key. serial_of key ≡ length self.old) }
         ensures key { IfOk result (λ key. number_of key ≡ length self.old) }
-        ensures made { OnOk result (self.new ≡ make (content_of content) self.old) }
+        ensures made { IfOk result (λ key. self.new ≡ make (placed_under key (content_named content)) self.old) }
         ensures err { OnErr result (self.new ≡ self.old) }
     {
         self.cells.reserve(1)?;
@@ -99,11 +103,11 @@ impl Heap {
     ///
     /// # Errors
     ///
-    /// `Dead` exactly where the cell is gone.
+    /// `Dead` exactly where the key is not in the map.
     pub fn take(&mut self, key: Key) -> Result<(), Dead>
-        requires { count_at self.old (number_of key) + 1 < 2 ^ 128 }
-        ensures there { is_ok result ≡ is_some (content_at self.old (number_of key)) }
-        ensures ok { OnOk result (self.new ≡ take_one (number_of key) self.old) }
+        requires { count_at self.old (number_in self.old (name_of key)) + 1 < 2 ^ 128 }
+        ensures there { is_ok result ≡ is_some (held_at self.old (name_of key)) }
+        ensures ok { OnOk result (self.new ≡ take_one (number_in self.old (name_of key)) self.old) }
         ensures dead { OnErr result (self.new ≡ self.old) }
         ensures made { length self.new ≡ length self.old }
     {
@@ -115,18 +119,18 @@ impl Heap {
     }
 
     /// Gives one reference to a cell up. With the last one the cell goes and gives up each reference that it holds, to any
-    /// depth; a reference to a cell that is gone is passed over. It takes no memory.
+    /// depth; a reference whose key is not in the map is passed over. It takes no memory.
     ///
     /// # Errors
     ///
-    /// `Dead` exactly where the cell is gone.
+    /// `Dead` exactly where the key is not in the map.
     pub fn give(&mut self, key: Key) -> Result<(), Dead>
-        ensures there { is_ok result ≡ is_some (content_at self.old (number_of key)) }
-        ensures ok { OnOk result (self.new ≡ release refs_in self.old (number_of key ∷ [])) }
+        ensures there { is_ok result ≡ is_some (held_at self.old (name_of key)) }
+        ensures ok { OnOk result (self.new ≡ release (refs_under self.old) self.old (number_in self.old (name_of key) ∷ [])) }
         ensures dead { OnErr result (self.new ≡ self.old) }
         ensures made { length self.new ≡ length self.old }
     {
-        if found(&self.cells, key).is_some() {
+        if lookup(&self.cells, key).is_some() {
             give(&mut self.cells, key);
             Ok(())
         } else {
@@ -138,9 +142,9 @@ impl Heap {
     ///
     /// # Errors
     ///
-    /// `Dead` exactly where the cell is gone.
+    /// `Dead` exactly where the key is not in the map.
     pub fn content(&self, key: Key) -> Result<&Content, Dead>
-        ensures { MatchResult result (λ content. content_at self.now (number_of key) ≡ Some (content_of content.now)) (λ _. content_at self.now (number_of key) ≡ None) }
+        ensures { MatchResult result (λ content. held_at self.now (name_of key) ≡ Some (content_named content.now)) (λ _. held_at self.now (name_of key) ≡ None) }
     {
         match lookup(&self.cells, key) {
             None => Err(Dead),
@@ -152,10 +156,10 @@ impl Heap {
     ///
     /// # Errors
     ///
-    /// `Dead` exactly where the cell is gone.
+    /// `Dead` exactly where the key is not in the map.
     pub fn count(&self, key: Key) -> Result<u128, Dead>
-        ensures there { is_ok result ≡ is_some (content_at self.now (number_of key)) }
-        ensures count { IfOk result (λ count. count ≡ count_at self.now (number_of key)) }
+        ensures there { is_ok result ≡ is_some (held_at self.now (name_of key)) }
+        ensures count { IfOk result (λ count. count ≡ count_at self.now (number_in self.now (name_of key))) }
     {
         match lookup(&self.cells, key) {
             None => Err(Dead),
@@ -168,10 +172,10 @@ impl Heap {
     ///
     /// # Errors
     ///
-    /// `Dead` exactly where the cell is gone.
+    /// `Dead` exactly where the key is not in the map.
     pub fn word_at(&self, key: Key, place: usize) -> Result<Option<Word>, Dead>
-        ensures there { is_ok result ≡ is_some (content_at self.now (number_of key)) }
-        ensures word { IfOk result (λ word. option_map word_of word ≡ word_at self.now (number_of key) place) }
+        ensures there { is_ok result ≡ is_some (held_at self.now (name_of key)) }
+        ensures word { IfOk result (λ word. option_map word_named word ≡ option_and_then (word_in place) (held_at self.now (name_of key))) }
     {
         match lookup(&self.cells, key) {
             None => Err(Dead),
@@ -185,16 +189,16 @@ impl Heap {
     ///
     /// # Errors
     ///
-    /// `Dead` exactly where the cell is gone; then the heap is as before.
+    /// `Dead` exactly where the key is not in the map; then the heap is as before.
     pub fn set_word(
         &mut self,
         key: Key,
         place: usize,
         word: Option<Word>,
     ) -> Result<Option<Word>, Dead>
-        ensures there { is_ok result ≡ is_some (content_at self.old (number_of key)) }
-        ensures ok { OnOk result (self.new ≡ refill_by (with_word place (option_map word_of word)) (number_of key) self.old) }
-        ensures old { IfOk result (λ old. option_map word_of old ≡ word_at self.old (number_of key) place) }
+        ensures there { is_ok result ≡ is_some (held_at self.old (name_of key)) }
+        ensures ok { OnOk result (self.new ≡ refill_held (with_word place (option_map word_named word)) (name_of key) self.old) }
+        ensures old { IfOk result (λ old. option_map word_named old ≡ option_and_then (word_in place) (held_at self.old (name_of key))) }
         ensures dead { OnErr result (self.new ≡ self.old) }
         ensures made { length self.new ≡ length self.old }
     {
@@ -208,11 +212,11 @@ impl Heap {
     ///
     /// # Errors
     ///
-    /// `Dead` exactly where the cell is gone, and `Memory`; then the heap is as before.
+    /// `Dead` exactly where the key is not in the map, and `Memory`; then the heap is as before.
     pub fn push_word(&mut self, key: Key, word: Word) -> Result<(), HeapError>
-        requires { IfSome (content_at self.old (number_of key)) (λ content. is_list content ≡ true) }
-        ensures there { is_dead result ≡ is_none (content_at self.old (number_of key)) }
-        ensures ok { OnOk result (self.new ≡ refill_by (with_last (word_of word)) (number_of key) self.old) }
+        requires { IfSome (held_at self.old (name_of key)) (λ content. is_list content ≡ true) }
+        ensures there { is_dead result ≡ is_none (held_at self.old (name_of key)) }
+        ensures ok { OnOk result (self.new ≡ refill_held (with_last (word_named word)) (name_of key) self.old) }
         ensures err { OnErr result (self.new ≡ self.old) }
         ensures made { length self.new ≡ length self.old }
     {
@@ -228,11 +232,11 @@ impl Heap {
     ///
     /// # Errors
     ///
-    /// `Dead` exactly where the cell is gone; then the heap is as before.
+    /// `Dead` exactly where the key is not in the map; then the heap is as before.
     pub fn pop_word(&mut self, key: Key) -> Result<Option<Word>, Dead>
-        ensures there { is_ok result ≡ is_some (content_at self.old (number_of key)) }
-        ensures ok { OnOk result (self.new ≡ refill_by without_last (number_of key) self.old) }
-        ensures last { IfOk result (λ last. option_map word_of last ≡ last_at self.old (number_of key)) }
+        ensures there { is_ok result ≡ is_some (held_at self.old (name_of key)) }
+        ensures ok { OnOk result (self.new ≡ refill_held without_last (name_of key) self.old) }
+        ensures last { IfOk result (λ last. option_map word_named last ≡ option_and_then last_in (held_at self.old (name_of key))) }
         ensures dead { OnErr result (self.new ≡ self.old) }
         ensures made { length self.new ≡ length self.old }
     {
@@ -243,25 +247,22 @@ impl Heap {
     }
 
     /// The place of the first pair of the dict that a cell holds whose key equals the key that a word is: a number a number, a text
-    /// a text, a truth a truth. There is none where the word is no key, and none where the cell holds no dict; a key whose cell is
-    /// gone equals none.
+    /// a text, a truth a truth. There is none where the word is no key, and none where the cell holds no dict; a word whose
+    /// key is not in the map equals none.
     ///
     /// # Errors
     ///
-    /// `Dead` exactly where the cell of the dict or that of the word is gone.
+    /// `Dead` exactly where the key of the dict, or that of the word, is not in the map.
     pub fn dict_find(&self, dict: Key, key: Word) -> Result<Option<usize>, Dead>
-        ensures there { is_ok result ≡ (is_some (content_at self.now (number_of dict)) && has_cell self.now (word_of key)) }
-        ensures place { IfOk result (λ place. place ≡ place_at self.now (number_of dict) (word_of key)) }
+        ensures there { is_ok result ≡ (is_some (held_at self.now (name_of dict)) && is_there self.now (word_named key)) }
+        ensures place { IfOk result (λ place. place ≡ place_under self.now (name_of dict) (word_named key)) }
     {
-        let Some(dict) = found(&self.cells, dict) else {
+        let Some(cell) = lookup(&self.cells, dict) else {
             return Err(Dead);
         };
         if !has_cell(&self.cells, key) {
             return Err(Dead);
         }
-        let Some(cell) = self.cells.get(dict) else {
-            return Err(Dead);
-        };
         match &cell.content {
             Content::Dict(dict) => Ok(place_of_key(&self.cells, dict, key)),
             _ => Ok(None),
@@ -272,11 +273,11 @@ impl Heap {
     ///
     /// # Errors
     ///
-    /// `Dead` exactly where the cell is gone, and `Memory`; then the heap is as before.
+    /// `Dead` exactly where the key is not in the map, and `Memory`; then the heap is as before.
     pub fn dict_push(&mut self, dict: Key, pair: (Word, Word)) -> Result<(), HeapError>
-        requires { IfSome (content_at self.old (number_of dict)) (λ content. is_dict content ≡ true) }
-        ensures there { is_dead result ≡ is_none (content_at self.old (number_of dict)) }
-        ensures ok { OnOk result (self.new ≡ refill_by (with_pair (pair_of pair)) (number_of dict) self.old) }
+        requires { IfSome (held_at self.old (name_of dict)) (λ content. is_dict content ≡ true) }
+        ensures there { is_dead result ≡ is_none (held_at self.old (name_of dict)) }
+        ensures ok { OnOk result (self.new ≡ refill_held (with_pair (pair_named pair)) (name_of dict) self.old) }
         ensures err { OnErr result (self.new ≡ self.old) }
         ensures made { length self.new ≡ length self.old }
     {
@@ -294,11 +295,11 @@ impl Heap {
     ///
     /// # Errors
     ///
-    /// `Dead` exactly where the cell is gone; then the heap is as before.
+    /// `Dead` exactly where the key is not in the map; then the heap is as before.
     pub fn dict_take(&mut self, dict: Key, place: usize) -> Result<Option<(Word, Word)>, Dead>
-        ensures there { is_ok result ≡ is_some (content_at self.old (number_of dict)) }
-        ensures ok { OnOk result (self.new ≡ refill_by (without_pair place) (number_of dict) self.old) }
-        ensures pair { IfOk result (λ pair. option_map pair_of pair ≡ pair_at self.old (number_of dict) place) }
+        ensures there { is_ok result ≡ is_some (held_at self.old (name_of dict)) }
+        ensures ok { OnOk result (self.new ≡ refill_held (without_pair place) (name_of dict) self.old) }
+        ensures pair { IfOk result (λ pair. option_map pair_named pair ≡ option_and_then (pair_in place) (held_at self.old (name_of dict))) }
         ensures dead { OnErr result (self.new ≡ self.old) }
         ensures made { length self.new ≡ length self.old }
     {
@@ -311,7 +312,8 @@ impl Heap {
 
     /// The keys of the cells that are there, in the order in which they were made.
     pub fn keys(&self, alloc: Global) -> Result<Many<Key>, NoMemory>
-        ensures { IfOk result (λ keys. map number_of keys ≡ numbers_of self.now) }
+        ensures keys { IfOk result (λ keys. keys ≡ keys_of self.now) }
+        ensures numbers { IfOk result (λ keys. map number_of keys ≡ numbers_of self.now) }
     {
         self.cells.keys(alloc)
     }

@@ -1,21 +1,22 @@
 //! References are given up. A cell without any is condemned, and gives its own up once it is taken off.
-ghost use Rattle.std.specs.Prelude.{◌≡◌, ◌<◌, [], ◌∷◌, Some};
-ghost use Rattle.c_core.specs.Cells.{count_at};
+ghost use Rattle.std.specs.Prelude.{◌≡◌, [], ◌∷◌, true};
+ghost use Rattle.c_core.specs.Cells.{Cells};
 ghost use Rattle.c_core.specs.Machine.{refs_of, refs_in};
-ghost use Rattle.slot_arena.specs.Contents.{key_at};
-ghost use Rattle.cell_heap.specs.Contents.{number_of, word_of, content_of, words_refs, pairs_refs, optional_refs};
-ghost use Rattle.cell_heap.specs.Held.{cells_of, leaves, optional_ref};
+ghost use Rattle.slot_arena.specs.Contents.{value_at};
+ghost use Rattle.cell_heap.specs.Contents.{name_of, word_named, content_named, words_refs, pairs_refs, optional_refs};
+ghost use Rattle.cell_heap.specs.Held.{cells_of, is_shared, leaves, optional_ref, IsLeft, IsNamed};
+ghost use Rattle.cell_heap.specs.Placed.{Placed};
 ghost use Rattle.cell_heap.specs.Marks.{AreAllMarked, Gives};
 
-use crate::cells::{CountedCell, found, is_shared};
+use crate::cells::{CountedCell, lookup, lookup_mut};
 use crate::content::Content;
 use crate::word::Word;
 use slot_arena::{Arena, Key};
 
-/// Gives one reference to the cell that a key names up, and those that cells let go of on the way.
+/// Gives one reference to the cell of a key up, and those that cells let go of on the way.
 pub(crate) fn give(cells: &mut Arena<CountedCell>, key: Key)
     requires { cells.old.condemned ≡ [] }
-    ensures cells { cells_of cells.new.entries ≡ leaves (number_of key ∷ []) cells.old }
+    ensures cells { cells_of cells.new.entries ≡ leaves (cells_of cells.old.entries) (name_of key ∷ []) cells.old }
     ensures done { cells.new.condemned ≡ [] }
     ensures marked { AreAllMarked cells.old → AreAllMarked cells.new }
 {
@@ -25,7 +26,7 @@ pub(crate) fn give(cells: &mut Arena<CountedCell>, key: Key)
 
 /// Takes the condemned cells off until none is left, and gives up what they hold.
 fn take_off_all(cells: &mut Arena<CountedCell>)
-    ensures cells { cells_of cells.new.entries ≡ leaves [] cells.old }
+    ensures cells { (first : Cells Placed) → IsLeft first (cells_of cells.old.entries) → cells_of cells.new.entries ≡ leaves first [] cells.old }
     ensures done { cells.new.condemned ≡ [] }
     ensures marked { AreAllMarked cells.old → AreAllMarked cells.new }
 {
@@ -36,18 +37,15 @@ fn take_off_all(cells: &mut Arena<CountedCell>)
 
 /// Gives up the references that a cell held.
 fn lower_held(cells: &mut Arena<CountedCell>, cell: CountedCell)
-    ensures { Gives (refs_in (content_of cell.content)) cells.old cells.new }
+    ensures { Gives (refs_in (content_named cell.content)) cells.old cells.new }
 {
     lower_content(cells, &cell.content);
 }
 
-/// Gives one reference to the cell that a key names up, if it is there. With the last one it is condemned.
+/// Gives one reference to the cell of a key up, if the key is in the map. With the last one the cell is condemned.
 fn lower(cells: &mut Arena<CountedCell>, key: Key)
-    ensures { Gives (number_of key ∷ []) cells.old cells.new }
+    ensures { Gives (name_of key ∷ []) cells.old cells.new }
 {
-    let Some(key) = found(cells, key) else {
-        return;
-    };
     if is_shared(cells, key) {
         lower_count(cells, key);
     } else {
@@ -55,13 +53,23 @@ fn lower(cells: &mut Arena<CountedCell>, key: Key)
     }
 }
 
+/// Whether there is more than one reference to the cell of a key.
+fn is_shared(cells: &Arena<CountedCell>, key: Key) -> bool
+    ensures shared { result ≡ is_shared (value_at cells.now key) }
+    ensures named { IsNamed key }
+{
+    match lookup(cells, key) {
+        None => false,
+        Some(cell) => cell.count > 1,
+    }
+}
+
 /// One reference less to a cell to which there are more.
 fn lower_count(cells: &mut Arena<CountedCell>, key: Key)
-    requires key { key_at cells.old (number_of key) ≡ Some key }
-    requires shared { 1 < count_at (cells_of cells.old.entries) (number_of key) }
-    ensures { Gives (number_of key ∷ []) cells.old cells.new }
+    requires { is_shared (value_at cells.old key) ≡ true }
+    ensures { Gives (name_of key ∷ []) cells.old cells.new }
 {
-    match cells.get_mut(key) {
+    match lookup_mut(cells, key) {
         None => {}
         Some(cell) => cell.count -= 1,
     }
@@ -69,7 +77,7 @@ fn lower_count(cells: &mut Arena<CountedCell>, key: Key)
 
 /// Gives up the reference of a word, if it has one.
 fn lower_word(cells: &mut Arena<CountedCell>, word: Word)
-    ensures { Gives (refs_of (word_of word)) cells.old cells.new }
+    ensures { Gives (refs_of (word_named word)) cells.old cells.new }
 {
     match word {
         Word::Big(key) | Word::Cell(key) => lower(cells, key),
@@ -89,7 +97,7 @@ fn lower_optional(cells: &mut Arena<CountedCell>, word: Option<Word>)
 
 /// Gives up the references that a content holds.
 fn lower_content(cells: &mut Arena<CountedCell>, content: &Content)
-    ensures { Gives (refs_in (content_of content.now)) cells.old cells.new }
+    ensures { Gives (refs_in (content_named content.now)) cells.old cells.new }
 {
     match content {
         Content::Int(_) | Content::Str(_) | Content::Exc(_, _) => {}

@@ -1,7 +1,7 @@
 ghost use Rattle.std.specs.Prelude.{◌≡◌, option_to_list};
 ghost use Rattle.std.specs.Option.{option_map};
 ghost use Rattle.c_core.specs.Machine.{refs_of};
-ghost use Rattle.cell_heap.specs.Contents.{number_of, word_of};
+ghost use Rattle.cell_heap.specs.Contents.{name_of, number_of, word_named, word_of};
 
 use slot_arena::Key;
 
@@ -31,7 +31,8 @@ pub enum Word {
 impl Word {
     /// The key of the cell that it refers to, if it refers to one.
     pub fn key(self) -> Option<Key>
-        ensures { option_to_list (option_map number_of result) ≡ refs_of (word_of self) }
+        ensures name { option_to_list (option_map name_of result) ≡ refs_of (word_named self) }
+        ensures number { option_to_list (option_map number_of result) ≡ refs_of (word_of self) }
     {
         match self {
             Word::Big(key) | Word::Cell(key) => Some(key),

@@ -2,7 +2,7 @@
 use Rattle.std.proofs.Common.{◌≡◌, ℕ, ◌+◌, ◌^◌, [], ◌∷◌, Some, None, refl}
 use Rattle.slot_arena.specs.declared.key.Key.{Key}
 use Rattle.slot_arena.specs.Serials.{wide_of, serial_of, key_with}
-use Rattle.slot_arena.specs.Contents.{Contents, inserts, value_at, key_at, inserted, removed, condemned_with, taken_off, keys_of}
+use Rattle.slot_arena.specs.Contents.{Contents, inserts, value_at, inserted, removed, condemned_with, taken_off, keys_of}
 use Rattle.slot_arena.specs.Laid.{laid, values_in}
 
 -- the keys of the first three inserts, where the third takes the slot of the first
@@ -34,10 +34,6 @@ found = (refl, refl, refl, refl, refl)
 -- the first key stays dead in its old slot, and a key with the right serial and the wrong slot finds nothing
 dead : (value_at three first ≡ None) × (value_at three third ≡ Some 30) × (value_at three (key_with 1 2) ≡ None) × (three.spare ≡ 0)
 dead = (refl, refl, refl, refl)
-
--- a serial finds its key, whatever the slot, and nothing once that was taken out
-found_again : (key_at three 2 ≡ Some third) × (key_at three 1 ≡ Some second) × (key_at three 0 ≡ None) × (key_at three 3 ≡ None)
-found_again = (refl, refl, refl, refl)
 
 -- in order of serials, whatever the slots
 ordered : (keys_of three ≡ second ∷ third ∷ []) × (keys_of one_condemned ≡ third ∷ [])

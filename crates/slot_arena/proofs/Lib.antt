@@ -10,6 +10,5 @@ pub mod Sound
 pub mod Changes
 pub mod KeyLemmas
 pub mod Keys
-pub mod Finding
 pub mod ContentsLemmas
 pub mod Examples

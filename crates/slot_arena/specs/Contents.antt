@@ -35,15 +35,6 @@ module _ {T : Type 0} where
   abbrev pub ContainsKey : Contents T → Key → Type 0
   ContainsKey a key = IsSome (value_at a key)
 
-  -- the key of an entry with this serial
-  abbrev pub key_in : ℕ → Option (Entry T) → Option Key
-  key_in serial None = None
-  key_in serial (Some entry) = Some (key_with entry.slot serial)
-
-  -- the key of the map that has this serial
-  abbrev pub key_at : Contents T → ℕ → Option Key
-  key_at a serial = key_in serial (slice_index_or a.entries serial None)
-
   -- every key that was made so far finds what it found: one that was taken out stays out
   abbrev pub KeepsEarlier : Contents T → Contents T → Type 0
   KeepsEarlier old new = (key : Key) → serial_of key < inserts old → value_at new key ≡ value_at old key

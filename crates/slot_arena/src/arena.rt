@@ -3,7 +3,7 @@ ghost use Rattle.std.specs.Prelude.{◌≡◌, ◌+◌, ◌-◌, ◌^◌, ◌<�
 ghost use Rattle.std.specs.Option.{option_copied_mut};
 ghost use Rattle.std.specs.Borrow.{sem};
 ghost use Rattle.slot_arena.specs.Serials.{serial_of};
-ghost use Rattle.slot_arena.specs.Contents.{inserts, value_at, key_at, ContainsKey, KeepsEarlier, empty, inserted, removed, condemned_with, taken_off, keys_of};
+ghost use Rattle.slot_arena.specs.Contents.{inserts, value_at, ContainsKey, KeepsEarlier, empty, inserted, removed, condemned_with, taken_off, keys_of};
 
 use crate::key::Key;
 use crate::slot::{Slot, Standing};
@@ -123,18 +123,6 @@ impl<T> Arena<T> {
         } else {
             None
         }
-    }
-
-    /// The key of the map that has this serial, if there is one. It looks at each slot, and takes no memory.
-    pub fn find(&self, serial: u128) -> Option<Key>
-        ensures { result ≡ key_at self.now serial }
-    {
-        for slot in 0..self.slots.len() {
-            if self.slots.at(slot).value(serial).is_some() {
-                return Some(Key::new(slot, serial));
-            }
-        }
-        None
     }
 
     /// Takes a key out of the map and hands its value out, if the key is in the map. It takes no memory.

@@ -1,0 +1,5 @@
+use Rattle.c_runner_deeds.proofs.OursLemmas.{cell_own}
+use Rattle.c_runner_deeds.proofs.state.State.text_argument.Goals as goal
+
+pub text_in-requires : goal.text_in-requires
+text_in-requires c = cell_own c.args.self.now c.in-Some-Var.x c.in-Some-Cell.field-0.now c.in-Some-Cell.key c.in-Some-Cell.ensures.value c.in-Some-Cell.field-0-is
