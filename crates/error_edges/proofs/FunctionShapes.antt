@@ -34,6 +34,7 @@ use Rattle.error_edges.proofs.RegisterLemmas.{type_within}
 use Rattle.error_edges.proofs.Laying.{more_regs, asked, grown_there, grown_count}
 use Rattle.error_edges.proofs.Numbers.{laid_same}
 use Rattle.error_edges.proofs.BlockShapes.{OpsAre, EndIs, EdgeIs, BlocksAre, blocks_fit, laid_fit}
+use Rattle.error_edges.proofs.Giving.{kind_there}
 use Rattle.error_edges.proofs.LineLemmas.{CodeKept, spelled_more, fits_more}
 use Rattle.error_edges.proofs.SpellingLemmas.{map_append, question_spelled}
 
@@ -133,12 +134,7 @@ module _ (p q : Program) (kept : CodeKept (lower p) (lower q)) (classes : q.clas
 
   -- ---- the registers that are added
   kind_known : (r : Reg) (t : RType) → type_of_reg g.regs r ≡ Some t → kind_at vars r.0 ≡ Some (kind_of_type t)
-  kind_known r t e = by g.regs r.0 e
-    where
-      by : (ds : Declared) (i : ℕ) → option_map (λ (x : List ℕ × RType). x.1) (slice_get ds i) ≡ Some t → kind_at (map variable_of ds) i ≡ Some (kind_of_type t)
-      by [] i e = absurd (cc)
-      by (d ∷ ds) zero e = let same : d.1 ≡ t = cc in ap (λ u. Some (kind_of_type u)) same
-      by (d ∷ ds) (suc i) e = by ds i e
+  kind_known r t e = kind_there g.regs r.0 t e
 
   declared : (r : Reg) (t : RType) → type_of_reg g.regs r ≡ Some t → D r
   declared r t e =

@@ -4,6 +4,7 @@ mod Laid
 mod RegisterLemmas
 mod FunctionLemmas
 mod Occurring
+mod Giving
 mod Simulation
 mod Kept
 mod Laying

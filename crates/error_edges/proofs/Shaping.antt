@@ -35,6 +35,7 @@ use Rattle.error_edges.proofs.Laid.{FunctionLaid, BlockStands}
 use Rattle.error_edges.proofs.Laying.{more_regs, function_laid}
 use Rattle.error_edges.proofs.LineLemmas.{CodeKept}
 use Rattle.error_edges.proofs.SpellingLemmas.{map_append, AreNamed, grown_named}
+use Rattle.error_edges.proofs.Giving.{BlocksGive, blocks_of}
 use Rattle.error_edges.proofs.FunctionShapes.{func_fits, function_lines}
 use Rattle.error_edges.proofs.Standing.{has_edges}
 
@@ -251,6 +252,17 @@ module _ (p q : Program) (edged : IsEdgedProgram p q) (shape : Shape p) where
       let one = and_parts (names_differ (map (λ (v : Variable). v.0) c.vars)) (list_all (line_fits (lower p) c.vars c.ret) c.lines && (lines_lead_on c.lines && begins_right c)) known.fits in
       let two = and_parts (list_all (line_fits (lower p) c.vars c.ret) c.lines) (lines_lead_on c.lines && begins_right c) one.1 in
       lines_from_all (lower p) c.vars (kind_of_type f.ret) c.lines body.1 two.0
+
+  -- so what their operations give is of their targets' types
+  gives_at : (n : ℕ) (fs : List Func) → AreGood n fs → (i : ℕ) (f : Func) → slice_get fs i ≡ Some f → BlocksGive f.regs f.blocks
+  gives_at n [] known i f e = absurd (cc)
+  gives_at n (x ∷ fs) known zero f e =
+      let same : x ≡ f = cc in
+      subst (λ (z : Func). BlocksGive z.regs z.blocks) same (blocks_of (lower p) x.regs (kind_of_type x.ret) p 0 x.blocks (old_lines n x known.0))
+  gives_at n (x ∷ fs) known (suc i) f e = gives_at (suc n) fs known.1 i f e
+
+  pub all_give : (n : ℕ) (f : Func) → slice_get p.funcs n ≡ Some f → BlocksGive f.regs f.blocks
+  all_give n f e = gives_at 0 p.funcs good n f e
 
   is_new : (n : ℕ) (f g : Func) → IsEdged f g → IsGood n f → IsNew n g
   is_new n f g e known =

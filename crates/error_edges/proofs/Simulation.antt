@@ -8,6 +8,7 @@ use Rattle.value_core.specs.Value.{Value, BoolVal}
 use Rattle.c_core.specs.declared.code.Kind.{Kind}
 use Rattle.c_core.specs.declared.code.CClass.{CClass}
 use Rattle.c_core.specs.declared.primitive.Primitive.{Primitive}
+use Rattle.c_core.specs.Primitives.{row_of}
 use Rattle.c_core.specs.Functions.{has_kind, method_at, trait_method_at}
 use Rattle.ir_core.specs.declared.code.RType.{RType}
 use Rattle.ir_core.specs.declared.code.RType.TheVariants.{Int, I64, Bool as BoolType, Ref}
@@ -26,7 +27,7 @@ use Rattle.ir_core.specs.declared.code.ErrorKind.TheVariants.{Never, Magic, Alwa
 use Rattle.ir_core.specs.declared.kind.Edge.{Edge}
 use Rattle.ir_core.specs.declared.kind.Edge.TheVariants.{NoEdge, Tests, TestsTwice, Jumps}
 use Rattle.ir_core.specs.Items.{Item, Do, End, in_block, item_of, item_in, handler_of, handler_in, blocks_of}
-use Rattle.ir_core.specs.Rows.{Failing, NeverFails, MayFail, AlwaysFails, failing, kind_by, kind_by_result, error_kind, edge_of_kind, Declared, type_of_reg, edge_of_call, edge_of_prim, edge_of_op}
+use Rattle.ir_core.specs.Rows.{Failing, NeverFails, MayFail, AlwaysFails, failing, kind_by, kind_by_result, error_kind, edge_of_kind, Declared, type_of_reg, type_given, edge_of_call, edge_of_prim, edge_of_op}
 use Rattle.ir_core.specs.Registers.{Held, Unset, Holds, error_of, is_error, literal_of, Regs, put, look, first_regs}
 use Rattle.ir_core.specs.Names.{function_called}
 use Rattle.ir_core.specs.Lower.{kind_of_type}
@@ -36,6 +37,7 @@ use Rattle.ir_core.proofs.StepLemmas.{put_same, goto_step, error_step, if_step, 
 use Rattle.ir_core.specs.Missing.{missing}
 use Rattle.error_edges.specs.Layout.{moved, target_of, asking, flag_register, error_literal}
 use Rattle.error_edges.proofs.Laid.{LaidAfter, ExitStands, Escapes, Asked, BlockStands, FunctionLaid}
+use Rattle.error_edges.proofs.Giving.{GivesType, BlocksGive, block_gives, op_gives}
 use Rattle.error_edges.proofs.RegisterLemmas.{type_more, RegsAgree, put_as, reg_as, look_as, read_as, read_all_as, arguments_as, first_as, call_fits}
 use Rattle.error_edges.proofs.Occurring.{asking_step}
 use Rattle.error_edges.proofs.EdgeLemmas.{no_edge, second_laid, kept_edge}
@@ -62,6 +64,7 @@ pub record ProgramLaid (p q : Program) : Type 0 where
   pub called : (id : List ℕ) → function_called q id ≡ function_called p id
   pub effects : (c : Primitive) (vs : List Argument) (w : World) → effect q c vs w ≡ effect p c vs w
   pub funcs : (n : ℕ) (f : Func) → slice_get p.funcs n ≡ Some f → (g : Func) × (slice_get q.funcs n ≡ Some g) × FunctionLaid f g
+  pub gives : (n : ℕ) (f : Func) → slice_get p.funcs n ≡ Some f → BlocksGive f.regs f.blocks
 
 module _ (p q : Program) (all : ProgramLaid p q) where
   -- a function and the one with edges
@@ -622,6 +625,12 @@ module _ (p q : Program) (all : ProgramLaid p q) where
           acted o st w none,
         ))
 
+    -- what an operation gives is of its target's type
+    gives_type : (o : Op) (st : FrameStands ((o, line) ∷ os) last f g) → GivesType st.function.old.regs o
+    gives_type o st =
+        let old : Func = st.function.old in
+        op_gives old.regs st.block.ops st.block.last (block_gives old.regs old.blocks (all.gives f.fn old st.function.at_old) f.block st.block st.at_block) (f.place + 0) o (st.rest 0)
+
     -- what a primitive does
     succeeded : (to : Option Reg) (c : Primitive) (ps : List PArg) (st : FrameStands ((Prim to c ps, line) ∷ os) last f g) (x y : Regs) → RegsAgree st.function.old.regs x y → (w : World) → Given st.function.old.regs (edge_of_prim st.function.old.regs to c) x → After (succeeds Strict p (edge_of_prim st.function.old.regs to c) f below x w) (succeeds Fitting q (edge_of_prim st.function.old.regs to c) g waiting y w)
     succeeded to c ps st x y rs w given =
@@ -653,7 +662,9 @@ module _ (p q : Program) (all : ProgramLaid p q) where
               let new = type_as f.fn g.fn fs r t k in
               let x : Regs = put f.regs r.0 (Holds v) in
               let y : Regs = put g.regs r.0 (Holds v) in
-              let given : Given ds (edge_of_prim ds (Some r) c) x = rw known (given_is ds (failing c) r t x v known (put_same f.regs r.0 (Holds v))) in
+              let row : type_given (row_of c).outcome (Some t) ≡ Some t = gives_type (Prim (Some r) c ps) st t known in
+              let given : Given ds (edge_of_prim ds (Some r) c) x =
+              rw known (subst (λ o. Given ds (edge_of_kind (kind_by (failing c) o) (Some r)) x) (sym row) (given_is ds (failing c) r t x v known (put_same f.regs r.0 (Holds v)))) in
               let step = succeeded (Some r) c ps st x y (put_as ds f.regs g.regs r.0 (Holds v) st.regs) w given in
               let old_edge : edge_of_prim (registers_of p f.fn) (Some r) c ≡ edge_of_prim ds (Some r) c = ap (λ o. edge_of_kind (error_kind c o) (Some r)) (k ∙ sym known) in
               let new_edge : edge_of_prim (registers_of q g.fn) (Some r) c ≡ edge_of_prim ds (Some r) c = ap (λ o. edge_of_kind (error_kind c o) (Some r)) (new ∙ sym known) in

@@ -1,6 +1,6 @@
 -- The program with edges: its functions, names and primitives are those of the program.
 use Rattle.std.proofs.Common.{◌≡◌, refl, ◌∙◌, ap, ℕ, ◌+◌, not, cond, List, [], ◌∷◌, length, Some, None}
-use Rattle.std.specs.Prelude.{nat_lt}
+use Rattle.std.specs.Prelude.{nat_lt, slice_get}
 use Rattle.std.specs.List.{position_or_len}
 use Rattle.std.specs.Str.{bytes_eq}
 use Rattle.c_core.specs.declared.primitive.Primitive.{Primitive}
@@ -11,6 +11,7 @@ use Rattle.ir_core.specs.Effects.{World, Argument, effect}
 use Rattle.error_edges.specs.Edged.{AreEdged, IsEdgedProgram}
 use Rattle.error_edges.proofs.FunctionLemmas.{each_count, each_at}
 use Rattle.error_edges.proofs.Laying.{function_laid}
+use Rattle.error_edges.proofs.Giving.{BlocksGive}
 use Rattle.error_edges.proofs.Simulation.{ProgramLaid}
 
 -- functions of the same names are called by the same ones
@@ -37,12 +38,13 @@ module _ (p q : Program) (edged : IsEdgedProgram p q) where
       ap (λ gs. effect (record q { globals = gs }) c vs w) edged.globals
       ∙ ap (λ ks. effect (record { globals = p.globals; classes = ks; funcs = q.funcs }) c vs w) edged.classes
 
-  pub program_laid : ProgramLaid p q
-  program_laid = record {
+  pub program_laid : ((n : ℕ) (f : Func) → slice_get p.funcs n ≡ Some f → BlocksGive f.regs f.blocks) → ProgramLaid p q
+  program_laid gives = record {
     count = count;
     globals = edged.globals;
     classes = edged.classes;
     called = called;
     effects = effects;
     funcs = λ n f e. let there = each_at p.funcs q.funcs edged.funcs n f e in (there.0, there.1, function_laid f there.0 there.2);
+    gives = gives;
   }

@@ -1,34 +1,8 @@
 -- A function that is called: its registers hold its arguments, and what its body gives is what the call gives.
-use Rattle.std.proofs.Common.{◌≡◌, ℕ, zero, suc, ◌+◌, ◌-◌, ◌<◌, ◌≤◌, true, false, List, [], ◌∷◌, ◌++◌, length, map, take, Option, Some, None, refl, ap, ◌∙◌, subst, arith, ◌⊎◌, inl, inr, ⊎_elim}
-use Rattle.std.specs.Prelude.{slice_get, nat_eq, nat_lt, if◌then◌else◌, replicate}
-use Rattle.std.specs.Option.{option_map}
-use Rattle.std.proofs.lemmas.Bool.{eq-eqb}
+use Rattle.ir_builder.proofs.Common.{◌≡◌, ℕ, zero, suc, ◌+◌, ◌-◌, ◌<◌, ◌≤◌, true, false, List, [], ◌∷◌, ◌++◌, length, map, take, Option, Some, None, refl, ap, ◌∙◌, subst, arith, ◌⊎◌, inl, inr, ⊎_elim, slice_get, nat_eq, nat_lt, if◌then◌else◌, replicate, option_map, eq-eqb, Value, BoolVal, NoneVal, Sort, is_nothing, State, Outcome, Gives, Raises, Stops, on_to, call_of, enter, Variable, TypedFunc, TypedModule, suite, Flow, Goes, Breaks, Continues, Returns, and_set, answer, Func, Program, Waiting, Config, RType, Held, Unset, Holds, error_of, error_at, first_regs, Declared, type_of_reg, Vars, world, running, returning, Ends, HasKind, HaveKinds, HaveTypes, flag_of, flag_in, Matches, Departs, parameter_sorts, CallGives, CallRaises, CallsWork, rtype_of, get_below, means_suite, variable_registers, variables_of, LeavesWith, BodyWorks, body_frame, end_value}
 use Rattle.std.proofs.lemmas.Bool.Decides.{nat_tests}
-use Rattle.value_core.specs.Value.{Value, BoolVal, NoneVal}
 use Rattle.py_typed.specs.Sorts as sort
-use Rattle.py_typed.specs.Sorts.{Sort}
-use Rattle.py_typed.specs.Fits.{is_nothing}
-use Rattle.source_meaning.specs.State.{State, Outcome, Gives, Raises, Stops, on_to}
-use Rattle.source_meaning.specs.SourceRun.{call_of, enter}
-use Rattle.py_typed.specs.Statements.{Variable, TypedFunc, TypedModule}
-use Rattle.source_meaning.specs.StatementMeaning.{suite}
-use Rattle.source_meaning.specs.WaysOut.{Flow, Goes, Breaks, Continues, Returns, and_set, answer}
-use Rattle.ir_core.specs.declared.code.Func.{Func}
-use Rattle.ir_core.specs.declared.code.Program.{Program}
-use Rattle.ir_core.specs.Meaning.{Waiting, Config}
-use Rattle.ir_core.specs.declared.code.RType.{RType}
 use Rattle.ir_core.specs.declared.code.RType.TheVariants.{Bool as BoolType}
-use Rattle.ir_core.specs.Registers.{Held, Unset, Holds, error_of, error_at, first_regs}
-use Rattle.ir_core.specs.Rows.{Declared, type_of_reg}
-use Rattle.ir_builder_frames.specs.declared.frame.Vars.{Vars}
-use Rattle.ir_builder_frames.specs.Coming.{world, running, returning, Ends}
-use Rattle.ir_builder_frames.specs.Matching.{HasKind, HaveKinds, HaveTypes, flag_of, flag_in, Matches, Departs, parameter_sorts, CallGives, CallRaises, CallsWork}
-use Rattle.ir_builder_frames.specs.Settings.{rtype_of}
-use Rattle.ir_builder_frames.proofs.HeldLemmas.{get_below}
-use Rattle.ir_builder_loops_and_jumps.specs.Means.{means_suite}
-use Rattle.ir_builder.specs.Registers.{variable_registers, variables_of}
-use Rattle.ir_builder.specs.Bodies.{LeavesWith, BodyWorks, body_frame}
-use Rattle.ir_builder.specs.Functions.{end_value}
 use Rattle.ir_builder.proofs.ClosedLemmas.{Avoids, is_end}
 
 -- ---- arguments

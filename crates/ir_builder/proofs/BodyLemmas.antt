@@ -1,37 +1,11 @@
 -- The code of a function's body.
-use Rattle.std.proofs.Common.{◌≡◌, ℕ, suc, ◌≤◌, false, List, [], ◌∷◌, length, Option, Some, None, refl, sym, ap, ◌∙◌, subst, arith}
-use Rattle.std.specs.Prelude.{slice_get}
-use Rattle.std.specs.Option.{option_map}
-use Rattle.value_core.specs.Value.{Value}
-use Rattle.source_meaning.specs.State.{State}
-use Rattle.source_meaning.specs.WaysOut.{Flow, Goes, Breaks, Continues, Returns}
-use Rattle.py_typed.specs.Sorts.{Sort}
-use Rattle.ir_core.specs.declared.code.Func.{Func}
+use Rattle.ir_builder.proofs.Common.{◌≡◌, ℕ, suc, ◌≤◌, false, List, [], ◌∷◌, length, Option, Some, None, refl, sym, ap, ◌∙◌, subst, arith, slice_get, option_map, Value, State, Flow, Goes, Breaks, Continues, Returns, Sort, Func, Lit, Program, Reg, RType, Building, handled, Extends, Waiting, Config, Strict, declared_of, registers_of, Holds, Regs, literal_of, look, type_of_reg, return_step, Adds, Closes, world, running, returning, Leads, Meaning, Surrounding, LastKinds, Departs, Has, Placed, or_other, Setting, leads_refl, leads_step, leads_trans, ends_more, extends_trans, has_less, type_has, Filled, LeavesWith, Bodied}
 use Rattle.ir_core.specs.declared.code.Last.TheVariants.{Return as Leave}
 use Rattle.ir_core.specs.declared.code.Lit.{Lit as Literal}
-use Rattle.ir_core.specs.declared.code.Op.TheVariants.{Lit}
-use Rattle.ir_core.specs.declared.code.Program.{Program}
-use Rattle.ir_core.specs.declared.code.Reg.{Reg}
-use Rattle.ir_core.specs.declared.code.RType.{RType}
-use Rattle.ir_core.specs.Building.{Building, handled, Extends}
-use Rattle.ir_core.specs.Meaning.{Waiting, Config, Strict, declared_of, registers_of}
-use Rattle.ir_core.specs.Registers.{Holds, Regs, literal_of, look}
-use Rattle.ir_core.specs.Rows.{type_of_reg}
-use Rattle.ir_core.proofs.StepLemmas.{return_step}
-use Rattle.ir_builder_frames.specs.Calling.{Adds, Closes}
-use Rattle.ir_builder_frames.specs.Coming.{world, running, returning, Leads}
-use Rattle.ir_builder_frames.specs.Computing.{Meaning}
-use Rattle.ir_builder_frames.specs.Kinds.{Surrounding, LastKinds}
-use Rattle.ir_builder_frames.specs.Matching.{Departs}
-use Rattle.ir_builder_frames.specs.Placing.{Has, Placed, or_other}
-use Rattle.ir_builder_frames.specs.Settings.{Setting}
-use Rattle.ir_builder_frames.proofs.ComingLemmas.{leads_refl, leads_step, leads_trans, ends_more}
-use Rattle.ir_builder_frames.proofs.HeldLemmas.{extends_trans, has_less, type_has}
 use Rattle.ir_builder_frames.proofs.StepLemmas.{literal_makes}
 use Rattle.ir_builder_loops_and_jumps.specs.declared.ways.Exit.{Exit}
 use Rattle.ir_builder_loops_and_jumps.specs.Runs.{JumpTo, OpenIn, Back, Flows, Emitted}
 use Rattle.ir_builder_loops_and_jumps.proofs.ExitLemmas.{close_at}
-use Rattle.ir_builder.specs.Bodies.{Filled, LeavesWith, Bodied}
 use Rattle.ir_builder.proofs.FillLemmas.{true_false, all_written}
 
 no_other : (h : Option ℕ) → h ≡ or_other h None

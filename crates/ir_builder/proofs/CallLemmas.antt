@@ -1,22 +1,6 @@
 -- Calls do what functions do, for every number of turns.
-use Rattle.std.proofs.Common.{◌≡◌, ℕ, zero, suc, ◌≤◌, List, map, Some, None, refl, sym, ap, ◌∙◌, subst, arith}
-use Rattle.std.specs.Prelude.{slice_get}
+use Rattle.ir_builder.proofs.Common.{◌≡◌, ℕ, zero, suc, ◌≤◌, List, map, Some, None, refl, sym, ap, ◌∙◌, subst, arith, slice_get, Value, State, on_to, spend_from, body_of, call_of, enter, TypedFunc, TypedModule, Func, Turn, Program, Do, Waiting, Ended, Strict, item_at, turned, step, Holds, Regs, first_regs, op_step, turn_step, world, running, Ends, HaveKinds, HaveTypes, HasGlobals, parameter_sorts, HasHead, CallGives, CallRaises, CallsWork, leads_step, ends_from, ends_of, FunctionWorks}
 use Rattle.value_core.specs.Ending as ending
-use Rattle.value_core.specs.Value.{Value}
-use Rattle.source_meaning.specs.State.{State, on_to, spend_from}
-use Rattle.source_meaning.specs.SourceRun.{body_of, call_of, enter}
-use Rattle.py_typed.specs.Statements.{TypedFunc, TypedModule}
-use Rattle.ir_core.specs.declared.code.Func.{Func}
-use Rattle.ir_core.specs.declared.code.Op.TheVariants.{Turn}
-use Rattle.ir_core.specs.declared.code.Program.{Program}
-use Rattle.ir_core.specs.Items.{Do}
-use Rattle.ir_core.specs.Meaning.{Waiting, Ended, Strict, item_at, turned, step}
-use Rattle.ir_core.specs.Registers.{Holds, Regs, first_regs}
-use Rattle.ir_core.proofs.StepLemmas.{op_step, turn_step}
-use Rattle.ir_builder_frames.specs.Coming.{world, running, Ends}
-use Rattle.ir_builder_frames.specs.Matching.{HaveKinds, HaveTypes, HasGlobals, parameter_sorts, HasHead, CallGives, CallRaises, CallsWork}
-use Rattle.ir_builder_frames.proofs.ComingLemmas.{leads_step, ends_from, ends_of}
-use Rattle.ir_builder.specs.Functions.{FunctionWorks}
 
 -- a function of the module has its code, which begins with a turn
 pub record IsThere (p : Program) (m : TypedModule) (g : ℕ) (f : TypedFunc) : Type 0 where

@@ -1,17 +1,10 @@
 -- A closed row of statements does not come to its end, and one without a `break` of the loop around it does not break that loop.
-use Rattle.std.proofs.Common.{◌≡◌, ℕ, zero, suc, Bool, true, false, not, List, Option, refl, sym, subst, ◌⊎◌, ⊎_elim}
-use Rattle.std.proofs.lemmas.Bool.{or_parts, and_parts, or_cases}
-use Rattle.std.specs.Prelude.{if◌then◌else◌}
-use Rattle.value_core.specs.Value.{NoneVal}
+use Rattle.ir_builder.proofs.Common.{◌≡◌, ℕ, zero, suc, Bool, true, false, not, List, Option, refl, sym, subst, ◌⊎◌, ⊎_elim, or_parts, and_parts, or_cases, if◌then◌else◌, NoneVal, Sort, Variable, TypedModule, TypedStmt, on_line, TypedAct, Assign, Aug, Del, While, ForRange, ForList, ForDict, Try, Raise, Break, Continue, Assert, Pass, TypedSuite, no_stmts, stmt_then, Arms, no_arms, arm_then, State, Outcome, Gives, Raises, Stops, Does, Calls, on_to, spend, Flow, Goes, Breaks, Continues, Returns, flow_on, after_body, loop, value_of, bind, update, changed, value_or, test_of, statement, act, suite, first_arm}
 use Rattle.py_syntax.specs.declared.token.Span.{Span}
-use Rattle.py_typed.specs.Sorts.{Sort}
 use Rattle.py_typed.specs.Classes.{ClassEntry}
 use Rattle.py_typed.specs.Expressions.{TypedExpr, typed, Flag}
-use Rattle.py_typed.specs.Statements.{Variable, TypedModule, TypedStmt, on_line, TypedAct, Do, Assign, Aug, Del, If, While, ForRange, ForList, ForDict, Try, Raise, Return, Break, Continue, Assert, Pass, TypedSuite, no_stmts, stmt_then, Arms, no_arms, arm_then}
-use Rattle.source_meaning.specs.State.{State, Outcome, Gives, Raises, Stops, Does, Calls, on_to, spend}
-use Rattle.source_meaning.specs.WaysOut.{Flow, Goes, Breaks, Continues, Returns, flow_on, after_body, loop}
+use Rattle.py_typed.specs.Statements.{Do, If, Return}
 use Rattle.py_typed.specs.Narrowing.{breaks, breaks_in, breaks_suite, breaks_arms, is_true_literal, closes, closes_in, is_closed, closed_arms}
-use Rattle.source_meaning.specs.StatementMeaning.{value_of, bind, update, changed, value_or, test_of, statement, act, suite, first_arm}
 use Rattle.ir_builder_statements.specs.Suiting.{StatementSuits, ActSuits, SuiteSuits, ArmsSuit}
 
 -- ---- ways to end that do not come

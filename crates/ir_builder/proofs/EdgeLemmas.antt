@@ -1,18 +1,5 @@
 -- Behind no operation that may fail stands a test of its result.
-use Rattle.std.proofs.Common.{◌≡◌, ℕ, zero, suc, ◌+◌, ◌<◌, ◌≤◌, false, List, [], ◌∷◌, Option, Some, None, refl, sym, ap, ◌∙◌, subst, arith, ◌⊎◌, inl, inr, ⊎_elim}
-use Rattle.std.specs.Prelude.{slice_get}
-use Rattle.std.proofs.lemmas.Bool.{ne_eqb}
-use Rattle.ir_core.specs.declared.code.Block.{Block}
-use Rattle.ir_core.specs.declared.code.Func.{Func}
-use Rattle.ir_core.specs.declared.code.Last.{Last}
-use Rattle.ir_core.specs.declared.code.Last.TheVariants.{Goto, If, IfError, Return, Unreachable}
-use Rattle.ir_core.specs.declared.code.Op.{Op}
-use Rattle.ir_core.specs.declared.code.Program.{Program}
-use Rattle.ir_core.specs.declared.code.Reg.{Reg}
-use Rattle.ir_core.specs.Items.{Item, Do, End, in_block, item_in, blocks_of}
-use Rattle.ir_core.specs.Meaning.{is_tested, item_at}
-use Rattle.ir_builder_frames.specs.Placing.{into, NoEdges}
-use Rattle.ir_builder_frames.specs.Shaped.{Above, OpsFit, EndFits, AllFit}
+use Rattle.ir_builder.proofs.Common.{◌≡◌, ℕ, zero, suc, ◌+◌, ◌<◌, ◌≤◌, false, List, [], ◌∷◌, Option, Some, None, refl, sym, ap, ◌∙◌, subst, arith, ◌⊎◌, inl, inr, ⊎_elim, slice_get, ne_eqb, Block, Func, Last, Goto, If, IfError, Return, Unreachable, Op, Program, Reg, Item, Do, End, in_block, item_in, blocks_of, is_tested, item_at, into, NoEdges, Above, OpsFit, EndFits, AllFit}
 
 ops_at : (n : ℕ) (os : List (Op × ℕ)) (l : Last) (i : ℕ) (o : Op) {line : ℕ} → OpsFit n os → in_block os l i ≡ Some (Do o line) → Above n (into o)
 ops_at n [] l zero o {line} f e = let g : Some (End l) ≡ Some (Do o line) = e in absurd (cc)

@@ -1,17 +1,6 @@
 -- The ends that are still open are written.
-use Rattle.std.proofs.Common.{◌≡◌, ◌≢◌, ℕ, zero, suc, ◌+◌, ◌<◌, ◌≤◌, Bool, true, false, List, [], ◌∷◌, length, Some, None, refl, sym, ap, ◌∙◌, subst, arith, ⊎_elim}
-use Rattle.std.proofs.lemmas.Bool.{cases_lt}
-use Rattle.ir_core.specs.declared.code.Block.{Block}
-use Rattle.ir_core.specs.declared.code.Last.{Last}
-use Rattle.ir_core.specs.declared.code.Last.TheVariants.{Goto, If, IfError, Return, Unreachable}
-use Rattle.ir_core.specs.declared.code.Op.{Op}
-use Rattle.ir_core.specs.declared.code.Reg.{Reg}
-use Rattle.ir_core.specs.Items.{End, in_block}
-use Rattle.ir_core.specs.Building.{Building, with_last, held_in, held, is_unwritten, is_open_at}
-use Rattle.ir_core.specs.Meaning.{item_at}
-use Rattle.ir_builder_frames.specs.Calling.{Closes, Open}
+use Rattle.ir_builder.proofs.Common.{◌≡◌, ◌≢◌, ℕ, zero, suc, ◌+◌, ◌<◌, ◌≤◌, Bool, true, false, List, [], ◌∷◌, length, Some, None, refl, sym, ap, ◌∙◌, subst, arith, ⊎_elim, cases_lt, Block, Last, Goto, If, IfError, Return, Unreachable, Op, Reg, End, in_block, Building, with_last, held_in, held, is_unwritten, is_open_at, item_at, Closes, Open, Filled}
 use Rattle.ir_builder_frames.proofs.PatchLemmas.{patches, ends_same}
-use Rattle.ir_builder.specs.Bodies.{Filled}
 
 hole_end : (os : List (Op × ℕ)) (l : Last) → is_unwritten l ≡ true → in_block os l (length os) ≡ Some (End Unreachable)
 hole_end [] (Goto t) e = absurd (cc)

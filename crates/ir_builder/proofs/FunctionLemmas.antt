@@ -1,55 +1,13 @@
 -- The code of a whole function.
-use Rattle.std.proofs.Common.{◌≡◌, ℕ, zero, suc, ◌+◌, ◌-◌, ◌^◌, ◌<◌, ◌≤◌, true, false, List, [], ◌∷◌, ◌++◌, length, map, take, Option, Some, None, refl, sym, ap, ◌∙◌, subst, arith, ◌⊎◌, inl, inr, ⊎_elim}
-use Rattle.std.specs.Prelude.{slice_get, pos}
-use Rattle.std.specs.List.{list_all}
-use Rattle.std.specs.Option.{option_map}
-use Rattle.value_core.specs.Value.{BoolVal}
-use Rattle.value_core.specs.Ending.{Done}
-use Rattle.c_core.specs.WellFormed.{is_identifier, names_differ}
-use Rattle.py_typed.specs.Fits.{is_nothing}
-use Rattle.source_meaning.specs.State.{State}
-use Rattle.source_meaning.specs.SourceRun.{call_of, top_of}
-use Rattle.py_typed.specs.declared.checked.TFunc.{TFunc}
-use Rattle.py_typed.specs.Statements.{Variable, variable, TypedFunc, typed_func, TypedModule}
-use Rattle.source_meaning.specs.StatementMeaning.{suite}
-use Rattle.source_meaning.specs.WaysOut.{Flow, Goes, Breaks, Continues, Returns}
-use Rattle.py_typed.specs.Sorts.{Sort}
-use Rattle.ir_core.specs.declared.code.Func.{Func}
+use Rattle.ir_builder.proofs.Common.{◌≡◌, ℕ, zero, suc, ◌+◌, ◌-◌, ◌^◌, ◌<◌, ◌≤◌, true, false, List, [], ◌∷◌, ◌++◌, length, map, take, Option, Some, None, refl, sym, ap, ◌∙◌, subst, arith, ◌⊎◌, inl, inr, ⊎_elim, slice_get, pos, list_all, option_map, BoolVal, Done, is_identifier, names_differ, is_nothing, State, call_of, top_of, TFunc, Variable, variable, TypedFunc, typed_func, TypedModule, suite, Flow, Goes, Breaks, Continues, Returns, Sort, Func, Turn, Program, RType, Building, held_in, held, handled, Extends, is_open_at, Do, item_in, handler_in, blocks_of, Config, Ended, handler_at, declared_of, Holds, literal_of, first_regs, Declared, type_of_reg, Vars, Pushes, world, Escapes, Meaning, FunctionType, head_of, Surrounding, LiteralFits, OpKinds, OpsKinds, BlocksKinds, HasKinds, KeepsKinds, KeepsKindsIf, IsAmong, flag_of, HasRoom, Matches, Departs, BeginWith, names_of, NoEdges, Has, Setting, rtype_of, OpFits, OpsFit, AllFit, Shaped, KeepsIf, Keeps, ends_map, extends_refl, extends_trans, get_below, type_kept, variable_names, FunctionSuits, means_suite, building_of, IsBuilt, register_of, variable_registers, Begins, variables_of, AddsFlags, LeavesWith, Bodied, CompletesShape, BodyAround, BodyWorks, body_frame, end_literal, end_value, heads_of, IsFunctionOf, IsOwnOf, get_map}
 use Rattle.ir_core.specs.declared.code.Lit.{Lit as Literal}
 use Rattle.ir_core.specs.declared.code.Lit.TheVariants.{Number}
-use Rattle.ir_core.specs.declared.code.Op.TheVariants.{Turn}
-use Rattle.ir_core.specs.declared.code.Program.{Program}
-use Rattle.ir_core.specs.declared.code.RType.{RType}
 use Rattle.ir_core.specs.declared.code.RType.TheVariants as rtype
-use Rattle.ir_core.specs.Building.{Building, held_in, held, handled, Extends, is_open_at}
-use Rattle.ir_core.specs.Items.{Do, item_in, handler_in, blocks_of}
-use Rattle.ir_core.specs.Meaning.{Config, Ended, handler_at, declared_of}
-use Rattle.ir_core.specs.Registers.{Holds, literal_of, first_regs}
-use Rattle.ir_core.specs.Rows.{Declared, type_of_reg}
 use Rattle.ir_core.proofs.BuildingLemmas.{built_is_held}
-use Rattle.ir_builder_frames.specs.declared.frame.Vars.{Vars}
-use Rattle.ir_builder_frames.specs.Calling.{Pushes}
-use Rattle.ir_builder_frames.specs.Coming.{world, Escapes}
-use Rattle.ir_builder_frames.specs.Computing.{Meaning}
-use Rattle.ir_builder_frames.specs.Kinds.{FunctionType, head_of, Surrounding, LiteralFits, OpKinds, OpsKinds, BlocksKinds, HasKinds, KeepsKinds, KeepsKindsIf, IsAmong}
-use Rattle.ir_builder_frames.specs.Matching.{flag_of, HasRoom, Matches, Departs, BeginWith}
-use Rattle.ir_builder_frames.specs.Naming.{names_of}
-use Rattle.ir_builder_frames.specs.Placing.{NoEdges, Has}
-use Rattle.ir_builder_frames.specs.Settings.{Setting, rtype_of}
-use Rattle.ir_builder_frames.specs.Shaped.{OpFits, OpsFit, AllFit, Shaped, KeepsIf, Keeps}
-use Rattle.ir_builder_frames.proofs.ComingLemmas.{ends_map}
-use Rattle.ir_builder_frames.proofs.HeldLemmas.{extends_refl, extends_trans, get_below, type_kept}
-use Rattle.ir_builder_statements.specs.Modules.{variable_names, FunctionSuits}
 use Rattle.ir_builder_statements.specs.Kinds.{GivesResult, IsAround}
-use Rattle.ir_builder_loops_and_jumps.specs.Means.{means_suite}
-use Rattle.ir_builder_shapes_laws.specs.Built.{building_of, IsBuilt}
-use Rattle.ir_builder.specs.Registers.{register_of, variable_registers, Begins, variables_of, AddsFlags}
-use Rattle.ir_builder.specs.Bodies.{LeavesWith, Bodied, CompletesShape, BodyAround, BodyWorks, body_frame}
-use Rattle.ir_builder.specs.Functions.{end_literal, end_value, heads_of, IsFunctionOf, IsOwnOf}
 use Rattle.ir_builder.proofs.ArgumentLemmas.{sort_of, sorts_size, map_length, HaveFlags, function_works}
 use Rattle.ir_builder.proofs.ClosedLemmas.{Avoids, is_end, suite_closed}
 use Rattle.ir_builder.proofs.EdgeLemmas.{no_edges}
-use Rattle.ir_builder_frames.proofs.GlobalLemmas.{get_map}
 
 -- ---- lists
 

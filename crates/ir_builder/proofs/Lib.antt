@@ -7,3 +7,4 @@ pub mod CallLemmas
 pub mod ArgumentLemmas
 pub mod FunctionLemmas
 pub mod WholeLemmas
+pub mod Common

@@ -1,12 +1,6 @@
 -- The registers with which a function begins.
-use Rattle.std.proofs.Common.{◌≡◌, ℕ, ◌+◌, ◌<◌, ◌≤◌, length, ◌∙◌, subst, arith, ⊎_elim}
+use Rattle.ir_builder.proofs.Common.{◌≡◌, ℕ, ◌+◌, ◌<◌, ◌≤◌, length, ◌∙◌, subst, arith, ⊎_elim, Building, Extends, Declares, HasType, Keeps, extends_trans, type_kept, AddsFlags}
 use Rattle.ir_core.specs.declared.code.RType.TheVariants.{Bool as BoolType}
-use Rattle.ir_core.specs.Building.{Building, Extends}
-use Rattle.ir_builder_frames.specs.Calling.{Declares}
-use Rattle.ir_builder_frames.specs.Placing.{HasType}
-use Rattle.ir_builder_frames.specs.Shaped.{Keeps}
-use Rattle.ir_builder_frames.proofs.HeldLemmas.{extends_trans, type_kept}
-use Rattle.ir_builder.specs.Registers.{AddsFlags}
 use Rattle.ir_builder.proofs.ArgumentLemmas.{less_or}
 
 -- ---- flags

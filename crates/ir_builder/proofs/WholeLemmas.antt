@@ -1,46 +1,18 @@
 -- A whole program does what its module does, is calm, and is built as a program is.
-use Rattle.std.proofs.Common.{◌≡◌, ◌≢◌, ℕ, zero, suc, ◌+◌, ◌-◌, ◌<◌, List, [], ◌∷◌, ◌++◌, length, map, take, get_or, Option, Some, None, ⊎_elim, refl, sym, ap, ◌∙◌, subst, arith, le_refl, add-one, length-append}
+use Rattle.ir_builder.proofs.Common.{◌≡◌, ◌≢◌, ℕ, zero, suc, ◌+◌, ◌-◌, ◌<◌, List, [], ◌∷◌, ◌++◌, length, map, take, get_or, Option, Some, None, ⊎_elim, refl, sym, ap, ◌∙◌, subst, arith, le_refl, add-one, length-append, slice_get, replicate, list_all, Ending, Done, Raised, is_identifier, names_differ, Sort, Outcome, Gives, Raises, Stops, start, top_of, stopped, raised_as, stop_of, TypedFunc, TypedModule, typed_func, typed_module, TFunc, Flow, Goes, Breaks, Continues, Returns, Func, Program, RType, Do, item_in, blocks_of, Config, Leaves, Ended, Stuck, Strict, if_some, leave, step, steps, error_of, first_regs, Declared, world, running, Escapes, Leads, Ends, FunctionType, head_of, parameter_sorts, BeginWith, HasHead, names_of, NoEdges, rtype_of, leads_as, leads_step, leads_trans, none_have_types, get_map, FunctionSuits, ModuleSuits, head_of_code, IsBuilt, IsFunction, IsOwn, IsProgram, heads_of, IsFunctionOf, AllBuilt, IsBuiltOf, register_of, variable_registers}
 use Rattle.std.proofs.lemmas.List.{map_push}
-use Rattle.std.specs.Prelude.{slice_get, replicate}
-use Rattle.std.specs.List.{list_all}
 use Rattle.std.proofs.Math.Seq.{take-suc}
-use Rattle.value_core.specs.Ending.{Ending, Done, Raised}
 use Rattle.value_core.specs.Items.{Items}
-use Rattle.c_core.specs.WellFormed.{is_identifier, names_differ}
-use Rattle.py_typed.specs.Sorts.{Sort}
-use Rattle.source_meaning.specs.State.{Outcome, Gives, Raises, Stops}
-use Rattle.source_meaning.specs.SourceRun.{start, top_of, stopped, raised_as, stop_of, source_run}
-use Rattle.py_typed.specs.Statements.{TypedFunc, TypedModule, typed_func, typed_module}
+use Rattle.source_meaning.specs.SourceRun.{source_run}
 use Rattle.py_typed.specs.declared.checked.Checked.{Checked}
-use Rattle.py_typed.specs.declared.checked.TFunc.{TFunc}
-use Rattle.source_meaning.specs.WaysOut.{Flow, Goes, Breaks, Continues, Returns}
-use Rattle.ir_core.specs.declared.code.Func.{Func}
-use Rattle.ir_core.specs.declared.code.Program.{Program}
-use Rattle.ir_core.specs.declared.code.RType.{RType}
 use Rattle.ir_core.specs.declared.code.RType.TheVariants.{Bool}
-use Rattle.ir_core.specs.Items.{Do, item_in, blocks_of}
 use Rattle.ir_core.specs.Effects.{World}
-use Rattle.ir_core.specs.Meaning.{Config, Leaves, Ended, Stuck, Strict, if_some, leave, step, steps}
-use Rattle.ir_core.specs.Registers.{error_of, first_regs}
-use Rattle.ir_core.specs.Rows.{Declared}
 use Rattle.ir_core.specs.Runs as run
 use Rattle.ir_core.specs.Runs.{first_world, begins, Calm}
 use Rattle.ir_core.proofs.ModeLemmas.{unstuck_is_plain}
 use Rattle.ir_core.proofs.RunLemmas.{ended_is_calm}
-use Rattle.ir_builder_frames.specs.Coming.{world, running, Escapes, Leads, Ends}
-use Rattle.ir_builder_frames.specs.Kinds.{FunctionType, head_of}
-use Rattle.ir_builder_frames.specs.Matching.{parameter_sorts, BeginWith, HasHead}
-use Rattle.ir_builder_frames.specs.Naming.{names_of}
-use Rattle.ir_builder_frames.specs.Placing.{NoEdges}
-use Rattle.ir_builder_frames.specs.Settings.{rtype_of}
-use Rattle.ir_builder_frames.proofs.ComingLemmas.{leads_as, leads_step, leads_trans}
-use Rattle.ir_builder_frames.proofs.GlobalLemmas.{none_have_types, get_map}
 use Rattle.ir_builder_frames.proofs.KindLemmas.{get_behind}
-use Rattle.ir_builder_statements.specs.Modules.{FunctionSuits, ModuleSuits}
-use Rattle.ir_builder_shapes_laws.specs.Built.{head_of_code, IsBuilt, IsFunction, IsOwn, IsProgram}
-use Rattle.ir_builder.specs.Functions.{heads_of, IsFunctionOf, AllBuilt, IsBuiltOf}
 use Rattle.ir_builder.specs.Meaning.{module_stop, DoesAsModule}
-use Rattle.ir_builder.specs.Registers.{register_of, variable_registers}
 use Rattle.ir_builder.proofs.CallLemmas.{IsThere, calls_work}
 use Rattle.ir_builder.proofs.ArgumentLemmas.{map_length}
 use Rattle.ir_builder.proofs.EdgeLemmas.{no_edges}

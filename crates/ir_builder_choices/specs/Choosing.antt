@@ -1,5 +1,5 @@
--- What a choice does (Python Language Reference, "Boolean operations" and "Conditional expressions"): by the truth of a value one of
--- two arms goes on with it, and the other one is not evaluated.
+-- What a choice does (Python Language Reference, "Boolean operations" and "Conditional expressions"): the truth of a
+-- value picks one of two arms; that one is evaluated, with the value at hand, and the other one is not.
 use Rattle.std.specs.Prelude.{ℕ, ◌≤◌, List, length, Option, None, if◌then◌else◌}
 use Rattle.value_core.specs.Value.{Value}
 use Rattle.py_typed.specs.Sorts.{Sort}

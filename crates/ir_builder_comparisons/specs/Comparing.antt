@@ -15,7 +15,7 @@ use Rattle.ir_builder_operations.specs.declared.operation.Compared.TheVariants.{
 use Rattle.ir_builder_operations.specs.Operating.{ActsOn, ActsOnTwo}
 use Rattle.ir_builder_operations.specs.Rows.{compared_sort, as_value, compares}
 
--- the comparisons of numbers and of texts
+-- the comparisons of two values: all but `in` and `is`, and their contraries
 abbrev pub is_ordering : CmpOp → Bool
 is_ordering Eq = true
 is_ordering Ne = true

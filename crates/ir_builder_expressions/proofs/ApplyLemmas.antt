@@ -25,8 +25,7 @@ use Rattle.ir_builder_expressions.specs.declared.applying.Unary.{Unary}
 use Rattle.ir_builder_expressions.specs.declared.applying.Unary.TheVariants as unary
 use Rattle.ir_builder_expressions.specs.declared.applying.Binary.{Binary}
 use Rattle.ir_builder_expressions.specs.declared.applying.Binary.TheVariants as binary
-use Rattle.ir_builder_expressions.specs.Compiled.{is_i64, literal_in}
-use Rattle.ir_builder_expressions.specs.Parts.{is_simple, native_in, sort_by, part_sort}
+use Rattle.ir_builder_expressions.specs.Parts.{is_scalar, native_in, sort_by, part_sort, is_i64, literal_in}
 use Rattle.ir_builder_expressions.specs.Applying.{unary_goes, binary_goes, UnarySuits, BinarySuits}
 use Rattle.ir_builder_comparisons.specs.Comparing.{FindsTruth}
 
@@ -60,14 +59,14 @@ applies_negated op t u b c r x is a = moved op unary.Negated t t u u b c r x is 
 pub applies_coerced : (op : Unary) (t u : Sort) (b c : Building) (r x : ℕ) → op ≡ unary.Coerced → Attempts (Shows t) b c r (rtype_of t) (ActsOn u x (coerced t)) → Applies op t u b c r x
 applies_coerced op t u b c r x is a = moved op unary.Coerced t t u u b c r x is refl refl a
 
-kind_text : (t : Sort) → is_simple t ≡ true → (v : Value) → HasKind t v → has_text v ≡ true
+kind_text : (t : Sort) → is_scalar t ≡ true → (v : Value) → HasKind t v → has_text v ≡ true
 kind_text sort.Int e = by_int (λ v. has_text v ≡ true) (λ n f. refl)
 kind_text sort.I64 e = by_i64 (λ v. has_text v ≡ true) (λ n f. refl)
 kind_text sort.Bool e = by_bool (λ v. has_text v ≡ true) (λ b. refl)
 kind_text sort.Str e = by_text (λ v. has_text v ≡ true) (λ text. refl)
 kind_text t e = let f : false ≡ true = e in absurd (cc)
 
-written_attempts : (u : Sort) (b c : Building) (r x : ℕ) → is_simple u ≡ true → Attempts (Shows sort.Str) b c r rtype.Ref (ActsOn u x (λ v. give (StrVal (text_of v)))) → Applies unary.Written sort.Str u b c r x
+written_attempts : (u : Sort) (b c : Building) (r x : ℕ) → is_scalar u ≡ true → Attempts (Shows sort.Str) b c r rtype.Ref (ActsOn u x (λ v. give (StrVal (text_of v)))) → Applies unary.Written sort.Str u b c r x
 written_attempts u b c r x e a =
     attempts_as (Shows sort.Str) b c r rtype.Ref (ActsOn u x (λ v. give (StrVal (text_of v)))) (ActsOn u x (unary_goes unary.Written sort.Str))
     (λ regs s res f. record { v = f.v; shows = f.shows; does = f.does ∙ ap (λ z. needs z (give (StrVal (text_of f.v))) s) (kind_text u e f.v f.shows.1) })

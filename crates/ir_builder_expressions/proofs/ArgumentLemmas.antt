@@ -14,12 +14,12 @@ use Rattle.ir_core.specs.Registers.{Regs}
 use Rattle.ir_core.specs.Building.{Building, Extends}
 use Rattle.ir_builder_frames.specs.Settings.{Setting, rtype_of}
 use Rattle.ir_builder_frames.specs.Matching.{HasRoom, IsThrown}
-use Rattle.ir_builder_frames.specs.Computing.{Shows, ShowAll, HaveTypes, ArrivesAll, ComputesAll}
+use Rattle.ir_builder_frames.specs.Computing.{means, Shows, ShowAll, HaveTypes, ArrivesAll, ComputesAll}
 use Rattle.ir_builder_frames.proofs.HeldLemmas.{extends_refl, extends_trans, type_kept, placed_part}
 use Rattle.ir_builder_frames.proofs.ComingLemmas.{ends_now, ends_of, on_assoc}
 use Rattle.ir_builder_frames.proofs.MatchLemmas.{room_on, same_refl, same_trans, computes_then, computes_all_then}
 use Rattle.ir_builder_expressions.specs.Suiting.{Suits, ArgumentsSuit, SomeSuit}
-use Rattle.ir_builder_expressions.specs.Emitting.{means, means_all, Emits, EmitsAll}
+use Rattle.ir_builder_expressions.specs.Emitting.{means_all, Emits, EmitsAll}
 use Rattle.ir_builder_expressions.specs.Walking.{Walks}
 use Rattle.ir_builder_expressions.proofs.WalkingLemmas.{walks_refl, walks_trans}
 use Rattle.ir_builder_operations.proofs.PartLemmas.{show_kept}

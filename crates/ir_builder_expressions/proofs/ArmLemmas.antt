@@ -15,7 +15,7 @@ use Rattle.py_typed.proofs.ExpressionLemmas.{typed_expr_of, typed_node-Bool, typ
 use Rattle.ir_core.specs.Building.{Building}
 use Rattle.ir_builder_frames.specs.Settings.{Setting}
 use Rattle.ir_builder_expressions.specs.Suiting.{Suits, NodeSuits}
-use Rattle.ir_builder_expressions.specs.Parts.{is_simple}
+use Rattle.ir_builder_expressions.specs.Parts.{is_scalar}
 use Rattle.ir_builder_expressions.specs.Arms.{ChoiceSuits}
 use Rattle.ir_builder_expressions.specs.Emitting.{Emits}
 
@@ -71,17 +71,17 @@ module _ (m : TypedModule) (vs : List Variable) where
   pub and_asked : (e : TExpr) (a b : Part) → e.kind ≡ kind.And a b → Suits m vs (typed_expr e) → ChoiceSuits m vs (sort_of e.ty) (typed_expr a.value) (Some (typed_expr b.value)) None
   and_asked e a b is s =
       let h = asked e _ (is_and e a b is) s in
-      record { tested = ap is_simple h.1 ∙ h.0; test_suits = h.3; body_type = h.2; other_type = h.1; body_suits = h.4; other_suits = tt }
+      record { tested = ap is_scalar h.1 ∙ h.0; test_suits = h.3; body_type = h.2; other_type = h.1; body_suits = h.4; other_suits = tt }
 
   pub or_asked : (e : TExpr) (a b : Part) → e.kind ≡ kind.Or a b → Suits m vs (typed_expr e) → ChoiceSuits m vs (sort_of e.ty) (typed_expr a.value) None (Some (typed_expr b.value))
   or_asked e a b is s =
       let h = asked e _ (is_or e a b is) s in
-      record { tested = ap is_simple h.1 ∙ h.0; test_suits = h.3; body_type = h.1; other_type = h.2; body_suits = tt; other_suits = h.4 }
+      record { tested = ap is_scalar h.1 ∙ h.0; test_suits = h.3; body_type = h.1; other_type = h.2; body_suits = tt; other_suits = h.4 }
 
   pub cond_asked : (e : TExpr) (a test b : Part) → e.kind ≡ kind.Cond a test b → Suits m vs (typed_expr e) → ChoiceSuits m vs (sort_of e.ty) (typed_expr test.value) (Some (typed_expr a.value)) (Some (typed_expr b.value))
   cond_asked e a test b is s =
       let h = asked e _ (is_cond e a test b is) s in
-      record { tested = ap is_simple h.2; test_suits = h.5; body_type = h.1; other_type = h.3; body_suits = h.4; other_suits = h.6 }
+      record { tested = ap is_scalar h.2; test_suits = h.5; body_type = h.1; other_type = h.3; body_suits = h.4; other_suits = h.6 }
 
 -- what it promises
 pub emits_as : (x : Setting) (e : TExpr) (n : TypedNode) (t : Sort) (b c : Building) (r : ℕ) → Is e n → sort_of e.ty ≡ t → Emits x (typed n t e.span) b c r → Emits x (typed_expr e) b c r

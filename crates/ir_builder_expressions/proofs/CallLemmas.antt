@@ -94,7 +94,7 @@ module _ (p : Program) where
   -- an exception leaves a function, and comes to its caller
   leaves_step : (g : ℕ) (h : Func) (fn k i : ℕ) (regs : Regs) (into : ℕ) (t : RType) (below : List Waiting) (e : Thrown) (s : State) → slice_get p.funcs g ≡ Some h → type_of_reg (registers_of p fn) (record { 0 = into }) ≡ Some t → is_tested (record { 0 = into }) (item_at p fn k (i + 1)) ≡ false → step Strict p (Leaves g (record { frame = record { fn = fn; block = k; place = i; regs = regs }; into = record { 0 = into } } ∷ below) (world (Some e) s)) ≡ away (handler_at p fn k) (record { fn = fn; block = k; place = i + 1; regs = put regs into (error_of t) }) below (world (Some e) s)
   leaves_step g h fn k i regs into t below e s there type edge =
-      rw (there, error_is h.ret, type) (failed_off p t (record { 0 = into }) (record { fn = fn; block = k; place = i + 1; regs = put regs into (error_of t) }) below (world (Some e) s) edge)
+      rw (there, error_is h.ret, type) (failed_off p (Some t) (record { 0 = into }) (record { fn = fn; block = k; place = i + 1; regs = put regs into (error_of t) }) below (world (Some e) s) edge)
 
 pub call_emits : {line : ℕ} (x : Setting) (f : ℕ) (g : TypedFunc) (es : TypedExprs) (place : Span) (b0 b1 b2 : Building) (rs : List Reg) (r : ℕ) → slice_get x.source.funcs f ≡ Some g → HasRoom x b0 → EmitsAll x (parameter_sorts g) es b0 b1 rs → Adds b1 b2 r (rtype_of g.ret) (op.Call record { 0 = r } f rs) line → Emits x (typed (Call f es) g.ret place) b0 b2 r
 call_emits x f g es place b0 b1 b2 rs r is room q a =

@@ -17,7 +17,7 @@ use Rattle.ir_builder_frames.specs.Settings.{Setting, rtype_of}
 use Rattle.ir_builder_frames.specs.Placing.{HasType}
 use Rattle.ir_builder_frames.specs.Calling.{Adds}
 use Rattle.ir_builder_frames.specs.Matching.{HasRoom, IsThrown}
-use Rattle.ir_builder_frames.specs.Computing.{Shows, Meaning, Arrives, Computes, Attempts}
+use Rattle.ir_builder_frames.specs.Computing.{means, Shows, Meaning, Arrives, Computes, Attempts}
 use Rattle.ir_builder_frames.proofs.HeldLemmas.{extends_refl, extends_trans, type_kept}
 use Rattle.ir_builder_frames.proofs.ComingLemmas.{ends_now, ends_of}
 use Rattle.ir_builder_frames.proofs.StepLemmas.{literal_makes}
@@ -25,7 +25,7 @@ use Rattle.ir_builder_frames.proofs.MatchLemmas.{room_on, same_refl, made_comput
 use Rattle.ir_builder_operations.specs.Operating.{ActsOnTwo}
 use Rattle.ir_builder_expressions.specs.Comparing.{holds_as}
 use Rattle.ir_builder_expressions.specs.Literals.{literal_of_truth}
-use Rattle.ir_builder_expressions.specs.Emitting.{means, means_chain, Emits, EmitsChain}
+use Rattle.ir_builder_expressions.specs.Emitting.{means_chain, Emits, EmitsChain}
 use Rattle.ir_builder_choices.specs.Choices.{Opens, Brings, Meets}
 use Rattle.ir_builder_choices.specs.Choosing.{Behind, HasValue, ComputesFrom}
 use Rattle.ir_builder_choices.proofs.ChoiceLemmas.{Told, any_from, value_from, from_by, value_stays, Beside, part_from, computes_behind, truth_from, choice_by}

@@ -19,9 +19,10 @@ use Rattle.ir_builder_comparisons.specs.Comparing.{FindsTruth}
 use Rattle.ir_builder_choices.specs.Choices.{Opens, Brings, Meets}
 use Rattle.ir_builder_choices.specs.Choosing.{HasValue, by_truth, ComputesFrom}
 use Rattle.ir_builder_choices.proofs.ChoiceLemmas.{any_from, value_from, computes_behind, choice_computes}
-use Rattle.ir_builder_expressions.specs.Parts.{is_simple}
+use Rattle.ir_builder_expressions.specs.Parts.{is_scalar}
 use Rattle.ir_builder_expressions.specs.Suiting.{Suits}
-use Rattle.ir_builder_expressions.specs.Emitting.{means, Emits}
+use Rattle.ir_builder_expressions.specs.Emitting.{Emits}
+use Rattle.ir_builder_frames.specs.Computing.{means}
 use Rattle.ir_builder_expressions.specs.Arms.{arm_of, arm_sort, means_arm, ArmSuits, ChoiceSuits, EmitsArm, EmitsChoice}
 
 -- ---- an arm that is there, and one that is missing
@@ -41,15 +42,15 @@ arm_missing x o q b is =
 
 -- ---- the whole
 
-pub simple_written : (t : Sort) → is_simple t ≡ true → is_written t ≡ true
+pub simple_written : (t : Sort) → is_scalar t ≡ true → is_written t ≡ true
 simple_written sort.Int h = refl
 simple_written sort.I64 h = refl
 simple_written sort.Bool h = refl
 simple_written sort.Str h = refl
 simple_written _ h = absurd (cc)
 
-pub test_written : (e : TExpr) → is_simple (type_of (typed_expr e)) ≡ true → is_written (sort_of e.ty) ≡ true
-test_written e h = simple_written (sort_of e.ty) (subst (λ s. is_simple s ≡ true) (type_at e) h)
+pub test_written : (e : TExpr) → is_scalar (type_of (typed_expr e)) ≡ true → is_written (sort_of e.ty) ≡ true
+test_written e h = simple_written (sort_of e.ty) (subst (λ s. is_scalar s ≡ true) (type_at e) h)
 
 pub tested_type : (x : Setting) (e : TExpr) (b c : Building) (q : ℕ) → Emits x (typed_expr e) b c q → HasType c q (rtype_of (sort_of e.ty))
 tested_type x e b c q k = subst (λ s. HasType c q (rtype_of s)) (type_at e) k.type

@@ -23,11 +23,11 @@ use Rattle.ir_builder_frames.proofs.MatchLemmas.{room_on}
 use Rattle.ir_builder_operations.specs.Operating.{ActsOnTwo}
 use Rattle.ir_builder_expressions.specs.declared.chain.Link.{Link}
 use Rattle.ir_builder_expressions.specs.declared.comparing.Side.{Side}
-use Rattle.ir_builder_expressions.specs.Compiled.{is_ordering}
+use Rattle.ir_builder_comparisons.specs.Comparing.{is_ordering}
 use Rattle.ir_builder_expressions.specs.Suiting.{Suits, ComparisonsSuit}
 use Rattle.ir_builder_expressions.specs.Literals.{literal_of_truth}
-use Rattle.ir_builder_expressions.specs.Parts.{is_simple}
-use Rattle.ir_builder_expressions.specs.Comparing.{kind_sort, is_shown_as, is_compared, holds_as}
+use Rattle.ir_builder_expressions.specs.Parts.{is_scalar, is_pair}
+use Rattle.ir_builder_expressions.specs.Comparing.{kind_sort, is_shown_as, holds_as}
 use Rattle.ir_builder_expressions.specs.Emitting.{EmitsSide, EmitsChain}
 use Rattle.ir_builder_expressions.specs.Walking.{Walks}
 use Rattle.ir_builder_expressions.specs.Linking.{Begins, Linked, Pending, Ended}
@@ -147,14 +147,14 @@ chain_empty x first [] b c r lt a = chain_done x (kind_sort first.own) (kind_sor
 chain_empty x first (p ∷ more) b c r lt a = absurd (omega arith)
 
 -- what is asked of the first comparison, and of the next one
-asked_of : (x : Setting) (s : Sort) (p : CmpOp × TExpr) (more : Chain) → ComparisonsSuit x.source x.variables s (chain_of (p ∷ more)) → (is_ordering p.0 ≡ true) × (is_compared s (type_of (typed_expr p.1)) ≡ true) × (is_simple (sort_of p.1.ty) ≡ true) × Suits x.source x.variables (typed_expr p.1)
-asked_of x s p more h = (h.0, h.1, subst (λ t. is_simple t ≡ true) (type_at p.1) h.2, h.3)
+asked_of : (x : Setting) (s : Sort) (p : CmpOp × TExpr) (more : Chain) → ComparisonsSuit x.source x.variables s (chain_of (p ∷ more)) → (is_ordering p.0 ≡ true) × (is_pair s (type_of (typed_expr p.1)) ≡ true) × (is_scalar (sort_of p.1.ty) ≡ true) × Suits x.source x.variables (typed_expr p.1)
+asked_of x s p more h = (h.0, h.1, subst (λ t. is_scalar t ≡ true) (type_at p.1) h.2, h.3)
 
-pub first_suits : (x : Setting) (s : Sort) (rest : Chain) (p q : CmpOp × TExpr) → 1 ≤ length rest → ComparisonsSuit x.source x.variables s (chain_of rest) → (is_ordering (get_or rest 0 p).0 ≡ true) × (is_compared s (type_of (typed_expr (get_or rest 0 q).1)) ≡ true) × (is_simple (sort_of (get_or rest 0 q).1.ty) ≡ true) × Suits x.source x.variables (typed_expr (get_or rest 0 q).1)
+pub first_suits : (x : Setting) (s : Sort) (rest : Chain) (p q : CmpOp × TExpr) → 1 ≤ length rest → ComparisonsSuit x.source x.variables s (chain_of rest) → (is_ordering (get_or rest 0 p).0 ≡ true) × (is_pair s (type_of (typed_expr (get_or rest 0 q).1)) ≡ true) × (is_scalar (sort_of (get_or rest 0 q).1.ty) ≡ true) × Suits x.source x.variables (typed_expr (get_or rest 0 q).1)
 first_suits x s [] p q n h = absurd (omega arith)
 first_suits x s (r ∷ more) p q n h = asked_of x s r more h
 
-pub item_suits : (x : Setting) (s : Sort) (cs : Chain) (i : ℕ) (p : CmpOp × TExpr) → i < length cs → p ≡ get_or cs i p → ComparisonsSuit x.source x.variables s (chain_of (drop i cs)) → (is_ordering p.0 ≡ true) × (is_compared s (type_of (typed_expr p.1)) ≡ true) × (is_simple (sort_of p.1.ty) ≡ true) × Suits x.source x.variables (typed_expr p.1)
+pub item_suits : (x : Setting) (s : Sort) (cs : Chain) (i : ℕ) (p : CmpOp × TExpr) → i < length cs → p ≡ get_or cs i p → ComparisonsSuit x.source x.variables s (chain_of (drop i cs)) → (is_ordering p.0 ≡ true) × (is_pair s (type_of (typed_expr p.1)) ≡ true) × (is_scalar (sort_of p.1.ty) ≡ true) × Suits x.source x.variables (typed_expr p.1)
 item_suits x s cs i p lt is h =
     let P : Chain → Type 0 = λ z. ComparisonsSuit x.source x.variables s (chain_of z) in
     asked_of x s p (drop (i + 1) cs) (subst P (next_of cs i p lt is) h)

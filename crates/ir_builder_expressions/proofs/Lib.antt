@@ -18,4 +18,3 @@ pub mod UnsuitedLemmas
 pub mod WeightLemmas
 pub mod AppliedLemmas
 pub mod WalkLemmas
-pub mod SuitLemmas

@@ -20,13 +20,13 @@ use Rattle.ir_builder_frames.specs.Settings.{Setting, rtype_of}
 use Rattle.ir_builder_frames.specs.Placing.{HasType}
 use Rattle.ir_builder_frames.specs.Calling.{Adds}
 use Rattle.ir_builder_frames.specs.Matching.{HasKind, Keeps, flag_of, flag_in, HasRoom, IsThrown}
-use Rattle.ir_builder_frames.specs.Computing.{Shows, Arrives}
+use Rattle.ir_builder_frames.specs.Computing.{means, Shows, Arrives}
 use Rattle.ir_builder_frames.proofs.HeldLemmas.{extends_refl}
 use Rattle.ir_builder_frames.proofs.ComingLemmas.{ends_now, ends_of}
 use Rattle.ir_builder_frames.proofs.StepLemmas.{literal_makes}
 use Rattle.ir_builder_frames.proofs.MatchLemmas.{same_refl, made_computes}
 use Rattle.ir_builder_expressions.specs.Literals.{literal_of_truth}
-use Rattle.ir_builder_expressions.specs.Emitting.{means, Emits}
+use Rattle.ir_builder_expressions.specs.Emitting.{Emits}
 
 pub flag_emits : {line : ℕ} (x : Setting) (value : Bool) (place : Span) (b c : Building) (r : ℕ) → Adds b c r rtype.Bool (Lit record { 0 = r } (literal_of_truth value)) line → Emits x (typed (Flag value) sort.Bool place) b c r
 flag_emits x true place b c r a = made_computes x (Shows sort.Bool) rtype.Bool _ _ b c r (literal_makes b c r rtype.Bool _ (Holds (BoolVal true)) a refl) (λ n s regs. (BoolVal true, Holds (BoolVal true), refl, refl, (refl, (true, refl))))

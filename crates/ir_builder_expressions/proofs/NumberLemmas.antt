@@ -24,8 +24,7 @@ use Rattle.ir_builder_operations.specs.Rows.{is_known, operands_of, result_of, g
 use Rattle.ir_builder_expressions.specs.Applying.{arithmetic_of, negation_of}
 use Rattle.ir_builder_operations.proofs.PartLemmas.{stays, as_one, as_two}
 use Rattle.ir_builder_operations.proofs.ThenLemmas.{attempts_as, attempts_then, two_attempts}
-use Rattle.ir_builder_expressions.specs.Compiled.{literal_in}
-use Rattle.ir_builder_expressions.specs.Parts.{native_in, sort_by, part_sort}
+use Rattle.ir_builder_expressions.specs.Parts.{native_in, sort_by, part_sort, literal_in}
 use Rattle.ir_builder_operations.proofs.CoercionLemmas.{kept_as}
 
 pub whole_numeric : (t : Sort) → is_whole t ≡ true → is_number t ≡ true

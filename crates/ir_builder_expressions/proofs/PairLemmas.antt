@@ -23,9 +23,9 @@ use Rattle.ir_builder_operations.specs.Rows.{compared_sort, compares}
 use Rattle.ir_builder_operations.proofs.KindLemmas.{by_bool}
 use Rattle.ir_builder_operations.proofs.PartLemmas.{stays}
 use Rattle.ir_builder_operations.proofs.ThenLemmas.{attempts_as, two_attempts}
-use Rattle.ir_builder_comparisons.specs.Comparing.{ordered, Compares}
-use Rattle.ir_builder_expressions.specs.Compiled.{is_text, is_ordering}
-use Rattle.ir_builder_expressions.specs.Comparing.{is_compared, is_shown_as, compared_in, is_brought, holds_as}
+use Rattle.ir_builder_comparisons.specs.Comparing.{is_ordering, ordered, Compares}
+use Rattle.ir_builder_expressions.specs.Parts.{is_text, is_pair}
+use Rattle.ir_builder_expressions.specs.Comparing.{is_shown_as, compared_in, is_brought, holds_as}
 
 -- ---- both operands come to the type of both, and are compared there
 
@@ -106,7 +106,7 @@ shown_text sort.Str f = refl
 shown_text u f = absurd (cc)
 
 -- what two operands are that are compared
-by_pair : (P : Sort → Sort → Type 0) → P sort.Int sort.Int → P sort.Int sort.I64 → P sort.Int sort.Bool → P sort.I64 sort.Int → P sort.I64 sort.I64 → P sort.I64 sort.Bool → P sort.Bool sort.Int → P sort.Bool sort.I64 → P sort.Bool sort.Bool → P sort.Str sort.Str → (s t : Sort) → is_compared s t ≡ true → P s t
+by_pair : (P : Sort → Sort → Type 0) → P sort.Int sort.Int → P sort.Int sort.I64 → P sort.Int sort.Bool → P sort.I64 sort.Int → P sort.I64 sort.I64 → P sort.I64 sort.Bool → P sort.Bool sort.Int → P sort.Bool sort.I64 → P sort.Bool sort.Bool → P sort.Str sort.Str → (s t : Sort) → is_pair s t ≡ true → P s t
 by_pair P a b c d e f g h i j sort.Int sort.Int is = a
 by_pair P a b c d e f g h i j sort.Int sort.I64 is = b
 by_pair P a b c d e f g h i j sort.Int sort.Bool is = c
@@ -122,7 +122,7 @@ by_pair P a b c d e f g h i j s t is = absurd (cc)
 abbrev AreBrought : Sort → Sort → Type 0
 AreBrought s t = (u w : Sort) → is_shown_as s u ≡ true → is_shown_as t w ≡ true → (is_brought (compared_in (compared_as s t)) u ≡ true) × (is_brought (compared_in (compared_as s t)) w ≡ true)
 
-are_brought : (s t : Sort) → is_compared s t ≡ true → AreBrought s t
+are_brought : (s t : Sort) → is_pair s t ≡ true → AreBrought s t
 are_brought =
     let both : (s t : Sort) → is_number s ≡ true → is_number t ≡ true → (u w : Sort) → is_shown_as s u ≡ true → is_shown_as t w ≡ true → (is_number u ≡ true) × (is_number w ≡ true) = λ s t e f u w k l. (shown_number s u e k, shown_number t w f l) in
     by_pair AreBrought (both sort.Int sort.Int refl refl) (both sort.Int sort.I64 refl refl) (both sort.Int sort.Bool refl refl) (both sort.I64 sort.Int refl refl) (both sort.I64 sort.I64 refl refl) (both sort.I64 sort.Bool refl refl) (both sort.Bool sort.Int refl refl) (both sort.Bool sort.I64 refl refl) (both sort.Bool sort.Bool refl refl)
@@ -131,7 +131,7 @@ are_brought =
 abbrev AreCompared : CmpOp → Sort → Sort → Type 0
 AreCompared op s t = (u u' : Sort) (v w : Value) (st : State) → is_shown_as s u ≡ true → is_shown_as t u' ≡ true → HasKind u v → HasKind u' w → holds_as op s t v w st ≡ Brought (compared_sort (compared_in (compared_as s t))) op v w st
 
-are_compared : (op : CmpOp) → is_ordering op ≡ true → (s t : Sort) → is_compared s t ≡ true → AreCompared op s t
+are_compared : (op : CmpOp) → is_ordering op ≡ true → (s t : Sort) → is_pair s t ≡ true → AreCompared op s t
 are_compared op o =
     let numbers : (s t u u' : Sort) (v w : Value) (st : State) → is_shown_as s u ≡ true → is_shown_as t u' ≡ true → HasKind u v → HasKind u' w → holds_as op s t v w st ≡ Brought (compared_as s t) op v w st = λ s t u u' v w st e f k l. split op s t v w st o in
     by_pair (AreCompared op) (numbers sort.Int sort.Int) (numbers sort.Int sort.I64) (numbers sort.Int sort.Bool) (numbers sort.I64 sort.Int) (numbers sort.I64 sort.I64) (numbers sort.I64 sort.Bool) (numbers sort.Bool sort.Int) (numbers sort.Bool sort.I64)
@@ -160,7 +160,7 @@ text_brought c s b x is e =
     let P : Compared → Type 0 = λ z. Brings z sort.Str b b x x in
     subst Q (is_str s (ap (λ z. is_brought z s) (sym is) ∙ e)) (λ type. subst P (sym is) (stays sort.Str (coerced sort.Str) b x rtype.Ref type (λ v s k. refl)))
 
-module _ (s t u w : Sort) (c : Compared) (pair : is_compared s t ≡ true) (left : is_shown_as s u ≡ true) (right : is_shown_as t w ≡ true) (is : c ≡ compared_in (compared_as s t)) where
+module _ (s t u w : Sort) (c : Compared) (pair : is_pair s t ≡ true) (left : is_shown_as s u ≡ true) (right : is_shown_as t w ≡ true) (is : c ≡ compared_in (compared_as s t)) where
   pub left_brought : is_brought c u ≡ true
   left_brought = ap (λ z. is_brought z u) is ∙ (are_brought s t pair u w left right).0
 

@@ -20,7 +20,7 @@ use Rattle.ir_core.specs.Building.{Building}
 use Rattle.ir_builder_frames.specs.Settings.{Setting, rtype_of}
 use Rattle.ir_builder_frames.specs.Calling.{Adds}
 use Rattle.ir_builder_frames.specs.Matching.{HasRoom}
-use Rattle.ir_builder_frames.specs.Computing.{Shows, Computes, Makes, Attempts}
+use Rattle.ir_builder_frames.specs.Computing.{means, Shows, Computes, Makes, Attempts}
 use Rattle.ir_builder_frames.proofs.StepLemmas.{literal_makes}
 use Rattle.ir_builder_frames.proofs.MatchLemmas.{computes_of, made_computes}
 use Rattle.ir_builder_frames.proofs.AttemptLemmas.{both_attempt}
@@ -28,10 +28,9 @@ use Rattle.ir_builder_operations.specs.Operating.{ActsOn, ActsOnTwo}
 use Rattle.ir_builder_expressions.specs.declared.applying.Unary.{Unary}
 use Rattle.ir_builder_expressions.specs.declared.applying.Binary.{Binary}
 use Rattle.ir_builder_expressions.specs.declared.applying.Binary.TheVariants as binary
-use Rattle.ir_builder_expressions.specs.Compiled.{literal_in}
-use Rattle.ir_builder_expressions.specs.Parts.{fitting_in, native_in, sort_by, part_sort}
+use Rattle.ir_builder_expressions.specs.Parts.{fitting_in, native_in, sort_by, part_sort, literal_in}
 use Rattle.ir_builder_expressions.specs.Applying.{unary_goes, binary_goes}
-use Rattle.ir_builder_expressions.specs.Emitting.{means, Emits, EmitsPart, EmitsOne, EmitsTwo}
+use Rattle.ir_builder_expressions.specs.Emitting.{Emits, EmitsPart, EmitsOne, EmitsTwo}
 use Rattle.ir_builder_expressions.proofs.FollowLemmas.{part_attempts}
 
 -- ---- literals

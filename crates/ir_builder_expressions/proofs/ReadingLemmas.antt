@@ -35,7 +35,7 @@ use Rattle.ir_builder_frames.specs.Calling.{Adds, Pushes, Closes, Patches}
 use Rattle.ir_builder_frames.specs.Settings.{Setting, rtype_of}
 use Rattle.ir_builder_frames.specs.Placing.{HasType, Has, Placed, or_other}
 use Rattle.ir_builder_frames.specs.Coming.{world, running, Leads, Ends}
-use Rattle.ir_builder_frames.specs.Computing.{Shows, Arrives, Computes}
+use Rattle.ir_builder_frames.specs.Computing.{means, Shows, Arrives, Computes}
 use Rattle.ir_builder_frames.specs.Kinds.{IsAmong, KeepsKindsIf, Answers, ReadsGlobal}
 use Rattle.ir_builder_frames.specs.Matching.{HasKind, Keeps, flag_of, flag_in, Matches, HasRoom, IsThrown}
 use Rattle.ir_builder_frames.proofs.ComingLemmas.{leads_step, leads_trans, ends_of, ends_lead}
@@ -43,16 +43,16 @@ use Rattle.ir_builder_frames.proofs.HeldLemmas.{extends_trans, get_below, has_le
 use Rattle.ir_builder_frames.proofs.MatchLemmas.{same_refl, thrown_at}
 use Rattle.ir_builder_frames.proofs.PatchLemmas.{patches}
 use Rattle.ir_builder_frames.proofs.GlobalLemmas.{get_map, global_computes, read_fits}
-use Rattle.ir_builder_expressions.specs.Emitting.{means, Emits}
+use Rattle.ir_builder_expressions.specs.Emitting.{Emits}
 use Rattle.ir_builder_expressions.specs.Suiting.{IsSimpleAt}
 use Rattle.ir_builder_expressions.specs.Reading.{reports_unbound, TestsSet, setting_in, HasRegisters, EmitsLocal, EmitsGlobal}
 use Rattle.ir_builder_expressions.proofs.NodeLemmas.{local_emits}
 
 -- ---- the test
 
-module _ (b0 b1 b2 b3 b4 b5 b6 : Building) (test bad good flag r line : ℕ) (name : List ℕ) (type : HasType b0 flag rtype.Bool) (c01 : Closes b0 b1 (Goto test)) (test_is : test ≡ length b1.blocks) (c12 : Closes b1 b2 Unreachable) (bad_is : bad ≡ length b2.blocks) (q23 : Pushes b2 b3 (reports_unbound name) line) (a34 : Adds b3 b4 r rtype.Bool (Lit record { 0 = r } (Number (pos 0))) line) (c45 : Closes b4 b5 (Goto good)) (good_is : good ≡ length b5.blocks) (set : b6 ≡ record b5 { blocks = with_last b5.blocks test (IfError (record { 0 = flag }) bad good line) }) where
+module _ (b0 b1 b2 b3 b4 b5 b6 : Building) (test bad good flag r line : ℕ) (name : List ℕ) (type : HasType b0 flag rtype.Bool) (c01 : Closes b0 b1 (Goto test)) (test_is : test ≡ length b1.blocks) (c12 : Closes b1 b2 Unreachable) (bad_is : bad ≡ length b2.blocks) (q23 : Pushes b2 b3 (reports_unbound name) line) (a34 : Adds b3 b4 r rtype.Bool (Lit record { 0 = r } (Number (pos 0))) line) (x45 : Extends b4 b5) (empty : length b5.ops ≡ 0) (good_is : good ≡ length b5.blocks) (set : b6 ≡ record b5 { blocks = with_last b5.blocks test (IfError (record { 0 = flag }) bad good line) }) where
   x35 : Extends b3 b5
-  x35 = extends_trans b3 b4 b5 a34.extends c45.extends
+  x35 = extends_trans b3 b4 b5 a34.extends x45
 
   x25 : Extends b2 b5
   x25 = extends_trans b2 b3 b5 q23.extends x35
@@ -92,14 +92,14 @@ module _ (b0 b1 b2 b3 b4 b5 b6 : Building) (test bad good flag r line : ℕ) (na
     on_set : (v : Value) → regs flag ≡ Holds v → Leads p (running fn (length b0.blocks) (length b0.ops) regs below (world None s)) (running fn (length b6.blocks) (length b6.ops) regs below (world None s))
     on_set v is =
         let first = leads_step p _ _ (tested (Holds v) false is refl) in
-        let there : running fn good 0 regs below (world None s) ≡ running fn (length b6.blocks) (length b6.ops) regs below (world None s) = ap (λ k. running fn k 0 regs below (world None s)) (good_is ∙ sym written.blocks) ∙ ap (λ i. running fn (length b6.blocks) i regs below (world None s)) (sym (written.ops ∙ c45.ops)) in
+        let there : running fn good 0 regs below (world None s) ≡ running fn (length b6.blocks) (length b6.ops) regs below (world None s) = ap (λ k. running fn k 0 regs below (world None s)) (good_is ∙ sym written.blocks) ∙ ap (λ i. running fn (length b6.blocks) i regs below (world None s)) (sym (written.ops ∙ empty)) in
         subst (λ d. Leads p (running fn (length b0.blocks) (length b0.ops) regs below (world None s)) d) there (leads_trans p _ _ _ to_test first)
 
     behind : item_at p fn bad 1 ≡ Some (Do (Lit (record { 0 = r }) (Number (pos 0))) line)
     behind =
         let one : length b3.ops ≡ 1 = (let z = q23.ops in let y = c12.ops in omega arith) in
         ap (λ k. item_at p fn k 1) (bad_is ∙ sym q23.blocks) ∙ ap (item_at p fn (length b3.blocks)) (sym one)
-        ∙ adds_has p fn b3 b4 r rtype.Bool _ a34 (has_less p fn b4 b5 c45.extends has5)
+        ∙ adds_has p fn b3 b4 r rtype.Bool _ a34 (has_less p fn b4 b5 x45 has5)
 
     reported : item_at p fn bad 0 ≡ Some (Do (reports_unbound name) line)
     reported =

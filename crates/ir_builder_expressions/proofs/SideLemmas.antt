@@ -11,16 +11,15 @@ use Rattle.py_typed.proofs.ExpressionLemmas.{type_at}
 use Rattle.ir_core.specs.declared.code.Reg.{Reg}
 use Rattle.ir_core.specs.Building.{Building}
 use Rattle.ir_builder_frames.specs.Settings.{Setting, rtype_of}
-use Rattle.ir_builder_frames.specs.Computing.{Shows, Computes}
+use Rattle.ir_builder_frames.specs.Computing.{means, Shows, Computes}
 use Rattle.ir_builder_expressions.specs.declared.comparing.Kind.{Kind}
-use Rattle.ir_builder_expressions.specs.Compiled.{literal_in}
-use Rattle.ir_builder_expressions.specs.Parts.{is_simple, native_in, sort_by, part_sort}
+use Rattle.ir_builder_expressions.specs.Parts.{is_scalar, native_in, sort_by, part_sort, literal_in}
 use Rattle.ir_builder_expressions.specs.Comparing.{kind_sort, is_shown_as}
 use Rattle.ir_builder_expressions.specs.Suiting.{Suits}
-use Rattle.ir_builder_expressions.specs.Emitting.{means, EmitsPart, EmitsSide}
+use Rattle.ir_builder_expressions.specs.Emitting.{EmitsPart, EmitsSide}
 use Rattle.ir_builder_expressions.proofs.PieceLemmas.{native_is}
 
-own_shown : (t : Sort) → is_simple t ≡ true → is_shown_as t t ≡ true
+own_shown : (t : Sort) → is_scalar t ≡ true → is_shown_as t t ≡ true
 own_shown sort.Int e = refl
 own_shown sort.I64 e = refl
 own_shown sort.Bool e = refl
@@ -33,7 +32,7 @@ module _ (m : TypedModule) (vs : List Variable) where
   literal_type (Int i) t place n is h = h.0
   literal_type _ t place n is h = absurd (cc)
 
-  shown_by : (e : TypedExpr) (o : Option ℤ) → (literal_in e ≡ o) ⊎ (o ≡ None) → is_simple (type_of e) ≡ true → Suits m vs e → is_shown_as (type_of e) (sort_by o (type_of e)) ≡ true
+  shown_by : (e : TypedExpr) (o : Option ℤ) → (literal_in e ≡ o) ⊎ (o ≡ None) → is_scalar (type_of e) ≡ true → Suits m vs e → is_shown_as (type_of e) (sort_by o (type_of e)) ≡ true
   shown_by e None is simple h = own_shown (type_of e) simple
   shown_by (typed k t place) (Some n) (inl is) simple h = ap (λ z. is_shown_as z sort.I64) (literal_type k t place n is h)
   shown_by e (Some n) (inr is) simple h = absurd (cc)
@@ -42,14 +41,14 @@ module _ (m : TypedModule) (vs : List Variable) where
   native_or t o None is = inr refl
   native_or t o (Some n) is = inl ((native_is t o n is).0)
 
-  pub part_shown : (t : Sort) (e : TypedExpr) → is_simple (type_of e) ≡ true → Suits m vs e → is_shown_as (type_of e) (part_sort t e) ≡ true
+  pub part_shown : (t : Sort) (e : TypedExpr) → is_scalar (type_of e) ≡ true → Suits m vs e → is_shown_as (type_of e) (part_sort t e) ≡ true
   part_shown t e simple h = shown_by e (native_in t (literal_in e)) (native_or t (literal_in e) (native_in t (literal_in e)) refl) simple h
 
-pub side_emits : (x : Setting) (t : Sort) (e : TExpr) (own shown : Kind) (reg : Reg) (b c : Building) → (is_simple (sort_of e.ty) ≡ true → kind_sort own ≡ sort_of e.ty) → kind_sort shown ≡ part_sort t (typed_expr e) → is_simple (sort_of e.ty) ≡ true → Suits x.source x.variables (typed_expr e) → EmitsPart x t (typed_expr e) b c reg.0 → EmitsSide x (typed_expr e) record { reg = reg; own = own; shown = shown } b c
+pub side_emits : (x : Setting) (t : Sort) (e : TExpr) (own shown : Kind) (reg : Reg) (b c : Building) → (is_scalar (sort_of e.ty) ≡ true → kind_sort own ≡ sort_of e.ty) → kind_sort shown ≡ part_sort t (typed_expr e) → is_scalar (sort_of e.ty) ≡ true → Suits x.source x.variables (typed_expr e) → EmitsPart x t (typed_expr e) b c reg.0 → EmitsSide x (typed_expr e) record { reg = reg; own = own; shown = shown } b c
 side_emits x t e own shown reg b c is_own is_shown simple suits q =
     let here : kind_sort own ≡ type_of (typed_expr e) = is_own simple ∙ sym (type_at e) in
     let P : Sort → Type 0 = λ u. Computes x (Shows u) (rtype_of u) (means x (typed_expr e)) b c reg.0 in
-    let of_part = part_shown x.source x.variables t (typed_expr e) (subst (λ z. is_simple z ≡ true) (sym (type_at e)) simple) suits in
+    let of_part = part_shown x.source x.variables t (typed_expr e) (subst (λ z. is_scalar z ≡ true) (sym (type_at e)) simple) suits in
     record {
       own = here;
       shown = ap (λ z. is_shown_as z (kind_sort shown)) here ∙ ap (λ z. is_shown_as (type_of (typed_expr e)) z) is_shown ∙ of_part;

@@ -26,18 +26,18 @@ use Rattle.ir_builder_frames.specs.Settings.{Setting, rtype_of}
 use Rattle.ir_builder_frames.specs.Placing.{HasType}
 use Rattle.ir_builder_frames.specs.Calling.{Adds}
 use Rattle.ir_builder_frames.specs.Matching.{HasRoom, parameter_sorts}
-use Rattle.ir_builder_frames.specs.Computing.{Shows, Computes, Makes, Attempts, HaveTypes}
+use Rattle.ir_builder_frames.specs.Computing.{means, Shows, Computes, Makes, Attempts, HaveTypes}
 use Rattle.ir_builder_frames.specs.Shaped.{AllBelow, Keeps}
 use Rattle.ir_builder_frames.specs.Kinds.{Surrounding, Calls, KeepsKindsIf}
 use Rattle.ir_builder_frames.proofs.HeldLemmas.{get_below, type_below}
 use Rattle.ir_builder_operations.specs.Operating.{Acts}
-use Rattle.ir_builder_expressions.specs.Parts.{is_simple}
+use Rattle.ir_builder_expressions.specs.Parts.{is_scalar}
 use Rattle.ir_builder_expressions.specs.declared.comparing.Side.{Side}
 use Rattle.ir_builder_expressions.specs.Comparing.{kind_sort}
 use Rattle.ir_builder_expressions.specs.Suiting.{IsSimpleAt, Suits, SomeSuit, ComparisonsSuit}
 use Rattle.ir_builder_expressions.specs.Literals.{literal_of_truth}
 use Rattle.ir_builder_expressions.specs.Reading.{EmitsLocal, EmitsGlobal}
-use Rattle.ir_builder_expressions.specs.Emitting.{means, Emits, EmitsAll, EmitsSide, EmitsChain}
+use Rattle.ir_builder_expressions.specs.Emitting.{Emits, EmitsAll, EmitsSide, EmitsChain}
 use Rattle.ir_builder_expressions.specs.Walking.{Walks}
 use Rattle.ir_builder_expressions.proofs.ArmLemmas.{asked, emits_as, is_int, is_text, is_input, is_bool as is_flag, is_local, is_global, is_compare, is_call}
 use Rattle.ir_builder_expressions.proofs.FollowLemmas.{acts_computes}
@@ -50,10 +50,6 @@ use Rattle.ir_builder_expressions.proofs.WalkingLemmas.{walks_trans, walks_known
 
 abbrev Part : Type 0
 Part = Box TExpr Global
-
--- a register that is not that of a bool, of a type that is known
-emits_type : (x : Setting) (e : TypedExpr) (t : Sort) (b c : Building) (r : ℕ) → type_of e ≡ t → Emits x e b c r → HasType c r (rtype_of t)
-emits_type x e t b c r is q = subst (λ z. HasType c r (rtype_of z)) is q.type
 
 module _ (x : Setting) (e : TExpr) (suits : Suits x.source x.variables (typed_expr e)) where
   -- ---- what has no parts
@@ -88,7 +84,7 @@ module _ (x : Setting) (e : TExpr) (suits : Suits x.source x.variables (typed_ex
   pub global_simple : (i : ℕ) → e.kind ≡ kind.Global i → IsSimpleAt x.source.globals i
   global_simple i is =
       let n = asked x.source x.variables e (tree.Global i) (is_global e i is) suits in
-      (n.1, n.2, subst (λ t. is_simple t ≡ true) (sym n.3) n.0)
+      (n.1, n.2, subst (λ t. is_scalar t ≡ true) (sym n.3) n.0)
 
   pub global_walked : (i : ℕ) (b c : Building) (r : ℕ) → e.kind ≡ kind.Global i → HasRoom x b → EmitsGlobal x.source i b c r → Emits x (typed_expr e) b c r
   global_walked i b c r is room q =
@@ -97,11 +93,11 @@ module _ (x : Setting) (e : TExpr) (suits : Suits x.source x.variables (typed_ex
 
   -- ---- comparisons
 
-  pub compare_part : (a : Part) (p : TExpr) (cs : List (CmpOp × TExpr)) → e.kind ≡ kind.Compare a cs → p ≡ a.value → (is_simple (sort_of p.ty) ≡ true) × Suits x.source x.variables (typed_expr p)
+  pub compare_part : (a : Part) (p : TExpr) (cs : List (CmpOp × TExpr)) → e.kind ≡ kind.Compare a cs → p ≡ a.value → (is_scalar (sort_of p.ty) ≡ true) × Suits x.source x.variables (typed_expr p)
   compare_part a p cs is same =
       let n = asked x.source x.variables e (tree.Compare (typed_expr a.value) (comparisons_of (map typed_comparison cs))) (is_compare e a cs is) suits in
-      let P : TExpr → Type 0 = λ z. (is_simple (sort_of z.ty) ≡ true) × Suits x.source x.variables (typed_expr z) in
-      subst P (sym same) (subst (λ t. is_simple t ≡ true) (type_at a.value) n.1, n.2)
+      let P : TExpr → Type 0 = λ z. (is_scalar (sort_of z.ty) ≡ true) × Suits x.source x.variables (typed_expr z) in
+      subst P (sym same) (subst (λ t. is_scalar t ≡ true) (type_at a.value) n.1, n.2)
 
   -- the operand has the type of the part
   side_type : (a : Part) (p : TExpr) (q : Side) (b c : Building) → p ≡ a.value → EmitsSide x (typed_expr p) q b c → kind_sort q.own ≡ type_of (typed_expr a.value)

@@ -10,15 +10,14 @@ use Rattle.source_meaning.specs.State.{Does, ◌>>=◌, give, needs}
 use Rattle.source_meaning.specs.Operations.{coerced, arithmetic, negated, joined, letter, has_text, text_of, truth_of, length_of}
 use Rattle.ir_builder_operations.specs.declared.operation.Operation.{Operation}
 use Rattle.ir_builder_operations.specs.declared.operation.Operation.TheVariants.{IntArithmetic, NativeArithmetic, IntNegation, NativeNegation}
-use Rattle.ir_builder_operations.specs.Operating.{is_whole}
+use Rattle.ir_builder_operations.specs.Operating.{is_arithmetic, is_whole}
 use Rattle.ir_builder_expressions.specs.declared.applying.Unary.{Unary}
 use Rattle.ir_builder_expressions.specs.declared.applying.Unary.TheVariants.{Negated, Inverted, Tested, Counted, Written, Coerced}
 use Rattle.ir_builder_expressions.specs.declared.applying.Binary.{Binary}
 use Rattle.ir_builder_expressions.specs.declared.applying.Binary.TheVariants.{Arithmetic, Joined, Indexed}
 use Rattle.ir_builder_expressions.specs.declared.applying.Applied as program
 use Rattle.ir_builder_expressions.specs.declared.applying.Applied.TheVariants.{One, Two}
-use Rattle.ir_builder_expressions.specs.Compiled.{is_built}
-use Rattle.ir_builder_expressions.specs.Parts.{is_simple}
+use Rattle.ir_builder_expressions.specs.Parts.{is_scalar}
 
 -- with a result of a type
 abbrev pub unary_goes : Unary → Sort → Value → Does Value
@@ -38,13 +37,13 @@ binary_goes Indexed t v w = letter v w
 abbrev pub UnarySuits : Unary → Sort → Sort → Type 0
 UnarySuits Negated t s = (is_whole t ≡ true) × (is_number s ≡ true)
 UnarySuits Inverted t s = (t ≡ sort.Bool) × (s ≡ sort.Bool)
-UnarySuits Tested t s = (t ≡ sort.Bool) × (is_simple s ≡ true)
+UnarySuits Tested t s = (t ≡ sort.Bool) × (is_scalar s ≡ true)
 UnarySuits Counted t s = (t ≡ sort.Int) × (s ≡ sort.Str)
-UnarySuits Written t s = (t ≡ sort.Str) × (is_simple s ≡ true)
+UnarySuits Written t s = (t ≡ sort.Str) × (is_scalar s ≡ true)
 UnarySuits Coerced t s = (is_whole t ≡ true) × (is_number s ≡ true)
 
 abbrev pub BinarySuits : Binary → Sort → Sort → Sort → Type 0
-BinarySuits (Arithmetic op) t s u = (is_whole t ≡ true) × (is_built op ≡ true) × (is_number s ≡ true) × (is_number u ≡ true)
+BinarySuits (Arithmetic op) t s u = (is_whole t ≡ true) × (is_arithmetic op ≡ true) × (is_number s ≡ true) × (is_number u ≡ true)
 BinarySuits Joined t s u = (t ≡ sort.Str) × (s ≡ sort.Str) × (u ≡ sort.Str)
 BinarySuits Indexed t s u = (t ≡ sort.Str) × (s ≡ sort.Str) × (u ≡ sort.Int)
 

@@ -10,7 +10,7 @@ use Rattle.source_meaning.specs.Operations.{holds}
 use Rattle.ir_builder_operations.specs.declared.operation.Compared.{Compared}
 use Rattle.ir_builder_operations.specs.declared.operation.Compared.TheVariants.{Ints, Natives, Texts}
 use Rattle.ir_builder_operations.specs.Rows.{as_value}
-use Rattle.ir_builder_expressions.specs.Compiled.{is_text, is_pair}
+use Rattle.ir_builder_expressions.specs.Parts.{is_text}
 use Rattle.ir_builder_expressions.specs.declared.comparing.Kind.{Kind}
 use Rattle.ir_builder_expressions.specs.declared.comparing.Kind.TheVariants as kind
 
@@ -19,10 +19,6 @@ kind_sort kind.Int = sort.Int
 kind_sort kind.I64 = sort.I64
 kind_sort kind.Bool = sort.Bool
 kind_sort kind.Str = sort.Str
-
--- two numbers or bools, or two texts
-abbrev pub is_compared : Sort → Sort → Bool
-is_compared s t = is_pair s t
 
 -- the register has the type of the operand, or is one of native integers for an `int` literal
 abbrev pub is_shown_as : Sort → Sort → Bool

@@ -3,7 +3,7 @@ use Rattle.std.specs.Prelude.{◌≡◌, ℕ, true, List}
 use Rattle.value_core.specs.Value.{Value}
 use Rattle.py_typed.specs.Sorts.{Sort, Bool}
 use Rattle.py_typed.specs.Expressions.{TypedExpr, TypedExprs, Comparisons, type_of}
-use Rattle.source_meaning.specs.ExpressionMeaning.{expression, expressions, chain}
+use Rattle.source_meaning.specs.ExpressionMeaning.{expressions, chain}
 use Rattle.source_meaning.specs.State.{on_to}
 use Rattle.source_meaning.specs.SourceRun.{call_of}
 use Rattle.ir_core.specs.declared.code.Reg.{Reg}
@@ -15,13 +15,10 @@ use Rattle.ir_builder_expressions.specs.Parts.{part_sort}
 use Rattle.ir_builder_expressions.specs.Applying.{unary_goes, binary_goes}
 use Rattle.ir_builder_expressions.specs.declared.comparing.Side.{Side}
 use Rattle.ir_builder_expressions.specs.Comparing.{kind_sort, is_shown_as}
-use Rattle.ir_builder_frames.specs.Computing.{Shows, Meaning, Computes, ComputesAll}
+use Rattle.ir_builder_frames.specs.Computing.{Shows, Meaning, means, Computes, ComputesAll}
 use Rattle.ir_builder_choices.specs.Choosing.{HasValue, ComputesFrom}
 
--- what an expression means, by the bound of calls and turns
-abbrev pub means : Setting → TypedExpr → Meaning Value
-means x e n = expression x.source.classes.classes (call_of x.source n) x.source.globals x.variables e
-
+-- what several expressions mean, one after another, and what a chain of comparisons means
 abbrev pub means_all : Setting → TypedExprs → Meaning (List Value)
 means_all x es n = expressions x.source.classes.classes (call_of x.source n) x.source.globals x.variables es
 

@@ -1,18 +1,48 @@
 -- The types of values that are built, and of the registers for the parts of an operation.
-use Rattle.std.specs.Prelude.{ℤ, Bool, Option, Some, None, if◌then◌else◌}
+use Rattle.std.specs.Prelude.{ℤ, Bool, true, false, ◌&&◌, ◌||◌, Option, Some, None, if◌then◌else◌}
 use Rattle.value_core.specs.Arithmetic.{lies_within}
+use Rattle.py_typed.specs.Fits.{is_number}
 use Rattle.py_typed.specs.Sorts as sort
 use Rattle.py_typed.specs.Sorts.{Sort}
-use Rattle.py_typed.specs.Expressions.{TypedExpr, type_of}
-use Rattle.ir_builder_expressions.specs.Compiled.{is_scalar, is_result, literal_in}
+use Rattle.py_typed.specs.Expressions.{TypedExpr, typed, Int, type_of}
 
--- numbers, bools and texts
-abbrev pub is_simple : Sort → Bool
-is_simple t = is_scalar t
+abbrev pub is_i64 : Sort → Bool
+is_i64 sort.I64 = true
+is_i64 _ = false
+
+abbrev pub is_bool : Sort → Bool
+is_bool sort.Bool = true
+is_bool _ = false
+
+abbrev pub is_int : Sort → Bool
+is_int sort.Int = true
+is_int _ = false
+
+abbrev pub is_text : Sort → Bool
+is_text sort.Str = true
+is_text _ = false
+
+-- numbers, bools and texts, which variables hold
+abbrev pub is_scalar : Sort → Bool
+is_scalar sort.Int = true
+is_scalar sort.I64 = true
+is_scalar sort.Bool = true
+is_scalar sort.Str = true
+is_scalar _ = false
 
 -- and what a call may give
-abbrev pub is_given : Sort → Bool
-is_given t = is_result t
+abbrev pub is_result : Sort → Bool
+is_result sort.Nothing = true
+is_result t = is_scalar t
+
+-- an `int` as it stands in the text
+abbrev pub literal_in : TypedExpr → Option ℤ
+literal_in (typed (Int n) t place) = Some n
+literal_in e = None
+
+-- two numbers or bools are compared, or two texts
+abbrev pub is_pair : Sort → Sort → Bool
+is_pair s t = (is_number s && is_number t) || (is_text s && is_text t)
 
 -- a number that is a native integer
 abbrev pub fitting_in : Option ℤ → Option ℤ

@@ -9,14 +9,13 @@ use Rattle.py_typed.specs.Expressions.{TypedExpr, typed, TypedNode, Int, Str, Fl
 use Rattle.ir_builder_frames.specs.Matching.{parameter_sorts}
 use Rattle.ir_builder_expressions.specs.declared.applying.Unary.TheVariants.{Negated, Inverted, Tested, Counted, Written, Coerced}
 use Rattle.ir_builder_expressions.specs.declared.applying.Binary.TheVariants.{Arithmetic, Joined, Indexed}
-use Rattle.ir_builder_expressions.specs.Compiled.{is_ordering}
-use Rattle.ir_builder_expressions.specs.Parts.{is_simple, is_given}
+use Rattle.ir_builder_comparisons.specs.Comparing.{is_ordering}
+use Rattle.ir_builder_expressions.specs.Parts.{is_scalar, is_result, is_pair}
 use Rattle.ir_builder_expressions.specs.Applying.{UnarySuits, BinarySuits}
-use Rattle.ir_builder_expressions.specs.Comparing.{is_compared}
 
 -- the variable of a number holds a number, a bool or a text
 abbrev pub IsSimpleAt : List Variable → ℕ → Type 0
-IsSimpleAt vs i = (v : Variable) × (slice_get vs i ≡ Some v) × (is_simple v.1 ≡ true)
+IsSimpleAt vs i = (v : Variable) × (slice_get vs i ≡ Some v) × (is_scalar v.1 ≡ true)
 
 module _ (m : TypedModule) (vs : List Variable) where
   abbrev mutual
@@ -27,21 +26,21 @@ module _ (m : TypedModule) (vs : List Variable) where
     NodeSuits (Int n) t = (t ≡ sort.Int) × (lies_within 127 n ≡ true)
     NodeSuits (Str text) t = t ≡ sort.Str
     NodeSuits (Flag b) t = t ≡ sort.Bool
-    NodeSuits (Local i) t = (is_simple t ≡ true) × (v : Variable) × (slice_get vs i ≡ Some v) × (v.1 ≡ t)
-    NodeSuits (Global i) t = (is_simple t ≡ true) × (v : Variable) × (slice_get m.globals i ≡ Some v) × (v.1 ≡ t)
+    NodeSuits (Local i) t = (is_scalar t ≡ true) × (v : Variable) × (slice_get vs i ≡ Some v) × (v.1 ≡ t)
+    NodeSuits (Global i) t = (is_scalar t ≡ true) × (v : Variable) × (slice_get m.globals i ≡ Some v) × (v.1 ≡ t)
     NodeSuits (Neg e) t = UnarySuits Negated t (type_of e) × Suits e
     NodeSuits (Not e) t = UnarySuits Inverted t (type_of e) × Suits e
     NodeSuits (Truth e) t = UnarySuits Tested t (type_of e) × Suits e
     NodeSuits (Arith op a b) t = BinarySuits (Arithmetic op) t (type_of a) (type_of b) × Suits a × Suits b
     NodeSuits (Concat a b) t = BinarySuits Joined t (type_of a) (type_of b) × Suits a × Suits b
     NodeSuits (Compare e more) t =
-        (t ≡ sort.Bool) × (is_simple (type_of e) ≡ true) × Suits e × ComparisonsSuit (type_of e) more
-    NodeSuits (And a b) t = (is_simple t ≡ true) × (type_of a ≡ t) × (type_of b ≡ t) × Suits a × Suits b
-    NodeSuits (Or a b) t = (is_simple t ≡ true) × (type_of a ≡ t) × (type_of b ≡ t) × Suits a × Suits b
+        (t ≡ sort.Bool) × (is_scalar (type_of e) ≡ true) × Suits e × ComparisonsSuit (type_of e) more
+    NodeSuits (And a b) t = (is_scalar t ≡ true) × (type_of a ≡ t) × (type_of b ≡ t) × Suits a × Suits b
+    NodeSuits (Or a b) t = (is_scalar t ≡ true) × (type_of a ≡ t) × (type_of b ≡ t) × Suits a × Suits b
     NodeSuits (Cond a test b) t =
-        (is_simple t ≡ true) × (type_of a ≡ t) × (type_of test ≡ sort.Bool) × (type_of b ≡ t) × Suits a × Suits test × Suits b
+        (is_scalar t ≡ true) × (type_of a ≡ t) × (type_of test ≡ sort.Bool) × (type_of b ≡ t) × Suits a × Suits test × Suits b
     NodeSuits (At a b) t = BinarySuits Indexed t (type_of a) (type_of b) × Suits a × Suits b
-    NodeSuits (Call f es) t = (is_given t ≡ true) × (g : TypedFunc) × (slice_get m.funcs f ≡ Some g) × (g.ret ≡ t) × ArgumentsSuit (parameter_sorts g) es
+    NodeSuits (Call f es) t = (is_result t ≡ true) × (g : TypedFunc) × (slice_get m.funcs f ≡ Some g) × (g.ret ≡ t) × ArgumentsSuit (parameter_sorts g) es
     NodeSuits Input t = t ≡ sort.Str
     NodeSuits (Len e) t = UnarySuits Counted t (type_of e) × Suits e
     NodeSuits (ToStr e) t = UnarySuits Written t (type_of e) × Suits e
@@ -58,7 +57,7 @@ module _ (m : TypedModule) (vs : List Variable) where
     pub ComparisonsSuit : Sort → Comparisons → Type 0
     ComparisonsSuit s no_comparisons = Unit {0}
     ComparisonsSuit s (comparison_then op e more) =
-        (is_ordering op ≡ true) × (is_compared s (type_of e) ≡ true) × (is_simple (type_of e) ≡ true) × Suits e × ComparisonsSuit (type_of e) more
+        (is_ordering op ≡ true) × (is_pair s (type_of e) ≡ true) × (is_scalar (type_of e) ≡ true) × Suits e × ComparisonsSuit (type_of e) more
 
   -- arguments for some parameters
   abbrev pub SomeSuit : List TypedExpr → Type 0

@@ -10,9 +10,8 @@ ghost use Rattle.ir_builder_frames.specs.Placing.{HasType};
 ghost use Rattle.ir_builder_frames.specs.Settings.{rtype_of};
 ghost use Rattle.ir_builder_frames.specs.Shaped.{Keeps};
 ghost use Rattle.ir_builder_frames.specs.Kinds.{KeepsKinds};
-ghost use Rattle.ir_builder_operations.specs.Operating.{is_whole, ActsOn, ActsOnTwo};
-ghost use Rattle.ir_builder_expressions.specs.Compiled.{is_built, literal_in};
-ghost use Rattle.ir_builder_expressions.specs.Parts.{fitting_in, native_in, part_sort};
+ghost use Rattle.ir_builder_operations.specs.Operating.{is_arithmetic, is_whole, ActsOn, ActsOnTwo};
+ghost use Rattle.ir_builder_expressions.specs.Parts.{fitting_in, native_in, part_sort, literal_in};
 ghost use Rattle.ir_builder_expressions.specs.Applying.{unary_goes, binary_goes, UnarySuits, BinarySuits, arithmetic_of, negation_of, applied_in, node_in, seen};
 
 use crate::types::is_native;
@@ -157,7 +156,7 @@ fn emit_numbers(
     y: Reg,
     line: usize,
 ) -> Result<Reg, Memory>
-    requires built { is_built op ≡ true }
+    requires built { is_arithmetic op ≡ true }
     requires whole { is_whole (sort t.now) ≡ true }
     requires left_numeric { is_number (sort left.now.ty) ≡ true }
     requires right_numeric { is_number (sort right.now.ty) ≡ true }

@@ -12,9 +12,9 @@ ghost use Rattle.ir_builder_frames.specs.Shaped.{Keeps};
 ghost use Rattle.ir_builder_frames.specs.Kinds.{KeepsKinds};
 ghost use Rattle.ir_builder_operations.specs.Operating.{is_whole, ActsOn, ActsOnTwo};
 ghost use Rattle.ir_builder_operations.specs.Rows.{compared_sort};
-ghost use Rattle.ir_builder_expressions.specs.Compiled.{is_ordering};
-ghost use Rattle.ir_builder_expressions.specs.Parts.{is_simple, part_sort};
-ghost use Rattle.ir_builder_expressions.specs.Comparing.{kind_sort, is_compared, is_shown_as, compared_in, is_brought, holds_as};
+ghost use Rattle.ir_builder_comparisons.specs.Comparing.{is_ordering};
+ghost use Rattle.ir_builder_expressions.specs.Parts.{is_scalar, part_sort, is_pair};
+ghost use Rattle.ir_builder_expressions.specs.Comparing.{kind_sort, is_shown_as, compared_in, is_brought, holds_as};
 
 use crate::applying::native_literal;
 use ir_builder_comparisons::emit_comparison;
@@ -45,7 +45,7 @@ pub struct Side {
 
 /// The type of an operand.
 pub fn kind_of(t: &Ty) -> Kind
-    ensures { is_simple (sort t.now) ≡ true → kind_sort result ≡ sort t.now }
+    ensures { is_scalar (sort t.now) ≡ true → kind_sort result ≡ sort t.now }
 {
     match t {
         Ty::Int => Kind::Int,
@@ -82,7 +82,7 @@ pub fn joined_kind(left: Kind, right: Kind) -> Kind
 
 /// The type of the register of an operand that is compared in a type.
 pub fn shown_kind(e: &TExpr, to: &Ty) -> Kind
-    requires { is_simple (sort e.now.ty) ≡ true }
+    requires { is_scalar (sort e.now.ty) ≡ true }
     ensures { kind_sort result ≡ part_sort (sort to.now) (typed_expr e.now) }
 {
     match native_literal(e, to) {
@@ -172,7 +172,7 @@ pub fn emit_pair(
     line: usize,
 ) -> Result<Reg, Memory>
     requires ordering { is_ordering op ≡ true }
-    requires compared { is_compared (kind_sort left.own) (kind_sort right.own) ≡ true }
+    requires compared { is_pair (kind_sort left.own) (kind_sort right.own) ≡ true }
     requires left_shown { is_shown_as (kind_sort left.own) (kind_sort left.shown) ≡ true }
     requires right_shown { is_shown_as (kind_sort right.own) (kind_sort right.shown) ≡ true }
     requires left { HasType b.old left.reg.0 (rtype_of (kind_sort left.shown)) }

@@ -9,7 +9,7 @@ ghost use Rattle.ir_builder_frames.specs.Matching.{HasRoom};
 ghost use Rattle.ir_builder_frames.specs.Placing.{HasType};
 ghost use Rattle.ir_builder_frames.specs.Shaped.{Keeps};
 ghost use Rattle.ir_builder_frames.specs.Kinds.{IsAmong, KeepsKindsIf};
-ghost use Rattle.ir_builder_expressions.specs.Parts.{is_simple};
+ghost use Rattle.ir_builder_expressions.specs.Parts.{is_scalar};
 ghost use Rattle.ir_builder_expressions.specs.Applying.{UnarySuits, BinarySuits, applied_in, node_in};
 ghost use Rattle.ir_builder_expressions.specs.Comparing.{kind_sort, is_shown_as};
 ghost use Rattle.ir_builder_expressions.specs.Suiting.{Suits, SomeSuit, ComparisonsSuit};
@@ -299,7 +299,7 @@ fn emit_side(
     e: &TExpr,
     line: usize,
 ) -> Result<Side, Memory>
-    requires simple { is_simple (sort e.now.ty) ≡ true }
+    requires simple { is_scalar (sort e.now.ty) ≡ true }
     requires suits { Suits (typed_module checked.now) (map variable locals.now) (typed_expr e.now) }
     requires room { HasRoom (setting checked.now locals.now frame) b.old }
     ensures walked { Walks (typed_module checked.now) b.old b.new }

@@ -37,6 +37,20 @@ fn emit_unbound(b: &mut Emitter, alloc: Global, name: &str, line: usize) -> Resu
     b.push(Op::Prim(None, Prim::Err(ErrPrim::Unbound), args), line)
 }
 
+// Ends a block whose end no run comes to. It goes to a block of its own, which has nothing and ends nowhere, so no value is
+// kept for what is behind it; the number of the block that is open then.
+fn step_past(b: &mut Emitter) -> Result<usize, Memory>
+    ensures kept { Extends b.old b.new }
+    ensures number { IfOk result (λ k. k ≡ length b.new.blocks) }
+    ensures empty { OnOk result (length b.new.ops ≡ 0) }
+    ensures shaped { Keeps b.old b.new }
+    ensures kinds { KeepsKinds b.old b.new }
+{
+    b.step_on()?;
+    b.close(Last::Unreachable)?;
+    Ok(b.here())
+}
+
 // Tests a flag, and raises the exception of the variable's name where it is unset. What raises always has no jump directly
 // behind it, so a literal that no run comes to stands between.
 fn emit_flag_test(
@@ -57,7 +71,7 @@ fn emit_flag_test(
     let unset = b.here();
     emit_unbound(b, alloc, name, line)?;
     b.literal(RType::Bool, Lit::Number(0), line)?;
-    let set = b.step_on()?;
+    let set = step_past(b)?;
     b.patch(test, Last::IfError(flag, unset, set, line));
     Ok(())
 }

@@ -2,7 +2,7 @@
 ghost use Rattle.std.specs.Prelude.{◌≡◌};
 ghost use Rattle.py_typed.specs.Sorts.{sort};
 ghost use Rattle.ir_builder_frames.specs.Settings.{rtype_of};
-ghost use Rattle.ir_builder_expressions.specs.Compiled.{is_i64};
+ghost use Rattle.ir_builder_expressions.specs.Parts.{is_i64};
 ghost use Rattle.ir_builder_expressions.specs.Literals.{literal_of_truth};
 
 use ir_core::{Lit, RType};

@@ -4,6 +4,7 @@ use Rattle.std.proofs.Common.{◌≡◌, ℕ, ◌+◌, ◌<◌, ◌≤◌, true,
 use Rattle.value_core.specs.Ending.{Ending}
 use Rattle.value_core.specs.Exceptions.{Thrown}
 use Rattle.value_core.specs.Value.{Value, ExcVal}
+use Rattle.c_core.specs.Primitives.{row_of}
 use Rattle.c_core.specs.declared.primitive.Primitive.{Primitive}
 use Rattle.py_typed.specs.Sorts.{Sort}
 use Rattle.source_meaning.specs.State.{State, Outcome, Gives, Raises, Stops, Stop, Does, on_to}
@@ -18,7 +19,7 @@ use Rattle.ir_core.specs.declared.code.Last.TheVariants as last
 use Rattle.ir_core.specs.declared.code.Program.{Program}
 use Rattle.ir_core.specs.declared.kind.Edge.TheVariants.{Tests, TestsTwice}
 use Rattle.ir_core.specs.Items.{Item, Do, End}
-use Rattle.ir_core.specs.Rows.{Failing, NeverFails, MayFail, AlwaysFails, failing, Declared, type_of_reg, edge_of_kind, edge_of_prim, kind_by_result}
+use Rattle.ir_core.specs.Rows.{Failing, NeverFails, MayFail, AlwaysFails, failing, Declared, type_of_reg, edge_of_kind, edge_of_prim, kind_by_result, type_given}
 use Rattle.ir_core.specs.Registers.{Held, Holds, Regs, put, error_of}
 use Rattle.ir_core.specs.Effects.{World, Argument, Given, Effect, Gives as Giving, Fails, Ends as Finishing, effect}
 use Rattle.ir_core.specs.Building.{Building}
@@ -39,18 +40,20 @@ use Rattle.ir_builder_frames.proofs.MatchLemmas.{room_on, same_trans, match_kept
 -- ---- where no test stands behind
 
 -- an exception goes to the handler or out of the function
-pub failed_off : (p : Program) (t : RType) (r : Reg) (f : Frame) (below : List Waiting) (w : World) → is_tested r (item_at p f.fn f.block f.place) ≡ false → failed Strict p (edge_of_kind (kind_by_result (Some t)) (Some r)) f below w ≡ away (handler_at p f.fn f.block) f below w
-failed_off p Int r f below w e = ap (λ b. cond b (Runs f below w) (away (handler_at p f.fn f.block) f below w)) e
-failed_off p I64 r f below w e =
+pub failed_off : (p : Program) (t : Option RType) (r : Reg) (f : Frame) (below : List Waiting) (w : World) → is_tested r (item_at p f.fn f.block f.place) ≡ false → failed Strict p (edge_of_kind (kind_by_result t) (Some r)) f below w ≡ away (handler_at p f.fn f.block) f below w
+failed_off p None r f below w e = ap (λ b. cond b (Runs f below w) (away (handler_at p f.fn f.block) f below w)) e
+failed_off p (Some Int) r f below w e = ap (λ b. cond b (Runs f below w) (away (handler_at p f.fn f.block) f below w)) e
+failed_off p (Some I64) r f below w e =
     ap (λ b. cond (b && is_asked (item_at p f.fn) (item_at p f.fn f.block f.place)) (Runs f below w) (away (handler_at p f.fn f.block) f below w)) e
-failed_off p BoolType r f below w e = ap (λ b. cond b (Runs f below w) (away (handler_at p f.fn f.block) f below w)) e
-failed_off p Ref r f below w e = ap (λ b. cond b (Runs f below w) (away (handler_at p f.fn f.block) f below w)) e
+failed_off p (Some BoolType) r f below w e = ap (λ b. cond b (Runs f below w) (away (handler_at p f.fn f.block) f below w)) e
+failed_off p (Some Ref) r f below w e = ap (λ b. cond b (Runs f below w) (away (handler_at p f.fn f.block) f below w)) e
 
-clear_none : (t : RType) (r : Reg) → is_clear (edge_of_kind (kind_by_result (Some t)) (Some r)) None ≡ true
-clear_none Int r = refl
-clear_none I64 r = refl
-clear_none BoolType r = refl
-clear_none Ref r = refl
+clear_none : (t : Option RType) (r : Reg) → is_clear (edge_of_kind (kind_by_result t) (Some r)) None ≡ true
+clear_none None r = refl
+clear_none (Some Int) r = refl
+clear_none (Some I64) r = refl
+clear_none (Some BoolType) r = refl
+clear_none (Some Ref) r = refl
 
 -- ---- what comes of an operation
 
@@ -130,11 +133,11 @@ module _ (p : Program) (fn k i : ℕ) (regs : Regs) (below : List Waiting) (s : 
 
   may_give : (u : State) (v : Value) → failing q ≡ MayFail → Goes (Giving v (world None u)) ≡ Comes u (Answers v)
   may_give u v may =
-      rw (type, may) (ap (λ b. cond b (running fn k (i + 1) (put regs r (Holds v)) below (world None u)) Stuck) (clear_none t (record { 0 = r })))
+      rw (type, may) (ap (λ b. cond b (running fn k (i + 1) (put regs r (Holds v)) below (world None u)) Stuck) (clear_none (type_given (row_of q).outcome (Some t)) (record { 0 = r })))
 
   may_fail : (u : State) (e : Thrown) → failing q ≡ MayFail → is_tested (record { 0 = r }) (item_at p fn k (i + 1)) ≡ false → Goes (Fails e (world None u)) ≡ Comes u (Throws e)
   may_fail u e may edge =
-      rw (type, may) (failed_off p t (record { 0 = r }) (record { fn = fn; block = k; place = i + 1; regs = put regs r (error_of t) }) below (world (Some e) u) edge)
+      rw (type, may) (failed_off p (type_given (row_of q).outcome (Some t)) (record { 0 = r }) (record { fn = fn; block = k; place = i + 1; regs = put regs r (error_of t) }) below (world (Some e) u) edge)
 
   goes_on : (u : State) (f : Failing) (a : Answer) → failing q ≡ f → Allows f a → (failing q ≡ MayFail → is_tested (record { 0 = r }) (item_at p fn k (i + 1)) ≡ false) → Goes (effect_of a (world None u)) ≡ Comes u a
   goes_on u NeverFails (Answers v) is allowed edge = never_gives u v is

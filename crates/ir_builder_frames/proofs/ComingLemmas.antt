@@ -30,10 +30,7 @@ module _ (p : Program) where
   ends_on t c (Raises v s) R E F go S h next up = (h.0, h.1, h.2, up v s h.1 h.3)
   ends_on t c (Stops w s) R E F go S h next up = h
 
-  -- one step to a value
-  pub ends_step : {A : Type 0} (a : A) (s : State) (c d : Config) (R : A → State → Config → Type 0) (E : Value → State → Config → Type 0) → step Strict p c ≡ d → R a s d → Ends p s.turns c (Gives a s) R E
-  ends_step a s c d R E e r = (le_refl s.turns, d, leads_step c d e, r)
-
+  -- some steps to a value
   pub ends_lead : {A : Type 0} (a : A) (s : State) (c d : Config) (R : A → State → Config → Type 0) (E : Value → State → Config → Type 0) → Leads p c d → R a s d → Ends p s.turns c (Gives a s) R E
   ends_lead a s c d R E l r = (le_refl s.turns, d, l, r)
 

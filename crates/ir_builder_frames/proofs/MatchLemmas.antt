@@ -72,10 +72,6 @@ match_kept x b regs now s s1 room same is m =
       globals = is.globals;
     }
 
--- in the same state
-pub match_here : (x : Setting) (b : Building) (regs now : Regs) (s : State) → HasRoom x b → ((j : ℕ) → j < x.frame.locals.top → now j ≡ regs j) → Matches x regs s → Matches x now s
-match_here x b regs now s room same m = match_kept x b regs now s s room same (same_refl x regs s m) m
-
 -- ---- where an exception goes
 
 pub stands_from : (fn k i : ℕ) (below : List Waiting) (e : Option Thrown) (x : Setting) (keep keep' : ℕ) (regs regs' : Regs) (s : State) (d : Config) → keep ≤ keep' → SameIn x.frame keep regs' regs → Stands fn k i below e x keep' regs' s d → Stands fn k i below e x keep regs s d

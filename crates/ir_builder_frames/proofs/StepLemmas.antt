@@ -21,7 +21,7 @@ use Rattle.ir_core.proofs.StepLemmas.{put_same, put_other, op_step, lit_step}
 use Rattle.ir_builder_frames.specs.Placing.{HasType, Has}
 use Rattle.ir_builder_frames.specs.Calling.{Adds}
 use Rattle.ir_builder_frames.specs.Coming.{world, running}
-use Rattle.ir_builder_frames.specs.Computing.{Makes, OfOne, OfTwo}
+use Rattle.ir_builder_frames.specs.Computing.{Makes}
 use Rattle.ir_builder_frames.proofs.HeldLemmas.{extends_trans, has_less, type_has, adds_has}
 use Rattle.ir_builder_frames.proofs.ComingLemmas.{leads_step, leads_trans}
 
@@ -64,50 +64,3 @@ adds_makes b c r t o from a does = record {
 pub literal_makes : {line : ℕ} (b c : Building) (r : ℕ) (t : RType) (l : Literal) (held : Held) → Adds b c r t (Lit record { 0 = r } l) line → literal_of t l ≡ Some held → Makes b c r t (λ regs h. h ≡ held)
 literal_makes b c r t l held a is = adds_makes b c r t _ _ a (λ p fn has regs below s h f.
     lit_step Strict p (record { fn = fn; block = length b.blocks; place = length b.ops; regs = regs }) below (world None s) (record { 0 = r }) l t h (adds_has p fn b c r t _ a has) (type_has p fn c r t has a.type) (is ∙ ap Some (sym f)))
-
-pub one_makes : {line : ℕ} (b c : Building) (r x : ℕ) (t u : RType) (q : Primitive) (P : Value → Value → Type 0) → Adds b c r t (Prim (Some record { 0 = r }) q (Var record { 0 = x } ∷ [])) line → HasType b x u → failing q ≡ NeverFails → ((p : Program) (w : World) (v z : Value) → P v z → effect p q (Given v ∷ []) w ≡ Gives z w) → Makes b c r t (OfOne x P)
-one_makes b c r x t u q P a type never does = adds_makes b c r t _ _ a (λ p fn has regs below s h f.
-    let declared = registers_of p fn in
-    let given = one_argument (registers_of p fn) regs x f.v (read_is (registers_of p fn) regs x u f.v (type_has p fn b x u (has_less p fn b c a.extends has) type) f.is) in
-    prim_step p fn (length b.blocks) (length b.ops) regs below s r q _ t (Given f.v ∷ []) f.result (adds_has p fn b c r t _ a has) (type_has p fn c r t has a.type) given never (does p (world None s) f.v f.result f.fits)
-    ∙ ap (λ (z : Held). running fn (length b.blocks) (length b.ops + 1) (put regs r z) below (world None s)) (sym f.gives))
-
-pub two_makes : {line : ℕ} (b c : Building) (r x y : ℕ) (t tx ty : RType) (q : Primitive) (P : Value → Value → Value → Type 0) → Adds b c r t (Prim (Some record { 0 = r }) q (Var record { 0 = x } ∷ Var record { 0 = y } ∷ [])) line → HasType b x tx → HasType b y ty → failing q ≡ NeverFails → ((p : Program) (w : World) (u v z : Value) → P u v z → effect p q (Given u ∷ Given v ∷ []) w ≡ Gives z w) → Makes b c r t (OfTwo x y P)
-two_makes b c r x y t tx ty q P a type_x type_y never does = adds_makes b c r t _ _ a (λ p fn has regs below s h f.
-    let before = has_less p fn b c a.extends has in
-    let left = read_is (registers_of p fn) regs x tx f.u (type_has p fn b x tx before type_x) f.left in
-    let right = read_is (registers_of p fn) regs y ty f.v (type_has p fn b y ty before type_y) f.right in
-    let given = two_arguments (registers_of p fn) regs x y f.u f.v left right in
-    prim_step p fn (length b.blocks) (length b.ops) regs below s r q _ t (Given f.u ∷ Given f.v ∷ []) f.result (adds_has p fn b c r t _ a has) (type_has p fn c r t has a.type) given never (does p (world None s) f.u f.v f.result f.fits)
-    ∙ ap (λ (z : Held). running fn (length b.blocks) (length b.ops + 1) (put regs r z) below (world None s)) (sym f.gives))
-
--- one after another
-pub record Through (low r : ℕ) (first second : Regs → Held → Type 0) (regs : Regs) (h : Held) : Type 0 where
-  pub between : Held
-  pub here : first regs between
-  pub there : (now : Regs) → now r ≡ between → ((j : ℕ) → j < low → now j ≡ regs j) → second now h
-
-pub makes_then : (a b c : Building) (q r : ℕ) (t u : RType) (first second : Regs → Held → Type 0) → Makes a b q t first → Makes b c r u second → Makes a c r u (Through (length a.regs) q first second)
-makes_then a b c q r t u first second x y =
-    let grow = x.extends.regs_grow in
-    let high = y.above in
-    record {
-      extends = extends_trans a b c x.extends y.extends;
-      type = y.type;
-      above = omega arith;
-      blocks = y.blocks ∙ x.blocks;
-      runs = λ p fn has regs below s h f.
-          let m = x.runs p fn (has_less p fn b c y.extends has) regs below s f.between f.here in
-          let n = y.runs p fn has m.0 below s h (f.there m.0 m.2 m.3) in
-          (n.0, leads_trans p _ _ _ m.1 n.1, n.2, λ j lt. n.3 j (omega arith) ∙ m.3 j lt);
-    }
-
--- what is needed may be put otherwise
-pub makes_as : (b c : Building) (r : ℕ) (t : RType) (first second : Regs → Held → Type 0) → ((regs : Regs) (h : Held) → second regs h → first regs h) → Makes b c r t first → Makes b c r t second
-makes_as b c r t first second f m = record {
-  extends = m.extends;
-  type = m.type;
-  above = m.above;
-  blocks = m.blocks;
-  runs = λ p fn has regs below s h g. m.runs p fn has regs below s h (f regs h g);
-}

@@ -2,6 +2,9 @@
 use Rattle.std.specs.Prelude.{◌≡◌, ℕ, ◌<◌, ◌≤◌, List, [], ◌∷◌, length, Option, Some, None}
 use Rattle.value_core.specs.Value.{Value}
 use Rattle.py_typed.specs.Sorts.{Sort}
+use Rattle.py_typed.specs.Expressions.{TypedExpr}
+use Rattle.source_meaning.specs.ExpressionMeaning.{expression}
+use Rattle.source_meaning.specs.SourceRun.{call_of}
 use Rattle.source_meaning.specs.State.{State, Outcome, Does}
 use Rattle.ir_core.specs.declared.code.Program.{Program}
 use Rattle.ir_core.specs.declared.code.RType.{RType}
@@ -26,6 +29,10 @@ Shows t v h = (h ≡ Holds v) × HasKind t v
 -- a meaning, by the bound of the calls and turns
 abbrev pub Meaning : Type 0 → Type 0
 Meaning A = ℕ → Does A
+
+-- what an expression means, by the bound of the calls and turns
+abbrev pub means : Setting → TypedExpr → Meaning Value
+means x e n = expression x.source.classes.classes (call_of x.source n) x.source.globals x.variables e
 
 -- the machine is at a place, with the value in a register; the first registers are as before, and so are the function's variables
 pub record Arrives (K : Showing) (fn k i : ℕ) (below : List Waiting) (keep : ℕ) (regs : Regs) (x : Setting) (before : State) (r : ℕ) (v : Value) (s : State) (d : Config) : Type 0 where
@@ -71,23 +78,6 @@ pub record Makes (old new : Building) (r : ℕ) (t : RType) (from : Regs → Hel
   pub above : length old.regs ≤ r
   pub blocks : length new.blocks ≡ length old.blocks
   pub runs : (p : Program) (fn : ℕ) → Has p fn new → (regs : Regs) (below : List Waiting) (s : State) (h : Held) → from regs h → (now : Regs) × Leads p (running fn (length old.blocks) (length old.ops) regs below (world None s)) (running fn (length new.blocks) (length new.ops) now below (world None s)) × (now r ≡ h) × ((j : ℕ) → j < length old.regs → now j ≡ regs j)
-
--- a register holds a value, of which the result is made
-pub record OfOne (x : ℕ) (P : Value → Value → Type 0) (regs : Regs) (h : Held) : Type 0 where
-  pub v : Value
-  pub is : regs x ≡ Holds v
-  pub result : Value
-  pub fits : P v result
-  pub gives : h ≡ Holds result
-
-pub record OfTwo (x y : ℕ) (P : Value → Value → Value → Type 0) (regs : Regs) (h : Held) : Type 0 where
-  pub u : Value
-  pub left : regs x ≡ Holds u
-  pub v : Value
-  pub right : regs y ≡ Holds v
-  pub result : Value
-  pub fits : P u v result
-  pub gives : h ≡ Holds result
 
 -- code without a call that does what the source does with what registers hold, as the condition says: a value goes into a
 -- register, and an exception to the handler or out of the function

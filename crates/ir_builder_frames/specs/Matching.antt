@@ -131,7 +131,7 @@ BeginWith ds [] = Unit {0}
 BeginWith [] (t ∷ ts) = ⊥
 BeginWith (d ∷ ds) (t ∷ ts) = (d.1 ≡ rtype_of t) × BeginWith ds ts
 
--- the code of a function takes and gives what the function does
+-- the code of a function takes and gives what the function does: its first registers are of the types of the parameters
 pub record HasHead (h : Func) (f : TypedFunc) : Type 0 where
   pub params : h.params ≡ length (parameter_sorts f)
   pub regs : BeginWith h.regs (parameter_sorts f)

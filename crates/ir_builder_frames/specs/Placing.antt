@@ -38,7 +38,8 @@ module _ (p : Program) (fn : ℕ) where
   pub record NoEdges : Type 0 where
     pub each : (k i r : ℕ) (o : Op) (line : ℕ) → item_at p fn k i ≡ Some (Do o line) → into o ≡ Some r → is_tested (record { 0 = r }) (item_at p fn k (i + 1)) ≡ false
 
-  -- the function has what the builder holds, but for the ends that are still to be written
+  -- the function has what the builder holds, but for the ends that are still to be written, and behind no operation that may fail a
+  -- test of its result
   pub record Has (b : Building) : Type 0 where
     pub items : (k i : ℕ) (x : Item) → x ≢ End Unreachable → held b k i ≡ Some x → item_at p fn k i ≡ Some x
     pub regs : (r : ℕ) (d : List ℕ × RType) → slice_get b.regs r ≡ Some d → slice_get (registers_of p fn) r ≡ Some d

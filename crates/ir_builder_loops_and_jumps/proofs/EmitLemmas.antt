@@ -1,67 +1,30 @@
 -- What is emitted for each kind of statement does what the statement means.
-use Rattle.std.proofs.Common.{◌≡◌, ℕ, ◌≤◌, suc, ◌+◌, ◌<◌, Bool, true, false, List, [], ◌∷◌, ◌++◌, length, map, Option, Some, None, refl, sym, ap, ◌∙◌, subst, arith, append_assoc, append-nil, le_refl, get_or, take, add-one}
-use Rattle.std.proofs.lemmas.List.{map_push}
-use Rattle.std.proofs.lemmas.Bool.{or_parts, or_from}
-use Rattle.std.proofs.Math.Seq.{take-suc}
+use Rattle.ir_builder_loops_and_jumps.proofs.Common.{◌≡◌, ℕ, ◌≤◌, suc, ◌+◌, ◌<◌, Bool, true, false, List, [], ◌∷◌, ◌++◌, length, map, Option, Some, None, refl, sym, ap, ◌∙◌, subst, arith, append_assoc, append-nil, le_refl, get_or, drop, ◌||◌, if◌then◌else◌, drop_more, or_parts, or_from, Sort, TExpr, TypedExpr, typed_expr, type_of, TypedStmt, TypedAct, on_line, Variable, typed_stmt, typed_suite, typed_arm, typed_target, suite_of, arms_of, maybe_typed, State, Gives, on_to, truth_of, Flow, Goes, loop, Goto, Unreachable, Building, held, Extends, End, Setting, rtype_of, Open, Closes, HasRoom, means, Shows, Meaning, Computes, Way, Break, Continue, Join, Exit, Test, LoopStart, uses, is_same_way, stays, planned, left, Works, Joining, LeavesNoLoop, Emitted, OpenIn, Always, Asks, Splits, SplitsBy, EndsArm, joining, Joins, looping_to, EndsLoop, Begins, ends_of, extends_refl, extends_trans, type_kept, room_on}
 use Rattle.py_syntax.specs.declared.expression.BinOp.{BinOp}
 use Rattle.py_typed.specs.Sorts as sort
-use Rattle.py_typed.specs.Sorts.{Sort, sort as sort_of}
-use Rattle.py_typed.specs.declared.expression.TExpr.{TExpr}
+use Rattle.py_typed.specs.Sorts.{sort as sort_of}
 use Rattle.py_typed.specs.declared.statement.Target.{Target}
 use Rattle.py_typed.specs.declared.statement.TStmt.{TStmt}
 use Rattle.py_typed.specs.declared.types.Ty.{Ty}
 use Rattle.py_typed.specs.declared.statement.TStmtKind as kind
-use Rattle.py_typed.specs.Expressions.{TypedExpr, typed_expr, type_of}
 use Rattle.py_typed.specs.Statements as tree
-use Rattle.py_typed.specs.Statements.{TypedAct, on_line, typed_stmt, typed_suite, typed_arm, typed_target, suite_of, maybe_typed}
-use Rattle.source_meaning.specs.State.{State, on_to}
 use Rattle.source_meaning.specs.SourceRun.{call_of}
-use Rattle.source_meaning.specs.Operations.{truth_of}
 use Rattle.source_meaning.specs.StatementMeaning.{suite}
-use Rattle.source_meaning.specs.WaysOut.{Flow, flow_on, loop}
 use Rattle.py_typed.proofs.StatementLemmas.{typed_stmt_of, typed_act-Expr, typed_act-Assign, typed_act-Aug, typed_act-Return, typed_act-Break, typed_act-Continue, typed_act-Pass, typed_stmt-If}
-use Rattle.ir_core.specs.declared.code.Last.TheVariants.{Goto, Unreachable}
 use Rattle.ir_core.specs.declared.code.RType.TheVariants.{Bool as BoolType}
-use Rattle.ir_core.specs.Building.{Building, held, Extends}
-use Rattle.ir_core.specs.Items.{End}
-use Rattle.ir_builder_frames.specs.Settings.{Setting, rtype_of}
-use Rattle.ir_builder_frames.specs.Calling.{Open, Closes}
-use Rattle.ir_builder_frames.specs.Matching.{HasRoom}
-use Rattle.ir_builder_frames.specs.Computing.{Shows, Meaning, Computes}
-use Rattle.ir_builder_loops_and_jumps.specs.declared.ways.Way.{Way}
-use Rattle.ir_builder_loops_and_jumps.specs.declared.ways.Way.TheVariants.{Break, Continue, Join}
-use Rattle.ir_builder_loops_and_jumps.specs.declared.ways.Exit.{Exit}
-use Rattle.ir_builder_loops_and_jumps.specs.declared.ways.Test.{Test}
-use Rattle.ir_builder_loops_and_jumps.specs.declared.ways.LoopStart.{LoopStart}
-use Rattle.ir_builder_loops_and_jumps.specs.Ways.{uses, is_same_way, stays, planned, left}
-use Rattle.ir_builder_loops_and_jumps.specs.Branches.{Tried, Branch, tried, try_next}
-use Rattle.ir_builder_loops_and_jumps.specs.Runs.{Works, Tests, LeavesNoLoop, Emitted, OpenIn}
-use Rattle.ir_builder_loops_and_jumps.specs.Loops.{Always, Asks}
-use Rattle.ir_builder_loops_and_jumps.specs.Around.{Splits, SplitsBy, EndsArm, joining, Joins, looping_to, EndsLoop, Begins}
 use Rattle.ir_builder_loops_and_jumps.specs.Tested.{means_arms, Tested}
-use Rattle.ir_builder_loops_and_jumps.specs.Means.{means, means_loop, means_statement, means_suite, means_alone, means_assignment, means_update, means_return}
-use Rattle.ir_builder_frames.proofs.ComingLemmas.{ends_of}
-use Rattle.ir_builder_frames.proofs.HeldLemmas.{extends_trans, type_kept}
-use Rattle.ir_builder_frames.proofs.MatchLemmas.{room_on}
-use Rattle.ir_builder_loops_and_jumps.proofs.ExitLemmas.{stays_by, open_on, open_append, same_way_is}
+use Rattle.ir_builder_loops_and_jumps.specs.Means.{means_loop, means_statement, means_suite, means_alone, means_assignment, means_update, means_return}
+use Rattle.ir_builder_loops_and_jumps.proofs.ExitLemmas.{stays_by, open_on, same_way_is, drop_past}
 use Rattle.ir_builder_loops_and_jumps.proofs.FlowLemmas.{none_works, works_at, at_works, then_works}
 use Rattle.ir_builder_loops_and_jumps.proofs.SplitLemmas.{asks_by}
 use Rattle.ir_builder_loops_and_jumps.proofs.LoopLemmas.{loop_works, no_step}
-use Rattle.ir_builder_loops_and_jumps.proofs.BranchLemmas.{tests_none, tests_next, if_works}
+use Rattle.ir_builder_loops_and_jumps.proofs.BranchLemmas.{works_joining, arm_joining, if_works}
 use Rattle.ir_builder_loops_and_jumps.proofs.SimpleLemmas.{break_works, continue_works}
-use Rattle.ir_builder_loops_and_jumps.proofs.MeaningLemmas.{row_last, arms_are, tried_last, branch_of}
 
 -- ---- another name for a meaning
 
 pub works_of : (x : Setting) (result : Option Sort) (m m' : Meaning Flow) (b0 b1 : Building) (xs : List Exit) → ((n : ℕ) (s : State) → m n s ≡ m' n s) → Works x result m' b0 b1 xs → Works x result m b0 b1 xs
 works_of x result m m' b0 b1 xs same w = record {
-  extends = w.extends;
-  opens = w.opens;
-  runs = λ p fn h to at jumps n calls regs below s match le. ends_of p s.turns _ (m n s) (m' n s) _ _ (same n s) (w.runs p fn h to at jumps n calls regs below s match le);
-}
-
-tests_of : (x : Setting) (result : Option Sort) (m m' : Meaning Tried) (b0 b1 : Building) (xs : List Exit) → ((n : ℕ) (s : State) → m n s ≡ m' n s) → Tests x result m' b0 b1 xs → Tests x result m b0 b1 xs
-tests_of x result m m' b0 b1 xs same w = record {
   extends = w.extends;
   opens = w.opens;
   runs = λ p fn h to at jumps n calls regs below s match le. ends_of p s.turns _ (m n s) (m' n s) _ _ (same n s) (w.runs p fn h to at jumps n calls regs below s match le);
@@ -107,20 +70,24 @@ planned_none plan w t (x ∷ xs) some = one (is_same_way w x.way) refl (planned_
 
 -- ---- rows of statements
 
-pub nothing_emitted : (x : Setting) (result : Option Sort) (looping : Bool) (b : Building) (xs : List Exit) → Emitted x result looping (means_suite x (typed_suite [])) b b xs xs
-nothing_emitted x result looping b xs = emitted_as x result looping _ _ b b xs xs [] (λ n s. refl) (sym (append-nil xs)) (none_works x result b) (λ e. (refl, refl))
+-- behind the last statement
+pub nothing_emitted : (x : Setting) (result : Option Sort) (looping : Bool) (ss : List TStmt) (i : ℕ) (b : Building) (xs : List Exit) → length ss ≤ i → Emitted x result looping (means_suite x (typed_suite (drop i ss))) b b xs xs
+nothing_emitted x result looping ss i b xs le =
+    let P : List TStmt → Type 0 = λ z. Emitted x result looping (means_suite x (typed_suite z)) b b xs xs in
+    subst P (sym (drop_past ss i le)) (emitted_as x result looping _ _ b b xs xs [] (λ n s. refl) (sym (append-nil xs)) (none_works x result b) (λ e. (refl, refl)))
 
-two_lists : (x0 x1 x2 m n : List Exit) → x1 ≡ x0 ++ m → x2 ≡ x1 ++ n → x2 ≡ x0 ++ (m ++ n)
-two_lists x0 x1 x2 m n e1 e2 = e2 ∙ ap (λ l. l ++ n) e1 ∙ append_assoc x0 m n
-
-pub next_emitted : (x : Setting) (result : Option Sort) (looping : Bool) (ss : List TStmt) (i : ℕ) (s : TStmt) (b0 b1 b2 : Building) (x0 x1 x2 : List Exit) → i < length ss → s ≡ get_or ss i s → Emitted x result looping (means_suite x (typed_suite (take i ss))) b0 b1 x0 x1 → Emitted x result looping (means_statement x (typed_stmt s)) b1 b2 x1 x2 → Emitted x result looping (means_suite x (typed_suite (take (i + 1) ss))) b0 b2 x0 x2
+-- a statement before those behind it
+pub next_emitted : (x : Setting) (result : Option Sort) (looping : Bool) (ss : List TStmt) (i : ℕ) (s : TStmt) (b0 b1 b2 : Building) (x0 x1 x2 : List Exit) → i < length ss → s ≡ get_or ss i s → Emitted x result looping (means_statement x (typed_stmt s)) b0 b1 x0 x1 → Emitted x result looping (means_suite x (typed_suite (drop (i + 1) ss))) b1 b2 x1 x2 → Emitted x result looping (means_suite x (typed_suite (drop i ss))) b0 b2 x0 x2
 next_emitted x result looping ss i s b0 b1 b2 x0 x1 x2 lt is p q =
-    rw (add-one, take-suc ss i s lt, ← is)
-    (emitted_as x result looping (means_suite x (typed_suite (take i ss ++ s ∷ []))) (λ n u. on_to (means_suite x (typed_suite (take i ss)) n u) (flow_on (means_statement x (typed_stmt s) n))) b0 b2 x0 x2 (p.mine ++ q.mine)
-    (λ n u. ap (λ l. suite x.source.classes.classes (call_of x.source n) x.source.globals x.variables n (suite_of l) u) (map_push typed_stmt (take i ss) s) ∙ row_last x.source.classes.classes (call_of x.source n) x.source.globals x.variables n (map typed_stmt (take i ss)) (typed_stmt s) u)
-    (two_lists x0 x1 x2 p.mine q.mine p.is q.is)
-    (then_works x result (means_suite x (typed_suite (take i ss))) (means_statement x (typed_stmt s)) b0 b1 b2 p.mine q.mine p.works q.works)
-    (λ e. leaves_both p.mine q.mine (p.inside e) (q.inside e)))
+    let d : drop i ss ≡ s ∷ drop (i + 1) ss = drop_more ss i s lt ∙ ap (λ z. z ∷ drop (i + 1) ss) (sym is) in
+    let P : List TStmt → Type 0 = λ z. Emitted x result looping (means_suite x (typed_suite z)) b0 b2 x0 x2 in
+    subst P (sym d)
+    record {
+      mine = p.mine ++ q.mine;
+      is = q.is ∙ ap (λ l. l ++ q.mine) p.is ∙ append_assoc x0 p.mine q.mine;
+      works = then_works x result (means_statement x (typed_stmt s)) (means_suite x (typed_suite (drop (i + 1) ss))) b0 b1 b2 p.mine q.mine p.works q.works;
+      inside = λ e. leaves_both p.mine q.mine (p.inside e) (q.inside e);
+    }
 
 -- ---- single statements
 
@@ -209,41 +176,41 @@ loop_emitted x result looping whole m m' b0 b3 b4 b5 b9 o next x0 x1 xs0 xs ks i
 
 -- ---- an `if`
 
-pub nothing_tested : (x : Setting) (result : Option Sort) (looping : Bool) (b : Building) (xs : List Exit) → xs ≡ [] → Tested x result looping (means_arms x []) b b xs
-nothing_tested x result looping b xs none =
-    let P : List Exit → Type 0 = λ z. Tested x result looping (means_arms x []) b b z in subst P (sym none) record { works = tests_none x result b; inside = λ e. (refl, refl) }
+pub nothing_tested : (x : Setting) (result : Option Sort) (looping : Bool) (arms : List (TExpr × List TStmt)) (b : Building) (xs : List Exit) → xs ≡ [] → Tested x result looping arms arms b b xs
+nothing_tested x result looping arms b xs none =
+    let P : List Exit → Type 0 = λ z. Tested x result looping arms arms b b z in subst P (sym none) record { extends = extends_refl b; inside = λ e. (refl, refl); works = λ other end more q. q }
 
-pub next_tested : (x : Setting) (result : Option Sort) (looping : Bool) (arms : List (TExpr × List TStmt)) (i : ℕ) (a : TExpr × List TStmt) (body : List TStmt) (b0 b1 b3 b4 b6 : Building) (t : Test) (xs ys zs : List Exit) → i < length arms → a ≡ get_or arms i a → body ≡ a.1 → HasRoom x b0 → type_of (typed_expr a.0) ≡ sort.Bool → Tested x result looping (means_arms x (take i arms)) b0 b1 xs → SplitsBy x (typed_expr a.0) b1 b3 t → Emitted x result looping (means_suite x (typed_suite body)) b3 b4 xs ys → EndsArm b4 b6 t ys zs → Tested x result looping (means_arms x (take (i + 1) arms)) b0 b6 zs
+pub next_tested : (x : Setting) (result : Option Sort) (looping : Bool) (arms : List (TExpr × List TStmt)) (i : ℕ) (a : TExpr × List TStmt) (body : List TStmt) (b0 b1 b3 b4 b6 : Building) (t : Test) (xs ys zs : List Exit) → i < length arms → a ≡ get_or arms i a → body ≡ a.1 → HasRoom x b1 → type_of (typed_expr a.0) ≡ sort.Bool → Tested x result looping (drop i arms) arms b0 b1 xs → SplitsBy x (typed_expr a.0) b1 b3 t → Emitted x result looping (means_suite x (typed_suite body)) b3 b4 xs ys → EndsArm b4 b6 t ys zs → Tested x result looping (drop (i + 1) arms) arms b0 b6 zs
 next_tested x result looping arms i a body b0 b1 b3 b4 b6 t xs ys zs lt is same room bool so_far sp p e =
-    let last : List Exit = record { way = Join; block = length b4.blocks } ∷ [] in
-    let before : Meaning Tried = means_arms x (take i arms) in
+    let last : Exit = record { way = Join; block = length b4.blocks } in
     let test : Meaning Bool = λ n w. on_to (means x (typed_expr a.0) n w) truth_of in
-    let m : Meaning Flow = means_suite x (typed_suite a.1) in
-    let m_works : Works x result m b3 b4 p.mine = (let P : List TStmt → Type 0 = λ z. Works x result (means_suite x (typed_suite z)) b3 b4 p.mine in subst P same p.works) in
-    let one = tests_next x result before test m b0 b1 b3 b4 b6 t xs p.mine ys zs so_far.works (answered x (typed_expr a.0) b1 b3 t bool (room_on x b0 b1 so_far.works.extends room) sp) m_works e in
-    let row : (n : ℕ) → TypedExpr × tree.TypedSuite → Branch = λ n. branch_of x.source.classes.classes (call_of x.source n) x.source.globals x.variables n in
-    let named = tests_of x result (means_arms x (take i arms ++ a ∷ [])) (λ n u. on_to (before n u) (try_next (test n, m n))) b0 b6 (xs ++ (p.mine ++ last))
-    (λ n u. ap (λ l. tried (map (row n) l) u) (map_push typed_arm (take i arms) a) ∙ ap (λ l. tried l u) (map_push (row n) (map typed_arm (take i arms)) (typed_arm a)) ∙ tried_last (map (row n) (map typed_arm (take i arms))) (row n (typed_arm a)) u) one in
-    let exits : zs ≡ xs ++ (p.mine ++ last) = e.noted ∙ ap (λ l. l ++ last) p.is ∙ append_assoc xs p.mine last in
-    let P : List Exit → Type 0 = λ z. Tested x result looping (means_arms x (take i arms ++ a ∷ [])) b0 b6 z in
-    rw (add-one, take-suc arms i a lt, ← is)
-    (subst P (sym exits) record { works = named; inside = λ z. leaves_both xs (p.mine ++ last) (so_far.inside z) (leaves_both p.mine last (p.inside z) (refl, refl)) })
+    let works : Works x result (means_suite x (typed_suite a.1)) b3 b4 p.mine = (let P : List TStmt → Type 0 = λ z. Works x result (means_suite x (typed_suite z)) b3 b4 p.mine in subst P same p.works) in
+    let d : drop i arms ≡ a ∷ drop (i + 1) arms = drop_more arms i a lt ∙ ap (λ z. z ∷ drop (i + 1) arms) (sym is) in
+    let exits : zs ≡ xs ++ (p.mine ++ last ∷ []) = e.noted ∙ ap (λ l. l ++ last ∷ []) p.is ∙ append_assoc xs p.mine (last ∷ []) in
+    let arm : (other : Meaning Flow) (end : Building) (rest : List Exit) → Joining x result other b6 end rest → Joining x result (λ n u. on_to (test n u) (λ h. if h then means_suite x (typed_suite a.1) n else other n)) b1 end (p.mine ++ last ∷ rest) = λ other end rest q. arm_joining x result test (means_suite x (typed_suite a.1)) other b1 b3 b4 b6 end t p.mine rest ys zs (answered x (typed_expr a.0) b1 b3 t bool room sp) works e q in
+    record {
+      extends = extends_trans b0 b1 b6 so_far.extends (arm (λ n u. Gives Goes u) b6 [] (works_joining x result (λ n u. Gives Goes u) b6 b6 [] (none_works x result b6))).extends;
+      inside = λ z. (let P : List Exit → Type 0 = λ l. LeavesNoLoop l in subst P (sym exits) (leaves_both xs (p.mine ++ last ∷ []) (so_far.inside z) (leaves_both p.mine (last ∷ []) (p.inside z) (refl, refl))));
+      works = λ other end rest q.
+          let P : List (TExpr × List TStmt) → Type 0 = λ z. Joining x result (means_arms x z other) b1 end (p.mine ++ last ∷ rest) in
+          let Q : List Exit → Type 0 = λ z. Joining x result (means_arms x arms other) b0 end z in
+          let lists : xs ++ (p.mine ++ last ∷ rest) ≡ zs ++ rest = sym (ap (λ l. l ++ rest) exits ∙ append_assoc xs (p.mine ++ last ∷ []) rest ∙ ap (λ l. xs ++ l) (append_assoc p.mine (last ∷ []) rest)) in
+          subst Q lists (so_far.works other end (p.mine ++ last ∷ rest) (subst P (sym d) (arm (means_arms x (drop (i + 1) arms) other) end rest q)));
+    }
 
-pub if_emitted : (x : Setting) (result : Option Sort) (looping : Bool) (s : TStmt) (arms : List (TExpr × List TStmt)) (ss : List TStmt) (b0 b1 b2 b4 : Building) (xs ys ks x0 x1 : List Exit) → s.kind ≡ kind.If arms ss → Tested x result looping (means_arms x arms) b0 b1 xs → Emitted x result looping (means_suite x (typed_suite ss)) b1 b2 xs ys → ks ≡ ys → Joins b2 b4 ks x0 x1 → Emitted x result looping (means_statement x (typed_stmt s)) b0 b4 x0 x1
-if_emitted x result looping s arms ss b0 b1 b2 b4 xs ys ks x0 x1 is t p same j =
-    let plan : Way → Option ℕ = planned (joining j.end) in
-    let mine : ks ≡ xs ++ p.mine = same ∙ p.is in
-    emitted_as x result looping _ _ b0 b4 x0 x1 (left plan (xs ++ p.mine))
-    (λ n u. ap (λ z. means_statement x z n u) (typed_stmt-If s arms ss is) ∙ arms_are x.source.classes.classes (call_of x.source n) x.source.globals x.variables n (map typed_arm arms) (means_suite x (typed_suite ss) n) u)
-    (j.passed ∙ ap (λ z. x0 ++ left plan z) mine)
-    (if_works x result (means_arms x arms) (means_suite x (typed_suite ss)) b0 b1 b2 b4 xs p.mine ks x0 x1 t.works p.works j mine)
-    (λ z. leaves_left plan (xs ++ p.mine) (leaves_both xs p.mine (t.inside z) (p.inside z)))
+-- the arms and the body of `else`
+module _ (x : Setting) (result : Option Sort) (looping : Bool) (arms : List (TExpr × List TStmt)) (ss : List TStmt) (b0 b1 b2 : Building) (xs ys ks : List Exit) (t : Tested x result looping [] arms b0 b1 xs) (p : Emitted x result looping (means_suite x (typed_suite ss)) b1 b2 xs ys) (same : ks ≡ ys) where
+  all_joining : Joining x result (means_arms x arms (means_suite x (typed_suite ss))) b0 b2 (xs ++ p.mine)
+  all_joining = t.works (means_suite x (typed_suite ss)) b2 p.mine (works_joining x result (means_suite x (typed_suite ss)) b1 b2 p.mine p.works)
 
--- ---- what is open when it is written
+  pub join_open : (from : ℕ) × OpenIn b2 from (length b2.blocks) ks
+  join_open = (length b0.blocks, let P : List Exit → Type 0 = λ z. OpenIn b2 (length b0.blocks) (length b2.blocks) z in subst P (sym (same ∙ p.is)) all_joining.opens)
 
-pub join_open : (x : Setting) (result : Option Sort) (looping : Bool) (m : Meaning Tried) (other : Meaning Flow) (b0 b1 b2 b3 : Building) (xs ys ks : List Exit) → Tested x result looping m b0 b1 xs → Emitted x result looping other b1 b2 xs ys → Extends b2 b3 → ks ≡ ys → (from : ℕ) × OpenIn b3 from (length b3.blocks) ks
-join_open x result looping m other b0 b1 b2 b3 xs ys ks t p x23 same =
-    let x13 = extends_trans b1 b2 b3 p.works.extends x23 in
-    let k1 = t.works.extends.blocks_grow in let k2 = p.works.extends.blocks_grow in let k3 = x23.blocks_grow in
-    let P : List Exit → Type 0 = λ z. OpenIn b3 (length b0.blocks) (length b3.blocks) z in
-    (length b0.blocks, subst P (sym (same ∙ p.is)) (open_append b3 (length b0.blocks) (length b1.blocks) (length b3.blocks) xs p.mine k1 (omega arith) (open_on b1 b3 _ _ _ _ xs (stays_by b1 b3 _ _ x13) (le_refl _) (le_refl _) t.works.opens) (open_on b2 b3 _ _ _ _ p.mine (stays_by b2 b3 _ _ x23) (le_refl _) k3 p.works.opens)))
+  pub if_emitted : (s : TStmt) (b4 : Building) (x0 x1 : List Exit) → s.kind ≡ kind.If arms ss → Joins b2 b4 ks x0 x1 → Emitted x result looping (means_statement x (typed_stmt s)) b0 b4 x0 x1
+  if_emitted s b4 x0 x1 is e =
+      let P : List Exit → Type 0 = λ z. Joins b2 b4 z x0 x1 in
+      let j : Joins b2 b4 (xs ++ p.mine) x0 x1 = subst P (same ∙ p.is) e in
+      let plan : Way → Option ℕ = planned (joining j.end) in
+      emitted_as x result looping _ (means_arms x arms (means_suite x (typed_suite ss))) b0 b4 x0 x1 (left plan (xs ++ p.mine)) (λ n u. ap (λ z. means_statement x z n u) (typed_stmt-If s arms ss is)) j.passed
+      (if_works x result (means_arms x arms (means_suite x (typed_suite ss))) b0 b2 b4 (xs ++ p.mine) x0 x1 all_joining j)
+      (λ z. leaves_left plan (xs ++ p.mine) (leaves_both xs p.mine (t.inside z) (p.inside z)))

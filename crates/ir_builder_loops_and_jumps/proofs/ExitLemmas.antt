@@ -1,24 +1,7 @@
 -- Ends that are still to be written: where they lie, and what becomes of them.
-use Rattle.std.proofs.Common.{◌≡◌, ◌≢◌, ℕ, zero, suc, ◌+◌, ◌<◌, ◌≤◌, List, [], ◌∷◌, ◌++◌, length, Option, Some, None, Bool, true, false, refl, sym, ap, ◌∙◌, subst, arith, append_assoc, append-nil, le_refl, get_or, take, drop, add-one}
-use Rattle.std.specs.Prelude.{◌||◌}
-use Rattle.std.proofs.Math.Seq.{take-suc}
-use Rattle.std.proofs.lemmas.List.{drop_more}
+use Rattle.ir_builder_loops_and_jumps.proofs.Common.{◌≡◌, ◌≢◌, ℕ, zero, suc, ◌+◌, ◌<◌, ◌≤◌, List, [], ◌∷◌, ◌++◌, length, Option, Some, None, Bool, true, false, refl, sym, ap, ◌∙◌, subst, arith, append_assoc, append-nil, le_refl, get_or, take, drop, add-one, ◌||◌, drop_more, Goto, Unreachable, Program, Building, with_last, held, handled, Extends, Item, End, item_at, Has, Within, or_other, Closes, Patches, extends_refl, patches, open_below, with_last_length, Way, Break, Continue, Return, Join, Exit, uses, is_same_way, number_or, stays, left, by, JumpTo, OpenIn, jumping, all_jumping}
 use Rattle.std.proofs.lemmas.Grind.{common_steps}
 use Rattle.ir_core.specs.declared.code.Last.{Last}
-use Rattle.ir_core.specs.declared.code.Last.TheVariants.{Goto, Unreachable}
-use Rattle.ir_core.specs.declared.code.Program.{Program}
-use Rattle.ir_core.specs.Building.{Building, with_last, held, Extends}
-use Rattle.ir_core.specs.Items.{End}
-use Rattle.ir_core.specs.Meaning.{item_at}
-use Rattle.ir_builder_frames.specs.Placing.{Has, Within, or_other}
-use Rattle.ir_builder_frames.specs.Calling.{Closes, Patches}
-use Rattle.ir_builder_frames.proofs.HeldLemmas.{extends_refl}
-use Rattle.ir_builder_frames.proofs.PatchLemmas.{patches, open_below}
-use Rattle.ir_builder_loops_and_jumps.specs.declared.ways.Way.{Way}
-use Rattle.ir_builder_loops_and_jumps.specs.declared.ways.Way.TheVariants.{Break, Continue, Return, Join}
-use Rattle.ir_builder_loops_and_jumps.specs.declared.ways.Exit.{Exit}
-use Rattle.ir_builder_loops_and_jumps.specs.Ways.{uses, is_same_way, number_or, stays, left, by}
-use Rattle.ir_builder_loops_and_jumps.specs.Runs.{JumpTo, OpenIn, PatchesAll, Patching}
 
 -- ---- single ends
 
@@ -71,11 +54,6 @@ open_append b from mid to [] ys l h p q = open_on b b mid to from to ys (stays_b
 open_append b from mid to (x ∷ xs) ys l h p q =
     let z = p.2 in (p.0, p.1, omega arith, open_append b (suc x.block) mid to xs ys (omega arith) h p.3 q)
 
--- what is open is an ended block
-pub open_within : (b : Building) (from to : ℕ) (es : List Exit) → OpenIn b from to es → OpenIn b from (length b.blocks) es
-open_within b from to [] o = tt
-open_within b from to (e ∷ es) o = (o.0, o.1, open_below b e.block o.0, open_within b (suc e.block) to es o.3)
-
 pub jump_front : (p : Program) (fn : ℕ) (b : Building) (to : Way → ℕ) (xs ys : List Exit) → JumpTo p fn b to (xs ++ ys) → JumpTo p fn b to xs
 jump_front p fn b to [] ys j = tt
 jump_front p fn b to (x ∷ xs) ys j = (j.0, jump_front p fn b to xs ys j.1)
@@ -83,10 +61,6 @@ jump_front p fn b to (x ∷ xs) ys j = (j.0, jump_front p fn b to xs ys j.1)
 pub jump_rest : (p : Program) (fn : ℕ) (b : Building) (to : Way → ℕ) (xs ys : List Exit) → JumpTo p fn b to (xs ++ ys) → JumpTo p fn b to ys
 jump_rest p fn b to [] ys j = j
 jump_rest p fn b to (x ∷ xs) ys j = jump_rest p fn b to xs ys j.1
-
-jump_append : (p : Program) (fn : ℕ) (b : Building) (to : Way → ℕ) (xs ys : List Exit) → JumpTo p fn b to xs → JumpTo p fn b to ys → JumpTo p fn b to (xs ++ ys)
-jump_append p fn b to [] ys j k = k
-jump_append p fn b to (x ∷ xs) ys j k = (j.0, jump_append p fn b to xs ys j.1 k)
 
 or_rest : (a b : Bool) → b ≡ true → (a || b) ≡ true
 or_rest true b e = refl
@@ -109,15 +83,6 @@ uses_rest [] ys w e = e
 uses_rest (x ∷ xs) ys w e = or_rest (is_same_way w x.way) (uses w (xs ++ ys)) (uses_rest xs ys w e)
 
 -- ---- plans
-
-pub left_append : (plan : Way → Option ℕ) (xs ys : List Exit) → left plan (xs ++ ys) ≡ left plan xs ++ left plan ys
-left_append plan [] ys = refl
-left_append plan (x ∷ xs) ys =
-    ap (λ l. stays (plan x.way) x l) (left_append plan xs ys) ∙ stays_append (plan x.way) x (left plan xs) (left plan ys)
-  where
-    stays_append : (o : Option ℕ) (x : Exit) (l m : List Exit) → stays o x (l ++ m) ≡ stays o x l ++ m
-    stays_append None x l m = refl
-    stays_append (Some t) x l m = refl
 
 pub same_way_is : (w v : Way) → is_same_way w v ≡ true → v ≡ w
 same_way_is Break Break e = refl
@@ -152,106 +117,88 @@ uses_left plan w (x ∷ xs) none u = one (is_same_way w x.way) (uses w xs) refl 
         subst P (sym (ap plan (same_way_is w x.way is) ∙ none)) (ap (λ a. a || uses w (left plan xs)) is)
     one false b is e rest = dropped (plan x.way) (rest e)
 
-pub within_patches : (p : Program) (fn : ℕ) (b c : Building) (x y : ℕ) (es : List Exit) (plan : Way → Option ℕ) (from to : ℕ) (h : Option ℕ) → PatchesAll b c x y es plan → Within p fn c from to h → Within p fn b from to h
-within_patches p fn b c x y es plan from to h q at = record {
+-- ---- the exits whose ways have a place are given their jumps, and the others stay
+
+pub record Jumps (b c : Building) (from to : ℕ) (es : List Exit) (plan : Way → Option ℕ) : Type 0 where
+  pub has : (p : Program) (fn : ℕ) → Has p fn c → Has p fn b
+  pub jumps : (p : Program) (fn : ℕ) (place : Way → ℕ) → Has p fn c → JumpTo p fn c place (left plan es) → JumpTo p fn b (by plan place) es
+  pub opens : OpenIn c from to (left plan es)
+  pub extends : (a : Building) → Extends a b → length a.blocks ≤ from → Extends a c
+  pub earlier : (j i : ℕ) (x : Item) → j < from → held b j i ≡ Some x → held c j i ≡ Some x
+  pub handlers : (j : ℕ) → handled c j ≡ handled b j
+  pub blocks : length c.blocks ≡ length b.blocks
+  pub ops : length c.ops ≡ length b.ops
+
+pub all_jump : (plan : Way → Option ℕ) (es : List Exit) (b : Building) (from to : ℕ) → OpenIn b from to es → Jumps b (all_jumping plan es b) from to es plan
+all_jump plan [] b from to o = record { has = λ p fn h. h; jumps = λ p fn place h j. tt; opens = tt; extends = λ a x le. x; earlier = λ j i x lt e. e; handlers = λ j. refl; blocks = refl; ops = refl }
+all_jump plan (e ∷ es) b from to o = one (plan e.way) refl (λ c. all_jump plan es c (suc e.block) to)
+  where
+    one : (t : Option ℕ) → plan e.way ≡ t → ((c : Building) → OpenIn c (suc e.block) to es → Jumps c (all_jumping plan es c) (suc e.block) to es plan) → Jumps b (all_jumping plan es (jumping t e.block b)) from to (e ∷ es) plan
+    one None is rest =
+        let d : Building = all_jumping plan es b in
+        let r = rest b o.3 in let low = o.1 in
+        record {
+          has = r.has;
+          jumps = λ p fn place h j.
+              let P : Option ℕ → Type 0 = λ z. JumpTo p fn d place (stays z e (left plan es)) in
+              let k = subst P is j in
+              (λ i f. k.0 i (r.earlier e.block i _ (omega arith) f) ∙ ap (λ z. Some (End (Goto (number_or z (place e.way))))) (sym is), r.jumps p fn place h k.1);
+          opens = (let P : Option ℕ → Type 0 = λ z. OpenIn d from to (stays z e (left plan es)) in subst P (sym is) (record { place = o.0.place; is = r.earlier e.block _ _ (omega arith) o.0.is }, o.1, o.2, r.opens));
+          extends = λ a x le. r.extends a x (omega arith);
+          earlier = λ j i x lt f. r.earlier j i x (omega arith) f;
+          handlers = r.handlers;
+          blocks = r.blocks;
+          ops = r.ops;
+        }
+    one (Some t) is rest =
+        let c : Building = record b { blocks = with_last b.blocks e.block (Goto t) } in
+        let d : Building = all_jumping plan es c in
+        let q = patches b c e.block (Goto t) o.0 (λ z. cc) refl in
+        let s : Stays b c (suc e.block) to = stays_patch_below b c (suc e.block) to e.block (Goto t) (omega arith) q in
+        let r = rest c (open_on b c (suc e.block) to (suc e.block) to es s (le_refl _) (le_refl _) o.3) in let low = o.1 in
+        record {
+          has = λ p fn h. q.has p fn (r.has p fn h);
+          jumps = λ p fn place h j.
+              let P : Option ℕ → Type 0 = λ z. JumpTo p fn d place (stays z e (left plan es)) in
+              (λ i f. q.code p fn i (r.has p fn h) f ∙ ap (λ z. Some (End (Goto (number_or z (place e.way))))) (sym is), jump_back p fn b c (suc e.block) to (by plan place) es s o.3 (r.jumps p fn place h (subst P is j)));
+          opens = (let P : Option ℕ → Type 0 = λ z. OpenIn d from to (stays z e (left plan es)) in subst P (sym is) (open_on d d (suc e.block) to from to (left plan es) (stays_by d d _ _ (extends_refl d)) (omega arith) (le_refl _) r.opens));
+          extends = λ a x le. r.extends a (q.extends a x (omega arith)) (omega arith);
+          earlier = λ j i x lt f. r.earlier j i x (omega arith) (q.others j i x (λ z. omega arith) f);
+          handlers = λ j. r.handlers j ∙ q.handlers j;
+          blocks = r.blocks ∙ q.blocks;
+          ops = r.ops ∙ q.ops;
+        }
+
+-- in a builder that was made so
+pub jumps_of : (plan : Way → Option ℕ) (es : List Exit) (b c : Building) (from to : ℕ) → c ≡ all_jumping plan es b → OpenIn b from to es → Jumps b c from to es plan
+jumps_of plan es b c from to is o = let P : Building → Type 0 = λ z. Jumps b z from to es plan in subst P (sym is) (all_jump plan es b from to o)
+
+pub within_jumps : (p : Program) (fn : ℕ) (b c : Building) (x y : ℕ) (es : List Exit) (plan : Way → Option ℕ) (from to : ℕ) (h : Option ℕ) → Jumps b c x y es plan → Within p fn c from to h → Within p fn b from to h
+within_jumps p fn b c x y es plan from to h q at = record {
   has = q.has p fn at.has;
   guards = λ j a e. at.guards j a e ∙ ap (λ z. or_other z h) (q.handlers j);
 }
 
+pub jumping_blocks : (plan : Way → Option ℕ) (es : List Exit) (b : Building) → length (all_jumping plan es b).blocks ≡ length b.blocks
+jumping_blocks plan [] b = refl
+jumping_blocks plan (e ∷ es) b = jumping_blocks plan es (jumping (plan e.way) e.block b) ∙ one (plan e.way)
+  where
+    one : (o : Option ℕ) → length (jumping o e.block b).blocks ≡ length b.blocks
+    one None = refl
+    one (Some t) = with_last_length b.blocks e.block (Goto t)
+
 -- ---- the loop that writes them
 
-patching_next : (b c d : Building) (es rest : List Exit) (e : Exit) (t : ℕ) (plan : Way → Option ℕ) → plan e.way ≡ Some t → Patching b c es (e ∷ rest) plan → d ≡ record c { blocks = with_last c.blocks e.block (Goto t) } → length d.blocks ≡ length c.blocks → Patching b d (es ++ e ∷ []) rest plan
-patching_next b c d es rest e t plan some q new len = record {
-  blocks = len ∙ q.blocks;
-  go = λ from to o.
-      let r = q.go from to (subst (OpenIn b from to) (append_assoc es (e ∷ []) rest) o) in
-      let next = r.0 in
-      let low = r.1 in
-      let all = r.2 in
-      let o' = r.3 in
-      let here = o'.1 in
-      let is : held c e.block o'.0.place ≡ Some (End Unreachable) = all.later e.block _ _ here o'.0.is in
-      let one = patches c d e.block (Goto t) record { place = o'.0.place; is = is } (λ z. cc) new in
-      let fewer : left plan (es ++ e ∷ []) ≡ left plan es = left_append plan es (e ∷ []) ∙ ap (λ z. left plan es ++ stays z e []) some ∙ append-nil (left plan es) in
-      let still = stays_patch c d from next e.block (Goto t) here one in (
-        suc e.block,
-        omega arith,
-        record {
-          has = λ p fn h. all.has p fn (one.has p fn h);
-          jumps = λ p fn place h j. jump_append p fn b (by plan place) es (e ∷ [])
-              (all.jumps p fn place (one.has p fn h) (jump_back p fn c d from next place (left plan es) still all.opens (subst (JumpTo p fn d place) fewer j)))
-              (λ i f. one.code p fn i h (all.later e.block i _ here f) ∙ ap (λ z. Some (End (Goto z))) (ap (λ z. number_or z (place e.way)) (sym some)), tt);
-          opens = subst (OpenIn d from (suc e.block)) (sym fewer) (open_on c d from next from (suc e.block) (left plan es) still (le_refl from) (omega arith) all.opens);
-          extends = λ a x le. one.extends a (all.extends a x le) (omega arith);
-          earlier = λ j i x lt f. one.others j i x (λ z. omega arith) (all.earlier j i x lt f);
-          later = λ j i x le f. one.others j i x (λ z. omega arith) (all.later j i x (omega arith) f);
-          handlers = λ j. one.handlers j ∙ all.handlers j;
-          same_regs = one.same_regs ∙ all.same_regs;
-          blocks = one.blocks ∙ all.blocks;
-          ops = one.ops ∙ all.ops;
-        },
-        o'.3,
-      );
-}
-
-patching_skip : (b c : Building) (es rest : List Exit) (e : Exit) (plan : Way → Option ℕ) → plan e.way ≡ None → Patching b c es (e ∷ rest) plan → Patching b c (es ++ e ∷ []) rest plan
-patching_skip b c es rest e plan none q = record {
-  blocks = q.blocks;
-  go = λ from to o.
-      let r = q.go from to (subst (OpenIn b from to) (append_assoc es (e ∷ []) rest) o) in
-      let next = r.0 in
-      let low = r.1 in
-      let all = r.2 in
-      let o' = r.3 in
-      let here = o'.1 in
-      let more : left plan (es ++ e ∷ []) ≡ left plan es ++ e ∷ [] = left_append plan es (e ∷ []) ∙ ap (λ z. left plan es ++ stays z e []) none in
-      let open' : OpenIn c next (suc e.block) (e ∷ []) = (record { place = o'.0.place; is = all.later e.block _ _ here o'.0.is }, here, omega arith, tt) in (
-        suc e.block,
-        omega arith,
-        record {
-          has = all.has;
-          jumps = λ p fn place h j.
-              let j' = subst (JumpTo p fn c place) more j in
-              jump_append p fn b (by plan place) es (e ∷ [])
-              (all.jumps p fn place h (jump_front p fn c place (left plan es) (e ∷ []) j'))
-              (λ i f. (jump_rest p fn c place (left plan es) (e ∷ []) j').0 i (all.later e.block i _ here f) ∙ ap (λ z. Some (End (Goto z))) (ap (λ z. number_or z (place e.way)) (sym none)), tt);
-          opens = subst (OpenIn c from (suc e.block)) (sym more) (open_append c from next (suc e.block) (left plan es) (e ∷ []) low (omega arith) all.opens open');
-          extends = all.extends;
-          earlier = all.earlier;
-          later = λ j i x le f. all.later j i x (omega arith) f;
-          handlers = all.handlers;
-          same_regs = all.same_regs;
-          blocks = all.blocks;
-          ops = all.ops;
-        },
-        o'.3,
-      );
-}
-
--- one turn of the loop over the exits
-turn_of : (b c : Building) (es : List Exit) (i : ℕ) (e y : Exit) (plan : Way → Option ℕ) → i < length es → e ≡ get_or es i y → Patching b c (take i es) (drop i es) plan → Patching b c (take i es) (e ∷ drop (i + 1) es) plan
-turn_of b c es i e y plan lt is q =
+pub jumping_next : (plan : Way → Option ℕ) (es : List Exit) (i : ℕ) (e y : Exit) (o : Option ℕ) (a b c : Building) → i < length es → e ≡ get_or es i y → plan e.way ≡ o → c ≡ jumping o e.block b → all_jumping plan (drop i es) b ≡ all_jumping plan es a → all_jumping plan (drop (i + 1) es) c ≡ all_jumping plan es a
+jumping_next plan es i e y o a b c lt is at new so_far =
     let d : drop i es ≡ e ∷ drop (i + 1) es = drop_more es i y lt ∙ ap (λ x. x ∷ drop (i + 1) es) (sym is) in
-    rw d at q
+    ap (λ z. all_jumping plan (drop (i + 1) es) z) (new ∙ ap (λ z. jumping z e.block b) (sym at)) ∙ ap (λ z. all_jumping plan z b) (sym d) ∙ so_far
 
-pub patching_at : (b c d : Building) (es : List Exit) (i : ℕ) (e y : Exit) (t : ℕ) (plan : Way → Option ℕ) → i < length es → e ≡ get_or es i y → plan e.way ≡ Some t → Patching b c (take i es) (drop i es) plan → d ≡ record c { blocks = with_last c.blocks e.block (Goto t) } → length d.blocks ≡ length c.blocks → Patching b d (take (i + 1) es) (drop (i + 1) es) plan
-patching_at b c d es i e y t plan lt is some q new len =
-    rw (add-one, take-suc es i y lt, ← is, ← add-one) (patching_next b c d (take i es) (drop (i + 1) es) e t plan some (turn_of b c es i e y plan lt is q) new len)
+pub drop_past : {A : Type 0} (xs : List A) (i : ℕ) → length xs ≤ i → drop i xs ≡ []
+drop_past xs i le = grind (arith, common_steps)
 
-pub patching_past : (b c : Building) (es : List Exit) (i : ℕ) (e y : Exit) (plan : Way → Option ℕ) → i < length es → e ≡ get_or es i y → plan e.way ≡ None → Patching b c (take i es) (drop i es) plan → Patching b c (take (i + 1) es) (drop (i + 1) es) plan
-patching_past b c es i e y plan lt is none q =
-    rw (add-one, take-suc es i y lt, ← is, ← add-one) (patching_skip b c (take i es) (drop (i + 1) es) e plan none (turn_of b c es i e y plan lt is q))
-
-take_past : (es : List Exit) (i : ℕ) → length es ≤ i → take i es ≡ es
-take_past es i le = grind (arith, common_steps)
-
-drop_past : (es : List Exit) (i : ℕ) → length es ≤ i → drop i es ≡ []
-drop_past es i le = grind (arith, common_steps)
-
-pub patching_end : (b c : Building) (es : List Exit) (i : ℕ) (plan : Way → Option ℕ) → length es ≤ i → Patching b c (take i es) (drop i es) plan → Patching b c es [] plan
-patching_end b c es i plan le q =
-    let r = subst (λ xs. Patching b c xs (drop i es) plan) (take_past es i le) q in
-    subst (λ ys. Patching b c es ys plan) (drop_past es i le) r
+pub jumping_end : (plan : Way → Option ℕ) (es : List Exit) (i : ℕ) (a b : Building) → length es ≤ i → all_jumping plan (drop i es) b ≡ all_jumping plan es a → b ≡ all_jumping plan es a
+jumping_end plan es i a b le so_far = ap (λ z. all_jumping plan z b) (sym (drop_past es i le)) ∙ so_far
 
 -- the block at hand is there
 pub open_first : (b : Building) (from to : ℕ) (es : List Exit) (i : ℕ) (e y : Exit) → i < length es → e ≡ get_or es i y → OpenIn b from to es → e.block < length b.blocks

@@ -1,33 +1,6 @@
 -- How stretches of code for statements follow one another.
-use Rattle.std.proofs.Common.{◌≡◌, ℕ, ◌≤◌, List, [], ◌++◌, length, Option, Some, None, Bool, cond, refl, sym, ap, ◌∙◌, subst, arith, le_refl}
-use Rattle.value_core.specs.Value.{Value, BoolVal}
-use Rattle.py_typed.specs.Sorts.{Sort}
-use Rattle.source_meaning.specs.State.{State, Outcome, Gives, Raises, Stops, on_to}
-use Rattle.source_meaning.specs.WaysOut.{Flow, Goes, Breaks, Continues, Returns, flow_on}
+use Rattle.ir_builder_loops_and_jumps.proofs.Common.{◌≡◌, ℕ, ◌≤◌, List, [], ◌++◌, length, Option, Some, None, Bool, cond, refl, sym, ap, ◌∙◌, subst, arith, le_refl, Value, BoolVal, Sort, State, Outcome, Gives, Raises, Stops, on_to, Flow, Goes, Breaks, Continues, Returns, flow_on, Goto, If, Reg, Program, Building, End, Holds, Regs, World, Config, Waiting, Strict, item_at, registers_of, type_of_reg, goto_step, if_step, Setting, Placed, world, running, Leads, Ends, Matches, SameIn, Stands, IsThrown, CallsWork, Meaning, Way, Break, Continue, Return, Exit, JumpTo, Back, Flows, Works, Always, WorksAt, leads_trans, leads_step, ends_on, ends_now, ends_at, ends_map, extends_refl, extends_trans, placed_part, stands_from, thrown_from}
 use Rattle.ir_core.specs.declared.code.RType.TheVariants.{Bool as BoolType}
-use Rattle.ir_core.specs.declared.code.Last.TheVariants.{Goto, If}
-use Rattle.ir_core.specs.declared.code.Reg.{Reg}
-use Rattle.ir_core.specs.declared.code.Program.{Program}
-use Rattle.ir_core.specs.Building.{Building}
-use Rattle.ir_core.specs.Items.{End}
-use Rattle.ir_core.specs.Registers.{Holds, Regs}
-use Rattle.ir_core.specs.Effects.{World}
-use Rattle.ir_core.specs.Meaning.{Config, Waiting, Strict, item_at, registers_of}
-use Rattle.ir_core.specs.Rows.{type_of_reg}
-use Rattle.ir_core.proofs.StepLemmas.{goto_step, if_step}
-use Rattle.ir_builder_frames.specs.Settings.{Setting}
-use Rattle.ir_builder_frames.specs.Placing.{Placed}
-use Rattle.ir_builder_frames.specs.Coming.{world, running, Leads, Ends}
-use Rattle.ir_builder_frames.specs.Matching.{Matches, SameIn, Stands, IsThrown, CallsWork}
-use Rattle.ir_builder_frames.specs.Computing.{Meaning}
-use Rattle.ir_builder_loops_and_jumps.specs.declared.ways.Way.{Way}
-use Rattle.ir_builder_loops_and_jumps.specs.declared.ways.Way.TheVariants.{Break, Continue, Return}
-use Rattle.ir_builder_loops_and_jumps.specs.declared.ways.Exit.{Exit}
-use Rattle.ir_builder_loops_and_jumps.specs.Runs.{JumpTo, Back, Flows, Works}
-use Rattle.ir_builder_loops_and_jumps.specs.Loops.{Always, WorksAt}
-use Rattle.ir_builder_frames.proofs.ComingLemmas.{leads_trans, leads_step, ends_on, ends_now, ends_at, ends_map}
-use Rattle.ir_builder_frames.proofs.HeldLemmas.{extends_refl, extends_trans, placed_part}
-use Rattle.ir_builder_frames.proofs.MatchLemmas.{stands_from, thrown_from}
 use Rattle.ir_builder_loops_and_jumps.proofs.ExitLemmas.{stays_by, jump_back, open_on, open_append, jump_front, jump_rest, UsesToo, uses_front, uses_rest}
 
 -- ---- single steps

@@ -5,6 +5,6 @@ pub mod LoopLemmas
 pub mod BranchLemmas
 pub mod SimpleLemmas
 pub mod PrintLemmas
-pub mod MeaningLemmas
 pub mod EmitLemmas
 pub mod PlanLemmas
+pub mod Common

@@ -1,38 +1,7 @@
 -- A loop does in its code what it means.
-use Rattle.std.proofs.Common.{◌≡◌, ℕ, zero, suc, ◌+◌, ◌<◌, ◌≤◌, List, [], ◌++◌, length, Option, Some, None, Bool, refl, sym, ap, ◌∙◌, subst, arith, append-nil, le_refl}
+use Rattle.ir_builder_loops_and_jumps.proofs.Common.{◌≡◌, ℕ, zero, suc, ◌+◌, ◌<◌, ◌≤◌, List, [], ◌++◌, length, Option, Some, None, Bool, refl, sym, ap, ◌∙◌, subst, arith, append-nil, le_refl, Value, Sort, State, Gives, Does, on_to, spend, spend_from, Flow, Goes, Breaks, Continues, Returns, after_body, loop, Goto, If, Turn, Reg, Program, Building, held, Do, End, Regs, Config, Waiting, Strict, item_at, op_step, turn_step, Setting, Placed, Closes, Patches, world, running, Leads, Ends, Matches, SameIn, IsThrown, CallsWork, Meaning, Way, Break, Continue, Return, Exit, LoopStart, planned, left, by, JumpTo, Brings, Back, Flows, Always, Asks, WorksAt, Steps, Splits, looping_to, EndsLoop, leads_refl, leads_trans, leads_step, ends_from, ends_on, ends_now, extends_refl, extends_trans, has_less, pushes_has, within_part, stands_from, thrown_from, patches}
 use Rattle.value_core.specs.Ending as ending
-use Rattle.value_core.specs.Value.{Value}
-use Rattle.py_typed.specs.Sorts.{Sort}
-use Rattle.source_meaning.specs.State.{State, Gives, Does, on_to, spend, spend_from}
-use Rattle.source_meaning.specs.WaysOut.{Flow, Goes, Breaks, Continues, Returns, after_body, loop}
-use Rattle.ir_core.specs.declared.code.Last.TheVariants.{Goto, If}
-use Rattle.ir_core.specs.declared.code.Op.TheVariants.{Turn}
-use Rattle.ir_core.specs.declared.code.Reg.{Reg}
-use Rattle.ir_core.specs.declared.code.Program.{Program}
-use Rattle.ir_core.specs.Building.{Building, held}
-use Rattle.ir_core.specs.Items.{Do, End}
-use Rattle.ir_core.specs.Registers.{Regs}
-use Rattle.ir_core.specs.Meaning.{Config, Waiting, Strict, item_at}
-use Rattle.ir_core.proofs.StepLemmas.{op_step, turn_step}
-use Rattle.ir_builder_frames.specs.Settings.{Setting}
-use Rattle.ir_builder_frames.specs.Placing.{Placed}
-use Rattle.ir_builder_frames.specs.Calling.{Closes, Patches}
-use Rattle.ir_builder_frames.specs.Coming.{world, running, Leads, Ends}
-use Rattle.ir_builder_frames.specs.Matching.{Matches, SameIn, IsThrown, CallsWork}
-use Rattle.ir_builder_frames.specs.Computing.{Meaning}
-use Rattle.ir_builder_loops_and_jumps.specs.declared.ways.Way.{Way}
-use Rattle.ir_builder_loops_and_jumps.specs.declared.ways.Way.TheVariants.{Break, Continue, Return}
-use Rattle.ir_builder_loops_and_jumps.specs.declared.ways.Exit.{Exit}
-use Rattle.ir_builder_loops_and_jumps.specs.declared.ways.LoopStart.{LoopStart}
-use Rattle.ir_builder_loops_and_jumps.specs.Ways.{planned, left, by}
-use Rattle.ir_builder_loops_and_jumps.specs.Runs.{JumpTo, OpenIn, Brings, Back, Flows}
-use Rattle.ir_builder_loops_and_jumps.specs.Loops.{Always, Asks, WorksAt, Steps}
-use Rattle.ir_builder_loops_and_jumps.specs.Around.{Splits, looping_to, EndsLoop}
-use Rattle.ir_builder_frames.proofs.ComingLemmas.{leads_refl, leads_trans, leads_step, ends_from, ends_now}
-use Rattle.ir_builder_frames.proofs.HeldLemmas.{extends_refl, extends_trans, has_less, pushes_has, within_part}
-use Rattle.ir_builder_frames.proofs.MatchLemmas.{stands_from}
-use Rattle.ir_builder_frames.proofs.PatchLemmas.{patches}
-use Rattle.ir_builder_loops_and_jumps.proofs.ExitLemmas.{close_at, within_patch, Stays, stays_by, stays_trans, stays_patch_below, jump_back, open_on, open_within, uses_left, within_patches}
+use Rattle.ir_builder_loops_and_jumps.proofs.ExitLemmas.{close_at, within_patch, Stays, stays_by, stays_trans, stays_patch_below, jump_back, open_on, uses_left, jumps_of, within_jumps}
 use Rattle.ir_builder_loops_and_jumps.proofs.FlowLemmas.{goes_to, flows_from}
 use Rattle.ir_builder_loops_and_jumps.proofs.SplitLemmas.{SplitAt, split_at, split_ends}
 
@@ -96,8 +65,10 @@ module _ {X : Type 0} (p : Program) (result : Option Sort) (fn : ℕ) (below : L
   loop_ends (suc k) i regs s held match same lt fits =
       let P : ℕ → Type 0 = λ j. Ends p s.turns (running fn (length b1.blocks) j regs below (world None s)) (repeats (suc k) i s) R T in
       subst P at.begin
-      (split_ends p result fn below x n calls h At Inside test body b1 b2 b3 b4 r out (length b5.blocks) xs inner keep old (after_body (repeats k (next i))) (Gives Goes) R at.split asks does jumps wide wider i regs s held match same fits
-      (λ now inside same1 g s1 d le1 t. body_next k i (loop_ends k) now inside same1 g s1 d (omega arith) (omega arith) t)
+      (split_ends p result fn below x n calls h At Inside test body b1 b2 b3 b4 r out (length b5.blocks) xs inner keep old (λ u. on_to (body i n u) (after_body (repeats k (next i)))) (Gives Goes) R at.split asks does jumps wide i regs s held match same fits
+      (λ now inside same1 s1 c le1 run. ends_on p s1.turns c (body i n s1) _ (IsThrown fn h below x (length b3.regs) now) T (after_body (repeats k (next i))) R run
+      (λ g s2 d le2 t. body_next k i (loop_ends k) now inside same1 g s2 d (omega arith) (omega arith) t)
+      (λ v s2 d t. thrown_from fn h below x keep (length b3.regs) old now v s2 d wider same1 t))
       (λ s1 d le1 t. ends_now p Goes s1 d R T t))
 
 -- a returned value passes through
@@ -126,16 +97,14 @@ loop_works x result At Inside test body next keep b0 b1 b3 b4 b5 b6 b9 o on xs x
     let tests = If o.test.condition (length b3.blocks) l.exit in
     let p8 : Patches b8 c (length b2.blocks) tests = patches b8 c (length b2.blocks) tests record { place = length b2.ops; is = x38.items _ _ _ c3.at } (λ z. cc) (rw (sp.block, sp.start) at l.set) in
     let s4 : Stays b4 c (length b3.blocks) (length b4.blocks) = stays_trans b4 b8 c _ _ (stays_by b4 b8 _ _ x48) (stays_patch_below b8 c _ _ _ _ (omega arith) p8) in
-    let open8 : OpenIn c (length b3.blocks) (length b4.blocks) (xs ++ []) = rw append-nil (open_on b4 c _ _ _ _ xs s4 (le_refl _) (le_refl _) does.opens) in
-    let found = l.patching.go _ _ open8 in
-    let done = found.2 in
+    let done = jumps_of plan xs c b9 (length b3.blocks) (length b4.blocks) l.jumps (open_on b4 c _ _ _ _ xs s4 (le_refl _) (le_refl _) does.opens) in
     let n9 : length b9.blocks ≡ length b8.blocks = done.blocks ∙ p8.blocks in
     let o9 : length b9.ops ≡ 0 = done.ops ∙ p8.ops ∙ l.closes.ops in
     record {
       extends = done.extends b0 (p8.extends b0 x08 (omega arith)) (omega arith);
-      opens = open_on b9 b9 (length b3.blocks) (length b9.blocks) (length b0.blocks) (length b9.blocks) (left plan xs) (stays_by b9 b9 _ _ (extends_refl b9)) (omega arith) (le_refl _) (open_within b9 _ found.0 _ done.opens);
+      opens = open_on b9 b9 _ _ (length b0.blocks) (length b9.blocks) (left plan xs) (stays_by b9 b9 _ _ (extends_refl b9)) (omega arith) (omega arith) done.opens;
       runs = λ p fn h to at jumps n calls i regs below s held match le.
-          let wc = within_patches p fn c b9 _ _ xs plan _ _ h done at in
+          let wc = within_jumps p fn c b9 _ _ xs plan _ _ h done at in
           let w8 = within_patch p fn b8 c _ _ _ _ h p8 wc in
           let h8 = w8.has in
           let inner : Way → ℕ = by plan to in

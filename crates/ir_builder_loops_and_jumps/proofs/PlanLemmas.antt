@@ -1,16 +1,7 @@
 -- Exits go where they may.
-use Rattle.std.proofs.Common.{◌≡◌, ℕ, zero, suc, ◌<◌, ◌≤◌, true, List, [], ◌∷◌, ◌++◌, length, Option, Some, None, refl, sym, ap, ◌∙◌, subst, arith, get_or}
-use Rattle.ir_core.specs.declared.code.Op.{Op}
-use Rattle.ir_core.specs.declared.code.Op.TheVariants.{Turn}
+use Rattle.ir_builder_loops_and_jumps.proofs.Common.{◌≡◌, ℕ, zero, suc, ◌<◌, ◌≤◌, true, List, [], ◌∷◌, ◌++◌, length, Option, Some, None, refl, sym, ap, ◌∙◌, subst, arith, get_or, Op, Turn, Building, Higher, Way, Break, Continue, Return, Join, Exit, planned, OpenIn}
 use Rattle.ir_core.specs.Shape.{ends_in_turn}
-use Rattle.ir_core.specs.Building.{Building}
-use Rattle.ir_builder_frames.specs.Shaped.{Higher}
-use Rattle.ir_builder_loops_and_jumps.specs.declared.ways.Way.{Way}
-use Rattle.ir_builder_loops_and_jumps.specs.declared.ways.Way.TheVariants.{Break, Continue, Return, Join}
-use Rattle.ir_builder_loops_and_jumps.specs.declared.ways.Exit.{Exit}
-use Rattle.ir_builder_loops_and_jumps.specs.Ways.{planned}
 use Rattle.ir_builder_loops_and_jumps.specs.Plans.{GoesTo, PlanFits}
-use Rattle.ir_builder_loops_and_jumps.specs.Runs.{OpenIn}
 
 plan_at : (m : ℕ) (plan : Way → Option ℕ) (es : List Exit) (i : ℕ) (e y : Exit) → i < length es → e ≡ get_or es i y → PlanFits m plan es → GoesTo m e.block (plan e.way)
 plan_at m plan [] i e y lt is p = absurd (omega arith)

@@ -1,42 +1,12 @@
 -- The code of `print` writes what it is to.
-use Rattle.std.proofs.Common.{◌≡◌, ℕ, zero, suc, ◌+◌, ◌<◌, ◌≤◌, true, false, List, [], ◌∷◌, ◌++◌, length, map, get_or, take, Option, Some, None, refl, sym, ap, ◌∙◌, subst, arith, append_assoc, append-nil, le_refl, add-one, ◌≢◌, Bool}
-use Rattle.std.specs.Prelude.{◌&&◌}
-use Rattle.std.proofs.lemmas.List.{take_all}
+use Rattle.ir_builder_loops_and_jumps.proofs.Common.{◌≡◌, ℕ, zero, suc, ◌+◌, ◌<◌, ◌≤◌, true, false, List, [], ◌∷◌, ◌++◌, length, map, get_or, take, Option, Some, None, refl, sym, ap, ◌∙◌, subst, arith, append_assoc, append-nil, le_refl, add-one, ◌≢◌, Bool, ◌&&◌, take_all, Value, StrVal, TExpr, Sort, typed_expr, type_of, State, Outcome, Gives, Does, on_to, give, needs, write, text_of, line_of, has_text, Flow, Goes, Op, Reg, Ref, Program, Building, held, Extends, Do, Holds, Regs, Declared, type_of_reg, World, Waiting, Strict, do_op, registers_of, op_step, Setting, rtype_of, HasType, Has, Pushes, world, running, Leads, Ends, HasKind, Matches, HasRoom, IsThrown, Shows, Meaning, Makes, Attempts, ShowAll, HaveTypes, ArrivesAll, ComputesAll, Keeps, leads_trans, leads_step, leads_refl, ends_from, ends_on, ends_now, ends_at, on_assoc, extends_refl, extends_trans, has_less, type_has, type_below, placed_part, room_on, match_kept, Flows, Works}
 use Rattle.std.specs.List.{list_all}
-use Rattle.value_core.specs.Value.{Value, StrVal}
 use Rattle.value_core.specs.Items.{line_feed}
-use Rattle.py_typed.specs.declared.expression.TExpr.{TExpr}
 use Rattle.py_typed.specs.Sorts as sort
-use Rattle.py_typed.specs.Sorts.{Sort, sort as sort_of}
-use Rattle.py_typed.specs.Expressions.{typed_expr, type_of}
-use Rattle.source_meaning.specs.State.{State, Outcome, Gives, Does, on_to, give, needs, write}
-use Rattle.source_meaning.specs.Operations.{text_of, line_of, has_text}
-use Rattle.source_meaning.specs.WaysOut.{Flow, Goes}
+use Rattle.py_typed.specs.Sorts.{sort as sort_of}
 use Rattle.py_typed.proofs.ExpressionLemmas.{type_at}
-use Rattle.ir_core.specs.declared.code.Op.{Op}
-use Rattle.ir_core.specs.declared.code.Reg.{Reg}
-use Rattle.ir_core.specs.declared.code.RType.TheVariants.{Ref}
-use Rattle.ir_core.specs.declared.code.Program.{Program}
-use Rattle.ir_core.specs.Building.{Building, held, Extends}
-use Rattle.ir_core.specs.Items.{Do}
-use Rattle.ir_core.specs.Registers.{Holds, Regs}
-use Rattle.ir_core.specs.Rows.{Declared, type_of_reg}
-use Rattle.ir_core.specs.Effects.{World}
-use Rattle.ir_core.specs.Meaning.{Waiting, Strict, do_op, registers_of}
-use Rattle.ir_core.proofs.StepLemmas.{op_step}
-use Rattle.ir_builder_frames.specs.Settings.{Setting, rtype_of}
-use Rattle.ir_builder_frames.specs.Placing.{HasType, Has}
-use Rattle.ir_builder_frames.specs.Calling.{Pushes}
-use Rattle.ir_builder_frames.specs.Coming.{world, running, Leads, Ends}
-use Rattle.ir_builder_frames.specs.Matching.{HasKind, Matches, HasRoom, IsThrown}
-use Rattle.ir_builder_frames.specs.Computing.{Shows, Meaning, Makes, Attempts, ShowAll, HaveTypes, ArrivesAll, ComputesAll}
-use Rattle.ir_builder_frames.specs.Shaped.{Keeps}
 use Rattle.ir_builder_frames.specs.Kinds.{KeepsKinds}
-use Rattle.ir_builder_frames.proofs.ComingLemmas.{leads_trans, leads_step, leads_refl, ends_from, ends_on, ends_now, ends_at, on_assoc}
-use Rattle.ir_builder_frames.proofs.HeldLemmas.{extends_refl, extends_trans, has_less, type_has, type_below, placed_part}
-use Rattle.ir_builder_frames.proofs.MatchLemmas.{room_on, match_kept}
 use Rattle.ir_builder_operations.specs.Operating.{is_written, ActsOn}
-use Rattle.ir_builder_loops_and_jumps.specs.Runs.{Flows, Works}
 use Rattle.ir_builder_loops_and_jumps.specs.Printing.{written, writes_of, item_text, row_text, first_texts, Prints, WritesText, WritesOne, Writes}
 use Rattle.ir_builder_operations.proofs.PartLemmas.{show_kept}
 

@@ -1,46 +1,16 @@
 -- Simple statements do in their code what they mean.
-use Rattle.std.proofs.Common.{◌≡◌, ◌≢◌, ℕ, zero, suc, ◌+◌, ◌<◌, ◌≤◌, true, false, List, [], ◌∷◌, length, Option, Some, None, refl, sym, ap, ◌∙◌, subst, arith, le_refl, ⊎_elim}
-use Rattle.std.specs.Prelude.{slice_get, slice_set, pos, nat_lt, if◌then◌else◌}
-use Rattle.std.proofs.lemmas.Bool.{cases_eq}
+use Rattle.ir_builder_loops_and_jumps.proofs.Common.{◌≡◌, ◌≢◌, ℕ, zero, suc, ◌+◌, ◌<◌, ◌≤◌, true, false, List, [], ◌∷◌, length, Option, Some, None, refl, sym, ap, ◌∙◌, subst, arith, le_refl, ⊎_elim, slice_get, slice_set, pos, nat_lt, if◌then◌else◌, cases_eq, Value, BoolVal, Sort, Variable, TypedTarget, LocalTarget, GlobalTarget, State, Outcome, Gives, Does, on_to, Flow, Goes, Breaks, Continues, Returns, Int, I64, Ref, Unreachable, Move, Lit, Prim, World, Reg, Program, Building, Item, blocks_of, item_in, Held, Holds, Regs, put, look, type_of_reg, Config, Waiting, Strict, is_refused, registers_of, declared_of, move_step, lit_step, return_step, put_same, put_other, Setting, rtype_of, HasType, Has, Pushes, Closes, world, running, returning, Leads, Ends, HasKind, flag_of, flag_in, HasRoom, Matches, Stands, IsThrown, Showing, Shows, Meaning, Computes, Way, Break, Continue, Exit, Back, Flows, Works, leads_trans, leads_step, ends_from, ends_now, extends_refl, extends_trans, get_below, has_less, type_has, pushes_has, placed_part, either_flag, not_below, keeps_as, computes_then}
 use Rattle.std.proofs.lemmas.Bool.Decides.{nat_tests}
-use Rattle.value_core.specs.Value.{Value, BoolVal}
 use Rattle.c_core.specs.declared.primitive.Primitive.TheVariants as prim
 use Rattle.c_core.specs.declared.primitive.GlobalPrim.TheVariants as global
-use Rattle.py_typed.specs.Sorts.{Sort}
-use Rattle.py_typed.specs.Statements.{Variable, TypedTarget, LocalTarget, GlobalTarget}
-use Rattle.source_meaning.specs.State.{State, Outcome, Gives, Does, on_to}
-use Rattle.source_meaning.specs.WaysOut.{Flow, Goes, Breaks, Continues, Returns}
 use Rattle.ir_core.specs.declared.code.RType.{RType}
-use Rattle.ir_core.specs.declared.code.RType.TheVariants.{Int, I64, Bool as BoolType, Ref}
-use Rattle.ir_core.specs.declared.code.Last.TheVariants.{Return as Leave, Unreachable}
-use Rattle.ir_core.specs.declared.code.Op.TheVariants.{Move, Lit, Prim}
+use Rattle.ir_core.specs.declared.code.RType.TheVariants.{Bool as BoolType}
+use Rattle.ir_core.specs.declared.code.Last.TheVariants.{Return as Leave}
 use Rattle.ir_core.specs.declared.code.PArg.TheVariants as arg
 use Rattle.ir_core.specs.declared.code.Lit.TheVariants.{Number}
-use Rattle.ir_core.specs.Effects.{World}
-use Rattle.ir_core.specs.declared.code.Reg.{Reg}
 use Rattle.ir_core.specs.declared.code.Func.{Func}
-use Rattle.ir_core.specs.declared.code.Program.{Program}
-use Rattle.ir_core.specs.Building.{Building}
-use Rattle.ir_core.specs.Items.{Item, blocks_of, item_in}
-use Rattle.ir_core.specs.Registers.{Held, Holds, Regs, put, look}
-use Rattle.ir_core.specs.Rows.{type_of_reg}
-use Rattle.ir_core.specs.Meaning.{Config, Waiting, Strict, is_refused, registers_of, declared_of}
-use Rattle.ir_core.proofs.StepLemmas.{move_step, lit_step, return_step, put_same, put_other}
-use Rattle.ir_builder_frames.specs.Settings.{Setting, rtype_of}
-use Rattle.ir_builder_frames.specs.Placing.{HasType, Has}
-use Rattle.ir_builder_frames.specs.Calling.{Pushes, Closes}
-use Rattle.ir_builder_frames.specs.Coming.{world, running, returning, Leads, Ends}
-use Rattle.ir_builder_frames.specs.Matching.{HasKind, flag_of, flag_in, HasRoom, Matches, Stands, IsThrown}
-use Rattle.ir_builder_frames.specs.Computing.{Showing, Shows, Meaning, Computes}
-use Rattle.ir_builder_loops_and_jumps.specs.declared.ways.Way.{Way}
-use Rattle.ir_builder_loops_and_jumps.specs.declared.ways.Way.TheVariants.{Break, Continue}
-use Rattle.ir_builder_loops_and_jumps.specs.declared.ways.Exit.{Exit}
-use Rattle.ir_builder_loops_and_jumps.specs.Runs.{Back, Flows, Works}
 use Rattle.ir_builder_loops_and_jumps.specs.Simple.{with_value, Sets, Leaves}
-use Rattle.ir_builder_frames.proofs.ComingLemmas.{leads_trans, leads_step, ends_from, ends_now}
-use Rattle.ir_builder_frames.proofs.HeldLemmas.{extends_refl, extends_trans, get_below, has_less, type_has, pushes_has, placed_part}
 use Rattle.ir_builder_frames.proofs.GlobalLemmas.{global_matches, global_step}
-use Rattle.ir_builder_frames.proofs.MatchLemmas.{either_flag, not_below, keeps_as, computes_then}
 use Rattle.ir_builder_loops_and_jumps.proofs.ExitLemmas.{close_at, stays_by, open_on}
 use Rattle.ir_builder_loops_and_jumps.proofs.FlowLemmas.{goes_to, flows_from}
 

@@ -1,33 +1,7 @@
 -- A test, and by its answer a body or what comes next.
-use Rattle.std.proofs.Common.{◌≡◌, ℕ, ◌≤◌, List, length, Option, Some, None, Bool, true, false, cond, refl, sym, ap, ◌∙◌, subst, arith, le_refl}
-use Rattle.std.specs.Prelude.{if◌then◌else◌}
-use Rattle.value_core.specs.Value.{Value}
+use Rattle.ir_builder_loops_and_jumps.proofs.Common.{◌≡◌, ℕ, ◌≤◌, List, length, Option, Some, None, Bool, true, false, cond, refl, sym, ap, ◌∙◌, subst, arith, le_refl, if◌then◌else◌, Value, Sort, State, Does, on_to, truth_of, Flow, Goto, If, Unreachable, Program, Building, Extends, End, Holds, Regs, Config, Waiting, item_at, registers_of, type_of_reg, Setting, HasType, Has, Within, Placed, Closes, Patches, world, running, Ends, HasRoom, Matches, SameIn, Stands, IsThrown, CallsWork, Shows, Meaning, Computes, Way, Exit, JumpTo, Flows, Always, Asked, Asks, WorksAt, ends_from, ends_on, ends_now, ends_at, extends_trans, has_less, type_has, within_part, thrown_from, computes_then}
 use Rattle.py_typed.specs.Sorts as sort
-use Rattle.py_typed.specs.Sorts.{Sort}
-use Rattle.source_meaning.specs.State.{State, Does, on_to}
-use Rattle.source_meaning.specs.Operations.{truth_of}
-use Rattle.source_meaning.specs.WaysOut.{Flow}
 use Rattle.ir_core.specs.declared.code.RType.TheVariants.{Bool as BoolType}
-use Rattle.ir_core.specs.declared.code.Last.TheVariants.{Goto, If, Unreachable}
-use Rattle.ir_core.specs.declared.code.Program.{Program}
-use Rattle.ir_core.specs.Building.{Building, Extends}
-use Rattle.ir_core.specs.Items.{End}
-use Rattle.ir_core.specs.Registers.{Holds, Regs}
-use Rattle.ir_core.specs.Meaning.{Config, Waiting, item_at, registers_of}
-use Rattle.ir_core.specs.Rows.{type_of_reg}
-use Rattle.ir_builder_frames.specs.Settings.{Setting}
-use Rattle.ir_builder_frames.specs.Placing.{HasType, Has, Within, Placed}
-use Rattle.ir_builder_frames.specs.Calling.{Closes, Patches}
-use Rattle.ir_builder_frames.specs.Coming.{world, running, Ends}
-use Rattle.ir_builder_frames.specs.Matching.{HasRoom, Matches, SameIn, Stands, IsThrown, CallsWork}
-use Rattle.ir_builder_frames.specs.Computing.{Shows, Meaning, Computes}
-use Rattle.ir_builder_loops_and_jumps.specs.declared.ways.Way.{Way}
-use Rattle.ir_builder_loops_and_jumps.specs.declared.ways.Exit.{Exit}
-use Rattle.ir_builder_loops_and_jumps.specs.Runs.{JumpTo, Flows}
-use Rattle.ir_builder_loops_and_jumps.specs.Loops.{Always, Asked, Asks, WorksAt}
-use Rattle.ir_builder_frames.proofs.ComingLemmas.{ends_from, ends_on, ends_now, ends_at}
-use Rattle.ir_builder_frames.proofs.HeldLemmas.{extends_trans, has_less, type_has, within_part}
-use Rattle.ir_builder_frames.proofs.MatchLemmas.{thrown_from, computes_then}
 use Rattle.ir_builder_loops_and_jumps.proofs.FlowLemmas.{goes_by, flow_goto}
 
 -- a bool that is computed answers a test
@@ -73,23 +47,21 @@ module _ (p : Program) (result : Option Sort) (fn : ℕ) (below : List Waiting) 
   by_answer t a b true regs s f g P R E holds first second = first (holds refl)
   by_answer t a b false regs s f g P R E holds first second = second
 
-  pub split_ends : {X B : Type 0} (At Inside : X → Regs → Type 0) (test : X → Meaning Bool) (body : X → Meaning Flow) (b1 b2 b3 b4 : Building) (r out next : ℕ) (xs : List Exit) (to : Way → ℕ) (keep : ℕ) (old : Regs) (more : Flow → Does B) (other : Does B) (R : B → State → Config → Type 0) → SplitAt p fn h b1 b2 b3 b4 r out next → Asks x At Inside test b1 b2 r → WorksAt x result Inside body (length b3.regs) b3 b4 xs → JumpTo p fn b4 to xs → keep ≤ length b1.regs → keep ≤ length b3.regs → (i : X) (regs : Regs) (s : State) → At i regs → Matches x regs s → SameIn x.frame keep regs old → s.turns ≤ n → ((now : Regs) → Inside i now → SameIn x.frame keep now old → (g : Flow) (s1 : State) (d : Config) → s1.turns ≤ s.turns → Flows p result fn next 0 to xs below x (length b3.regs) now g s1 d → Ends p s1.turns d (more g s1) R (IsThrown fn h below x keep old)) → ((s1 : State) (d : Config) → s1.turns ≤ s.turns → Stands fn out 0 below None x keep old s1 d → Ends p s1.turns d (other s1) R (IsThrown fn h below x keep old)) → Ends p s.turns (running fn (length b1.blocks) (length b1.ops) regs below (world None s)) (on_to (test i n s) (λ c. if c then (λ u. on_to (body i n u) more) else other)) R (IsThrown fn h below x keep old)
-  split_ends At Inside test body b1 b2 b3 b4 r out next xs to keep old more other R at asks does jumps wide wider i regs s held match same fits behind past =
+  pub split_ends : {X B : Type 0} (At Inside : X → Regs → Type 0) (test : X → Meaning Bool) (body : X → Meaning Flow) (b1 b2 b3 b4 : Building) (r out next : ℕ) (xs : List Exit) (to : Way → ℕ) (keep : ℕ) (old : Regs) (go other : Does B) (R : B → State → Config → Type 0) → SplitAt p fn h b1 b2 b3 b4 r out next → Asks x At Inside test b1 b2 r → WorksAt x result Inside body (length b3.regs) b3 b4 xs → JumpTo p fn b4 to xs → keep ≤ length b1.regs → (i : X) (regs : Regs) (s : State) → At i regs → Matches x regs s → SameIn x.frame keep regs old → s.turns ≤ n → ((now : Regs) → Inside i now → SameIn x.frame keep now old → (s1 : State) (c : Config) → s1.turns ≤ s.turns → Ends p s1.turns c (body i n s1) (Flows p result fn next 0 to xs below x (length b3.regs) now) (IsThrown fn h below x (length b3.regs) now) → Ends p s1.turns c (go s1) R (IsThrown fn h below x keep old)) → ((s1 : State) (d : Config) → s1.turns ≤ s.turns → Stands fn out 0 below None x keep old s1 d → Ends p s1.turns d (other s1) R (IsThrown fn h below x keep old)) → Ends p s.turns (running fn (length b1.blocks) (length b1.ops) regs below (world None s)) (on_to (test i n s) (λ c. if c then go else other)) R (IsThrown fn h below x keep old)
+  split_ends At Inside test body b1 b2 b3 b4 r out next xs to keep old go other R at asks does jumps wide i regs s held match same fits behind past =
       let T = IsThrown fn h below x keep old in
-      ends_on p s.turns _ (test i n s) (Asked fn (length b2.blocks) (length b2.ops) below x (length b1.regs) regs r (Inside i)) (IsThrown fn h below x (length b1.regs) regs) T (λ c. if c then (λ u. on_to (body i n u) more) else other) R (asks.runs p fn h at.test n calls i regs below s held match fits)
+      ends_on p s.turns _ (test i n s) (Asked fn (length b2.blocks) (length b2.ops) below x (length b1.regs) regs r (Inside i)) (IsThrown fn h below x (length b1.regs) regs) T (λ c. if c then go else other) R (asks.runs p fn h at.test n calls i regs below s held match fits)
       (λ c s1 d le1 a.
       let now = a.stands.now in
       let same1 : SameIn x.frame keep now old = λ j y z o. a.stands.kept j y (omega arith) o ∙ same j y z o in
       let step = goes_by p fn below _ _ (record { 0 = r }) (length b3.blocks) out c now (world None s1) at.chooses at.type a.answer in
       let T3 = IsThrown fn h below x (length b3.regs) now in
-      let first : Inside i now → Ends p s1.turns (running fn (length b3.blocks) 0 now below (world None s1)) (on_to (body i n s1) more) R T = λ inside.
+      let first : Inside i now → Ends p s1.turns (running fn (length b3.blocks) 0 now below (world None s1)) (go s1) R T = λ inside.
       let P : ℕ → Type 0 = λ j. Ends p s1.turns (running fn (length b3.blocks) j now below (world None s1)) (body i n s1) (Flows p result fn (length b4.blocks) (length b4.ops) to xs below x (length b3.regs) now) T3 in
       let run = subst P at.start (does.runs p fn h to at.body jumps n calls i now below s1 inside a.stands.match (omega arith)) in
-      ends_on p s1.turns _ (body i n s1) (Flows p result fn next 0 to xs below x (length b3.regs) now) T3 T more R (flow_goto p result fn below x n calls _ _ next to xs (length b3.regs) now s1.turns _ (body i n s1) T3 at.on run)
-      (λ g s2 d2 le2 z. behind now inside same1 g s2 d2 (omega arith) z)
-      (λ v s2 d2 z. thrown_from fn h below x keep (length b3.regs) old now v s2 d2 wider same1 z) in
+      behind now inside same1 s1 _ le1 (flow_goto p result fn below x n calls _ _ next to xs (length b3.regs) now s1.turns _ (body i n s1) T3 at.on run) in
       let second : Ends p s1.turns (running fn out 0 now below (world None s1)) (other s1) R T = past s1 _ le1 record { now = now; is = refl; match = a.stands.match; kept = same1 } in
-      ends_at p s1.turns (running fn (length b2.blocks) (length b2.ops) now below (world None s1)) d ((if c then (λ u. on_to (body i n u) more) else other) s1) R T a.stands.is
-      (ends_from p s1.turns s1.turns _ _ ((if c then (λ u. on_to (body i n u) more) else other) s1) R T (le_refl _) step
-      (by_answer s1.turns (length b3.blocks) out c now s1 (λ u. on_to (body i n u) more) other (Inside i now) R T a.inside first second)))
+      ends_at p s1.turns (running fn (length b2.blocks) (length b2.ops) now below (world None s1)) d ((if c then go else other) s1) R T a.stands.is
+      (ends_from p s1.turns s1.turns _ _ ((if c then go else other) s1) R T (le_refl _) step
+      (by_answer s1.turns (length b3.blocks) out c now s1 go other (Inside i now) R T a.inside first second)))
       (λ v s1 d z. thrown_from fn h below x keep (length b1.regs) old regs v s1 d wide same z)

@@ -10,15 +10,14 @@ use Rattle.ir_core.specs.Building.{Building, with_last}
 use Rattle.ir_builder_frames.specs.Settings.{Setting, rtype_of}
 use Rattle.ir_builder_frames.specs.Placing.{HasType}
 use Rattle.ir_builder_frames.specs.Calling.{Open, Pushes, Closes}
-use Rattle.ir_builder_frames.specs.Computing.{Shows, Meaning, Computes}
+use Rattle.ir_builder_frames.specs.Computing.{means, Shows, Meaning, Computes}
 use Rattle.ir_builder_loops_and_jumps.specs.declared.ways.Way.TheVariants.{Join}
 use Rattle.ir_builder_loops_and_jumps.specs.declared.ways.Exit.{Exit}
 use Rattle.ir_builder_loops_and_jumps.specs.declared.ways.ExitPlan.{ExitPlan}
 use Rattle.ir_builder_loops_and_jumps.specs.declared.ways.Test.{Test}
 use Rattle.ir_builder_loops_and_jumps.specs.declared.ways.LoopStart.{LoopStart}
-use Rattle.ir_builder_loops_and_jumps.specs.Means.{means}
 use Rattle.ir_builder_loops_and_jumps.specs.Ways.{planned, left}
-use Rattle.ir_builder_loops_and_jumps.specs.Runs.{Patching, Works}
+use Rattle.ir_builder_loops_and_jumps.specs.Runs.{all_jumping, Works}
 
 -- a test was answered in a register as is said, and the block that ends with it is still to be given its jumps
 pub record Splits (IsAnswered : Building → ℕ → Type 0) (new : Building) (t : Test) : Type 0 where
@@ -52,7 +51,7 @@ pub record Joins (old new : Building) (inner before after : List Exit) : Type 0 
   pub here : end ≡ length closed.blocks
   pub closes : Closes old closed (Goto end)
   pub passed : after ≡ before ++ left (planned (joining end)) inner
-  pub patching : Patching closed new inner [] (planned (joining end))
+  pub jumps : new ≡ all_jumping (planned (joining end)) inner closed
 
 -- behind a loop, and to what it does behind its body
 abbrev pub looping_to : ℕ → ℕ → ExitPlan
@@ -70,7 +69,7 @@ pub record EndsLoop (old new : Building) (o : LoopStart) (next : ℕ) (inner bef
   pub passed : after ≡ before ++ left (planned (looping_to exit next)) inner
   pub tested : Building
   pub set : tested ≡ record closed { blocks = with_last closed.blocks o.test.block (If o.test.condition o.test.start exit) }
-  pub patching : Patching tested new inner [] (planned (looping_to exit next))
+  pub jumps : new ≡ all_jumping (planned (looping_to exit next)) inner tested
 
 -- a loop was begun: whatever its body means, where the code of the body works behind this, and the loop is ended behind that, the whole
 -- means the loop with this body

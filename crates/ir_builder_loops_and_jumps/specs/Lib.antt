@@ -1,6 +1,5 @@
 pub mod Ways
 pub mod Plans
-pub mod Branches
 pub mod Runs
 pub mod Printing
 pub mod Simple

@@ -11,8 +11,7 @@ use Rattle.source_meaning.specs.SourceRun.{call_of}
 use Rattle.source_meaning.specs.StatementMeaning.{bind, update, changed, test_of, value_or, statement, suite}
 use Rattle.source_meaning.specs.WaysOut.{Flow, Goes, Returns, loop}
 use Rattle.ir_builder_frames.specs.Settings.{Setting}
-use Rattle.ir_builder_frames.specs.Computing.{Meaning}
-use Rattle.source_meaning.specs.ExpressionMeaning.{expression}
+use Rattle.ir_builder_frames.specs.Computing.{Meaning, means}
 
 -- the type of what a return gives
 abbrev pub returned_type : Option TypedExpr → Sort
@@ -20,9 +19,6 @@ returned_type None = sort.Nothing
 returned_type (Some e) = type_of e
 
 module _ (x : Setting) where
-  abbrev pub means : TypedExpr → Meaning Value
-  means e n = expression x.source.classes.classes (call_of x.source n) x.source.globals x.variables e
-
   abbrev pub means_statement : TypedStmt → Meaning Flow
   means_statement t n = statement x.source.classes.classes (call_of x.source n) x.source.globals x.variables n t
 
@@ -30,11 +26,11 @@ module _ (x : Setting) where
   means_suite ts n = suite x.source.classes.classes (call_of x.source n) x.source.globals x.variables n ts
 
   abbrev pub means_alone : TypedExpr → Meaning Flow
-  means_alone e n = means e n >> give Goes
+  means_alone e n = means x e n >> give Goes
 
   abbrev pub means_assignment : List TypedTarget → TypedExpr → Meaning Flow
   means_assignment ts e n =
-      means e n >>= λ v. bind x.source.classes.classes (call_of x.source n) x.source.globals x.variables ts (type_of e) v >> give Goes
+      means x e n >>= λ v. bind x.source.classes.classes (call_of x.source n) x.source.globals x.variables ts (type_of e) v >> give Goes
 
   -- in a type
   abbrev pub means_update : TypedTarget → BinOp → TypedExpr → Sort → Meaning Flow

@@ -7,12 +7,12 @@ use Rattle.py_typed.specs.Sorts.{Sort}
 use Rattle.ir_core.specs.declared.code.Reg.{Reg}
 use Rattle.ir_core.specs.declared.code.Last.TheVariants.{Unreachable, Goto}
 use Rattle.ir_core.specs.declared.code.Program.{Program}
-use Rattle.ir_core.specs.Building.{Building, held, handled, Extends}
-use Rattle.ir_core.specs.Items.{Item, End}
+use Rattle.ir_core.specs.Building.{Building, with_last, held, Extends}
+use Rattle.ir_core.specs.Items.{End}
 use Rattle.ir_core.specs.Registers.{Holds, Regs}
 use Rattle.ir_core.specs.Meaning.{Config, Waiting, item_at}
 use Rattle.ir_builder_frames.specs.Settings.{Setting}
-use Rattle.ir_builder_frames.specs.Placing.{Has, Placed}
+use Rattle.ir_builder_frames.specs.Placing.{Placed}
 use Rattle.ir_builder_frames.specs.Calling.{Open}
 use Rattle.ir_builder_frames.specs.Coming.{world, running, returning, Ends}
 use Rattle.ir_builder_frames.specs.Matching.{HasKind, HaveTypes, Matches, Stands, IsThrown, CallsWork}
@@ -20,8 +20,7 @@ use Rattle.ir_builder_frames.specs.Computing.{Meaning}
 use Rattle.ir_builder_loops_and_jumps.specs.declared.ways.Way.{Way}
 use Rattle.ir_builder_loops_and_jumps.specs.declared.ways.Way.TheVariants.{Break, Continue, Return, Join}
 use Rattle.ir_builder_loops_and_jumps.specs.declared.ways.Exit.{Exit}
-use Rattle.ir_builder_loops_and_jumps.specs.Ways.{uses, left, by}
-use Rattle.ir_builder_loops_and_jumps.specs.Branches.{Tried, Untaken, Taken}
+use Rattle.ir_builder_loops_and_jumps.specs.Ways.{uses}
 
 -- ---- exits
 
@@ -36,23 +35,15 @@ abbrev pub OpenIn : Building → ℕ → ℕ → List Exit → Type 0
 OpenIn b from to [] = Unit {0}
 OpenIn b from to (e ∷ es) = Open b e.block × (from ≤ e.block) × (e.block < to) × OpenIn b (suc e.block) to es
 
--- the ends of open blocks were written as jumps, but for those whose way has no place yet
-pub record PatchesAll (b c : Building) (from next : ℕ) (es : List Exit) (plan : Way → Option ℕ) : Type 0 where
-  pub has : (p : Program) (fn : ℕ) → Has p fn c → Has p fn b
-  pub jumps : (p : Program) (fn : ℕ) (to : Way → ℕ) → Has p fn c → JumpTo p fn c to (left plan es) → JumpTo p fn b (by plan to) es
-  pub opens : OpenIn c from next (left plan es)
-  pub extends : (a : Building) → Extends a b → length a.blocks ≤ from → Extends a c
-  pub earlier : (j i : ℕ) (x : Item) → j < from → held b j i ≡ Some x → held c j i ≡ Some x
-  pub later : (j i : ℕ) (x : Item) → next ≤ j → held b j i ≡ Some x → held c j i ≡ Some x
-  pub handlers : (j : ℕ) → handled c j ≡ handled b j
-  pub same_regs : c.regs ≡ b.regs
-  pub blocks : length c.blocks ≡ length b.blocks
-  pub ops : length c.ops ≡ length b.ops
+-- the end of a block as a jump, where it has a place
+abbrev pub jumping : Option ℕ → ℕ → Building → Building
+jumping None k b = b
+jumping (Some t) k b = record b { blocks = with_last b.blocks k (Goto t) }
 
--- the first jumps of a list were written
-pub record Patching (b c : Building) (es rest : List Exit) (plan : Way → Option ℕ) : Type 0 where
-  pub blocks : length c.blocks ≡ length b.blocks
-  pub go : (from to : ℕ) → OpenIn b from to (es ++ rest) → (next : ℕ) × (from ≤ next) × PatchesAll b c from next es plan × OpenIn b next to rest
+-- the ends of all exits as jumps to where a plan sends them
+abbrev pub all_jumping : (Way → Option ℕ) → List Exit → Building → Building
+all_jumping plan [] b = b
+all_jumping plan (e ∷ es) b = all_jumping plan es (jumping (plan e.way) e.block b)
 
 -- ---- what comes of a statement
 
@@ -80,22 +71,17 @@ module _ (p : Program) (result : Option Sort) where
   Flows fn k i to exits below x keep regs (Returns v) s d =
       HasResult result v × Back x.frame.ret fn to exits below x keep regs v s d
 
-  -- after some arms of an `if`: at the next place where no test held, and behind the `if` where a body came to its end
-  abbrev pub Tries : ℕ → ℕ → ℕ → (Way → ℕ) → List Exit → List Waiting → Setting → ℕ → Regs → Tried → State → Config → Type 0
-  Tries fn k i to exits below x keep regs Untaken s d = Stands fn k i below None x keep regs s d
-  Tries fn k i to exits below x keep regs (Taken g) s d = Flows fn (to Join) 0 to exits below x keep regs g s d
-
 -- the code from the first builder's place to the second's does what the meaning says; the exits are left open
 pub record Works (x : Setting) (result : Option Sort) (m : Meaning Flow) (old new : Building) (exits : List Exit) : Type 0 where
   pub extends : Extends old new
   pub opens : OpenIn new (length old.blocks) (length new.blocks) exits
   pub runs : (p : Program) (fn : ℕ) (h : Option ℕ) (to : Way → ℕ) → Placed p fn old new h → JumpTo p fn new to exits → (n : ℕ) → CallsWork p x.source n → (regs : Regs) (below : List Waiting) (s : State) → Matches x regs s → s.turns ≤ n → Ends p s.turns (running fn (length old.blocks) (length old.ops) regs below (world None s)) (m n s) (Flows p result fn (length new.blocks) (length new.ops) to exits below x (length old.regs) regs) (IsThrown fn h below x (length old.regs) regs)
 
--- the same of some arms of an `if`
-pub record Tests (x : Setting) (result : Option Sort) (m : Meaning Tried) (old new : Building) (exits : List Exit) : Type 0 where
+-- the same of code with a jump to behind an `if` at its end
+pub record Joining (x : Setting) (result : Option Sort) (m : Meaning Flow) (old new : Building) (exits : List Exit) : Type 0 where
   pub extends : Extends old new
   pub opens : OpenIn new (length old.blocks) (length new.blocks) exits
-  pub runs : (p : Program) (fn : ℕ) (h : Option ℕ) (to : Way → ℕ) → Placed p fn old new h → JumpTo p fn new to exits → (n : ℕ) → CallsWork p x.source n → (regs : Regs) (below : List Waiting) (s : State) → Matches x regs s → s.turns ≤ n → Ends p s.turns (running fn (length old.blocks) (length old.ops) regs below (world None s)) (m n s) (Tries p result fn (length new.blocks) (length new.ops) to exits below x (length old.regs) regs) (IsThrown fn h below x (length old.regs) regs)
+  pub runs : (p : Program) (fn : ℕ) (h : Option ℕ) (to : Way → ℕ) → Placed p fn old new h → JumpTo p fn new to exits → item_at p fn (length new.blocks) (length new.ops) ≡ Some (End (Goto (to Join))) → (n : ℕ) → CallsWork p x.source n → (regs : Regs) (below : List Waiting) (s : State) → Matches x regs s → s.turns ≤ n → Ends p s.turns (running fn (length old.blocks) (length old.ops) regs below (world None s)) (m n s) (Flows p result fn (to Join) 0 to exits below x (length old.regs) regs) (IsThrown fn h below x (length old.regs) regs)
 
 -- no exit leaves a loop
 abbrev pub LeavesNoLoop : List Exit → Type 0

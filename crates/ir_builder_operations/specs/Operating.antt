@@ -21,12 +21,13 @@ is_arithmetic Shl = true
 is_arithmetic Shr = true
 is_arithmetic _ = false
 
--- the types of whole numbers, and those whose values have a text
+-- `int` and `i64`
 abbrev pub is_whole : Sort → Bool
 is_whole sort.Int = true
 is_whole sort.I64 = true
 is_whole _ = false
 
+-- the types whose values have a text here: texts, whole numbers, and bools
 abbrev pub is_written : Sort → Bool
 is_written sort.Str = true
 is_written t = is_number t

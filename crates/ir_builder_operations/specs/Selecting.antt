@@ -13,6 +13,7 @@ use Rattle.ir_builder_operations.specs.declared.operation.Compared.TheVariants.{
 use Rattle.ir_builder_operations.specs.declared.operation.Test.{Test}
 use Rattle.ir_builder_operations.specs.declared.operation.Test.TheVariants.{Equal, Less, AtMost}
 
+-- the primitive of an operator on two values of `int`; an operator that is none of arithmetic stands with `*`, and has no operation
 abbrev pub int_primitive : BinOp → TaggedPrim
 int_primitive Add = tagged.Add
 int_primitive Sub = tagged.Subtract
@@ -22,6 +23,7 @@ int_primitive Shl = tagged.Lshift
 int_primitive Shr = tagged.Rshift
 int_primitive _ = tagged.Multiply
 
+-- the same for `i64`
 abbrev pub native_primitive : BinOp → Int64Prim
 native_primitive Add = int64.Add
 native_primitive Sub = int64.Subtract
@@ -31,6 +33,7 @@ native_primitive Shl = int64.Lshift
 native_primitive Shr = int64.Rshift
 native_primitive _ = int64.Multiply
 
+-- the primitive of a test of two values of one type
 abbrev pub test_primitive : Compared → Test → Primitive
 test_primitive Ints Equal = prim.Tagged tagged.Eq
 test_primitive Ints Less = prim.Tagged tagged.Lt

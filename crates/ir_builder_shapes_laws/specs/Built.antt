@@ -21,6 +21,8 @@ head_of_code f = record { params = map (λ d. d.1) (take f.params f.regs); ret =
 abbrev pub building_of : Func → Building
 building_of f = record { name = f.name; regs = f.regs; blocks = f.blocks; ops = [] }
 
+-- a function as its builder left it, among these functions and variables of the module: each operation suits the registers and
+-- functions it names, all ends are written and lead to blocks of the function, and the names of its registers differ
 pub record IsBuilt (heads : List FunctionType) (globals : Declared) (f : Func) : Type 0 where
   pub among : Surrounding
   pub heads_are : among.heads ≡ heads
@@ -44,11 +46,13 @@ pub record IsFunction (heads : List FunctionType) (globals : Declared) (f : Func
   pub turn : (line : ℕ) × (item_in f.blocks 0 0 ≡ Some (Do Turn line))
   pub name : is_identifier f.name ≡ true
 
+-- the module's own function takes nothing, and gives a truth
 pub record IsOwn (heads : List FunctionType) (globals : Declared) (f : Func) : Type 0 where
   pub built : IsBuilt heads globals f
   pub params : f.params ≡ 0
   pub ret : f.ret ≡ Bool
 
+-- the functions of the module come first, under names that differ, and the module's own is the last; there are no classes
 pub record IsProgram (p : Program) : Type 0 where
   pub functions : List Func
   pub own : Func

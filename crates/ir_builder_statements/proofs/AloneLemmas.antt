@@ -1,29 +1,10 @@
 -- Expressions alone, and `print`, do in their code what they mean.
-use Rattle.std.proofs.Common.{◌≡◌, ℕ, true, List, [], ◌∷◌, map, Option, None, refl, sym, ap, ◌∙◌}
+use Rattle.ir_builder_statements.proofs.Common.{◌≡◌, ℕ, true, List, [], ◌∷◌, map, Option, None, refl, sym, ap, ◌∙◌, TExpr, Sort, TypedExpr, typed, typed_expr, type_of, exprs_of, Variable, TypedModule, line_of, typed_expr_of, typed_node-Print, Reg, Building, Setting, rtype_of, HasRoom, means, Shows, is_written, ArgumentsSuit, SomeSuit, Emits, EmitsAll, means_all, means_alone, Writes, printed, Works, alone_works, works_of, PrintSuits}
 use Rattle.std.specs.List.{list_all}
-use Rattle.py_typed.specs.declared.expression.TExpr.{TExpr}
 use Rattle.py_typed.specs.declared.expression.TKind as kind
-use Rattle.py_typed.specs.Sorts.{Sort, sort as sort_of}
+use Rattle.py_typed.specs.Sorts.{sort as sort_of}
 use Rattle.py_typed.specs.Expressions as tree
-use Rattle.py_typed.specs.Expressions.{TypedExpr, typed, typed_expr, type_of, exprs_of}
-use Rattle.py_typed.specs.Statements.{Variable, TypedModule}
-use Rattle.source_meaning.specs.Operations.{line_of}
-use Rattle.py_typed.proofs.ExpressionLemmas.{typed_expr_of, typed_node-Print}
-use Rattle.ir_core.specs.declared.code.Reg.{Reg}
-use Rattle.ir_core.specs.Building.{Building}
-use Rattle.ir_builder_frames.specs.Settings.{Setting, rtype_of}
-use Rattle.ir_builder_frames.specs.Matching.{HasRoom}
-use Rattle.ir_builder_frames.specs.Computing.{Shows}
-use Rattle.ir_builder_operations.specs.Operating.{is_written}
-use Rattle.ir_builder_expressions.specs.Suiting.{ArgumentsSuit, SomeSuit}
-use Rattle.ir_builder_expressions.specs.Emitting.{Emits, EmitsAll, means_all}
-use Rattle.ir_builder_loops_and_jumps.specs.Means.{means, means_alone}
-use Rattle.ir_builder_loops_and_jumps.specs.Printing.{Writes, printed}
-use Rattle.ir_builder_loops_and_jumps.specs.Runs.{Works}
-use Rattle.ir_builder_loops_and_jumps.proofs.SimpleLemmas.{alone_works}
 use Rattle.ir_builder_loops_and_jumps.proofs.PrintLemmas.{print_works}
-use Rattle.ir_builder_loops_and_jumps.proofs.EmitLemmas.{works_of}
-use Rattle.ir_builder_statements.specs.Suiting.{PrintSuits}
 use Rattle.ir_builder_expressions.proofs.ChosenLemmas.{simple_written}
 
 -- ---- `print`

@@ -1,54 +1,24 @@
 -- Assignments to a variable, and updates of one, do in their code what they mean.
-use Rattle.std.proofs.Common.{◌≡◌, ℕ, ◌<◌, true, List, [], ◌∷◌, length, map, get_or, Option, Some, None, refl, sym, ap, ◌∙◌, subst, arith, inl, inr}
-use Rattle.std.specs.Prelude.{slice_get, slice_set, nat_lt, if◌then◌else◌}
+use Rattle.ir_builder_statements.proofs.Common.{◌≡◌, ℕ, ◌<◌, true, List, [], ◌∷◌, length, map, get_or, Option, Some, None, refl, sym, ap, ◌∙◌, subst, arith, inl, inr, slice_get, slice_set, nat_lt, if◌then◌else◌, Value, Target, Sort, sort_step, TypedExpr, type_of, Variable, TypedModule, TypedTarget, LocalTarget, GlobalTarget, AttrTarget, ItemTarget, typed_target, State, Outcome, Gives, Raises, Stops, Does, Calls, on_to, needs, put_local, set_local, give, coerced, combined, Reg, Regs, Building, Extends, Setting, rtype_of, HasType, HasKind, Matches, HasRoom, means, Shows, Meaning, Computes, Attempts, set_gives, room_on, computes_of, is_whole, ActsOn, Binary, is_scalar, binary_goes, BinarySuits, Suits, Emits, EmitsTwo, means_assignment, means_update, Works, with_value, get_below, set_works, works_of, IsVariable, IsOnly, UpdateSuits, VariableUpdates, TakesRegister, SetsVariable, reading_of, update_binary, TurnsInto, ComputesAs}
 use Rattle.std.proofs.lemmas.Bool.Decides.{nat_tests}
-use Rattle.value_core.specs.Value.{Value}
 use Rattle.py_syntax.specs.declared.token.Span.{Span}
 use Rattle.py_syntax.specs.declared.expression.BinOp.{BinOp}
-use Rattle.py_typed.specs.declared.statement.Target.{Target}
 use Rattle.py_typed.specs.declared.types.Ty.{Ty, fold-roll-Ty}
 use Rattle.py_typed.specs.declared.types.Ty.TheVariants as declared
 use Rattle.py_typed.specs.declared.types.Ty.TheOpen.{Ty-F}
 use Rattle.py_typed.specs.Sorts as sort
-use Rattle.py_typed.specs.Sorts.{Sort, sort_step, sort as sort_of}
+use Rattle.py_typed.specs.Sorts.{sort as sort_of}
 use Rattle.py_typed.specs.Classes.{ClassEntry}
 use Rattle.py_typed.specs.Fits.{fits}
-use Rattle.py_typed.specs.Expressions.{TypedExpr, type_of}
-use Rattle.py_typed.specs.Statements.{Variable, TypedModule, TypedTarget, LocalTarget, GlobalTarget, AttrTarget, ItemTarget, typed_target}
-use Rattle.source_meaning.specs.State.{State, Outcome, Gives, Raises, Stops, Does, Calls, on_to, needs, put_local, set_local, give}
-use Rattle.source_meaning.specs.Operations.{coerced, combined}
 use Rattle.source_meaning.specs.StatementMeaning.{target_sort, bind, assign, unpack, update, changed}
 use Rattle.py_typed.specs.TargetTypes.{sort_at}
 use Rattle.source_meaning.specs.SourceRun.{call_of}
 use Rattle.source_meaning.specs.WaysOut.{Flow, Goes}
 use Rattle.py_typed.proofs.FitLemmas.{fits_itself}
-use Rattle.ir_core.specs.declared.code.Reg.{Reg}
-use Rattle.ir_core.specs.Registers.{Regs}
-use Rattle.ir_core.specs.Building.{Building, Extends}
-use Rattle.ir_builder_frames.specs.Settings.{Setting, rtype_of}
-use Rattle.ir_builder_frames.specs.Placing.{HasType}
-use Rattle.ir_builder_frames.specs.Matching.{HasKind, Matches, HasRoom}
-use Rattle.ir_builder_frames.specs.Computing.{Shows, Meaning, Computes, Attempts}
-use Rattle.ir_builder_frames.proofs.GlobalLemmas.{set_gives}
-use Rattle.ir_builder_frames.proofs.MatchLemmas.{room_on, computes_of}
-use Rattle.ir_builder_operations.specs.Operating.{is_whole, ActsOn}
 use Rattle.ir_builder_operations.proofs.PartLemmas.{stays}
-use Rattle.ir_builder_expressions.specs.declared.applying.Binary.{Binary}
 use Rattle.ir_builder_expressions.specs.declared.applying.Binary.TheVariants.{Arithmetic}
-use Rattle.ir_builder_expressions.specs.Parts.{is_simple}
-use Rattle.ir_builder_expressions.specs.Applying.{binary_goes, BinarySuits}
-use Rattle.ir_builder_expressions.specs.Suiting.{Suits}
-use Rattle.ir_builder_expressions.specs.Emitting.{Emits, EmitsTwo}
 use Rattle.ir_builder_expressions.proofs.NumberLemmas.{whole_numeric}
 use Rattle.ir_builder_expressions.proofs.FollowLemmas.{part_attempts}
-use Rattle.ir_builder_loops_and_jumps.specs.Means.{means, means_assignment, means_update}
-use Rattle.ir_builder_loops_and_jumps.specs.Runs.{Works}
-use Rattle.ir_builder_loops_and_jumps.specs.Simple.{with_value}
-use Rattle.ir_builder_frames.proofs.HeldLemmas.{get_below}
-use Rattle.ir_builder_loops_and_jumps.proofs.SimpleLemmas.{set_works}
-use Rattle.ir_builder_loops_and_jumps.proofs.EmitLemmas.{works_of}
-use Rattle.ir_builder_statements.specs.Suiting.{IsVariable, IsOnly, UpdateSuits, VariableUpdates}
-use Rattle.ir_builder_statements.specs.Parts.{TakesRegister, SetsVariable, reading_of, update_binary, TurnsInto, ComputesAs}
 use Rattle.ir_builder_operations.proofs.NativeLemmas.{native_kept}
 
 -- ---- what assignment means
@@ -135,7 +105,7 @@ assignment_code x targets target e b0 b1 b2 r is only room cx q gives =
     (λ n w s regs match kind. ap (λ o. on_to o (λ u. give Goes)) (bound x n (typed_target target) t regs s w one.1 match kind)))
 
 -- the register of the value has the variable's type
-pub assignment_takes : (x : Setting) (targets : List Target) (target : Target) (e : TypedExpr) (b0 b1 : Building) (r : ℕ) → is_simple (type_of e) ≡ true → target ≡ get_or targets 0 target → IsOnly x.source x.variables None (map typed_target targets) (type_of e) → HasRoom x b0 → Emits x e b0 b1 r → TakesRegister x.source x.frame (typed_target target) r b1
+pub assignment_takes : (x : Setting) (targets : List Target) (target : Target) (e : TypedExpr) (b0 b1 : Building) (r : ℕ) → is_scalar (type_of e) ≡ true → target ≡ get_or targets 0 target → IsOnly x.source x.variables None (map typed_target targets) (type_of e) → HasRoom x b0 → Emits x e b0 b1 r → TakesRegister x.source x.frame (typed_target target) r b1
 assignment_takes x targets target e b0 b1 r scalar is only room cx =
     (x.variables, type_of e, room_on x b0 b1 cx.extends room, (only_target x targets target (type_of e) is only).1, scalar, cx.type)
 
@@ -167,7 +137,7 @@ reads_so x (GlobalTarget i) t place v n f s = refl
 reads_so x (AttrTarget a name) t place v n f s = absurd v
 reads_so x (ItemTarget a i) t place v n f s = absurd v
 
-whole_simple : (t : Sort) → is_whole t ≡ true → is_simple t ≡ true
+whole_simple : (t : Sort) → is_whole t ≡ true → is_scalar t ≡ true
 whole_simple sort.Int k = refl
 whole_simple sort.I64 k = refl
 whole_simple _ k = absurd (cc)
@@ -203,9 +173,9 @@ module _ (m : TypedModule) (vs : List Variable) where
       subst (λ z. UpdateSuits m vs None op z t w) (one_sort target updates.0 own updates.1 is) updates.2
 
   -- the type of what is updated
-  pub updated_simple : (op : BinOp) (u t w : Sort) → UpdateSuits m vs None op u t w → is_simple u ≡ true
+  pub updated_simple : (op : BinOp) (u t w : Sort) → UpdateSuits m vs None op u t w → is_scalar u ≡ true
   updated_simple op u t w (inl h) = whole_simple u h.0
-  updated_simple op u t w (inr h) = ap is_simple h.1.1
+  updated_simple op u t w (inr h) = ap is_scalar h.1.1
 
   -- the result becomes one of it
   pub update_turns : (op : BinOp) (u t w : Sort) → UpdateSuits m vs None op u t w → TurnsInto t u
@@ -236,7 +206,7 @@ module _ (m : TypedModule) (vs : List Variable) where
       subst P (sym h.1.0) (subst Q (sym h.0) refl)
 
   -- a variable that is read suits
-  pub reading_suits : (target : TypedTarget) (t : Sort) (place : Span) → is_simple t ≡ true → IsVariable m vs None target t → Suits m vs (reading_of target t place)
+  pub reading_suits : (target : TypedTarget) (t : Sort) (place : Span) → is_scalar t ≡ true → IsVariable m vs None target t → Suits m vs (reading_of target t place)
   reading_suits (LocalTarget k) t place simple v = (simple, v.0, v.1, v.2)
   reading_suits (GlobalTarget i) t place simple v = (simple, v.0, v.1, v.2)
   reading_suits (AttrTarget a name) t place simple v = absurd v

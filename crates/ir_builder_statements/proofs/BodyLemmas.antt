@@ -1,35 +1,11 @@
 -- What the parts of statements do makes what they do.
-use Rattle.std.proofs.Common.{◌≡◌, ℕ, ◌≤◌, Bool, List, [], length, Option, Some, None, sym, ap, ◌∙◌, subst, arith, Result, Ok, Err, OnOk}
-use Rattle.py_typed.specs.declared.expression.TExpr.{TExpr}
-use Rattle.py_typed.specs.declared.statement.TStmt.{TStmt}
+use Rattle.ir_builder_statements.proofs.Common.{◌≡◌, ℕ, ◌≤◌, List, [], length, Option, Some, None, sym, ap, ◌∙◌, subst, arith, Result, Ok, Err, OnOk, TExpr, TStmt, Sort, TypedExpr, typed_expr, type_of, Variable, TypedModule, TypedStmt, typed_stmt, typed_suite, maybe_typed, typed_stmt-While, Goto, Reg, Building, Extends, Setting, rtype_of, HasType, Closes, HasRoom, Keeps, IsAmong, IsOf, KeepsKinds, KeepsKindsIf, type_kept, with_last_length, Exit, means_loop, means_statement, means_return, returned_type, LoopStart, Works, Emitted, planned, jumping_blocks, return_emitted, while_begins, TestSuits, ReturnSuits, IsAround, keeps_both}
+use Rattle.std.proofs.Common.{Bool}
 use Rattle.py_typed.specs.declared.statement.TStmtKind as kind
 use Rattle.py_typed.specs.Sorts as sort
-use Rattle.py_typed.specs.Sorts.{Sort}
-use Rattle.py_typed.specs.Expressions.{TypedExpr, typed_expr, type_of}
-use Rattle.py_typed.specs.Statements.{Variable, TypedModule, TypedStmt, typed_stmt, typed_suite, maybe_typed}
-use Rattle.py_typed.proofs.StatementLemmas.{typed_stmt-While}
 use Rattle.ir_core.specs.declared.code.RType.TheVariants as rtype
-use Rattle.ir_core.specs.declared.code.Last.TheVariants.{Goto}
-use Rattle.ir_core.specs.declared.code.Reg.{Reg}
-use Rattle.ir_core.specs.Building.{Building, Extends}
-use Rattle.ir_builder_frames.specs.Settings.{Setting, rtype_of}
-use Rattle.ir_builder_frames.specs.Placing.{HasType}
-use Rattle.ir_builder_frames.specs.Calling.{Closes}
-use Rattle.ir_builder_frames.specs.Matching.{HasRoom}
-use Rattle.ir_builder_frames.specs.Shaped.{Keeps}
-use Rattle.ir_builder_frames.specs.Kinds.{IsAmong, IsOf, KeepsKinds, KeepsKindsIf}
-use Rattle.ir_builder_frames.proofs.HeldLemmas.{type_kept}
-use Rattle.ir_builder_frames.proofs.PatchLemmas.{with_last_length}
-use Rattle.ir_builder_loops_and_jumps.specs.declared.ways.Exit.{Exit}
-use Rattle.ir_builder_loops_and_jumps.specs.Means.{means_loop, means_statement, means_return, returned_type}
 use Rattle.ir_builder_loops_and_jumps.specs.declared.ways.Test.{Test}
-use Rattle.ir_builder_loops_and_jumps.specs.declared.ways.LoopStart.{LoopStart}
-use Rattle.ir_builder_loops_and_jumps.specs.Runs.{Works, Emitted}
-use Rattle.ir_builder_loops_and_jumps.specs.Around.{SplitsBy, EndsArm, EndsLoop, Begins}
-use Rattle.ir_builder_loops_and_jumps.proofs.EmitLemmas.{return_emitted, while_begins}
-use Rattle.ir_builder_statements.specs.Suiting.{TestSuits, ReturnSuits}
-use Rattle.ir_builder_statements.specs.Kinds.{IsAround}
-use Rattle.ir_builder_expressions.proofs.LinkLemmas.{keeps_both}
+use Rattle.ir_builder_loops_and_jumps.specs.Around.{SplitsBy, EndsArm, joining, Joins, looping_to, EndsLoop, Begins}
 
 pub on_ok_both : {A E : Type 0} (res : Result A E) (P Q R : Type 0) → (P → Q → R) → OnOk res P → OnOk res Q → OnOk res R
 on_ok_both (Ok a) P Q R f p q = f p q
@@ -70,6 +46,15 @@ four_keep b0 b1 b2 b3 b4 x1 x2 x3 le k1 k2 k3 k4 =
     let r3 = x3.regs_grow in
     keeps_both b0 b3 b4 (omega arith) le (keeps_both b0 b2 b3 (omega arith) x3.blocks_grow (keeps_both b0 b1 b2 r1 x2.blocks_grow k1 k2) k3) k4
 
+-- the arms and the body of `else`, which are left to one place
+pub join_keeps : (b0 b1 b2 b3 : Building) (ks xs ys : List Exit) → Extends b0 b1 → Extends b1 b2 → Keeps b0 b1 → Keeps b1 b2 → Joins b2 b3 ks xs ys → Keeps b2 b3 → Keeps b0 b3
+join_keeps b0 b1 b2 b3 ks xs ys x1 x2 k1 k2 j k3 =
+    let r1 = x1.regs_grow in
+    let r2 = x2.regs_grow in
+    let n1 = j.closes.blocks in
+    let n2 : length b3.blocks ≡ length j.closed.blocks = ap (λ (v : Building). length v.blocks) j.jumps ∙ jumping_blocks (planned (joining j.end)) ks j.closed in
+    keeps_both b0 b2 b3 (omega arith) (omega arith) (keeps_both b0 b1 b2 r1 x2.blocks_grow k1 k2) k3
+
 pub arm_blocks : (b c : Building) (t : Test) (xs ys : List Exit) → EndsArm b c t xs ys → length b.blocks ≤ length c.blocks
 arm_blocks b c t xs ys e =
     let one = e.closes.blocks in
@@ -81,7 +66,7 @@ loop_blocks b c o next ks xs ys l =
     let n2 = l.turns.blocks in
     let n3 = l.closes.blocks in
     let n4 = ap (λ (v : Building). length v.blocks) l.set ∙ with_last_length l.closed.blocks o.test.block _ in
-    let n5 = l.patching.blocks in
+    let n5 = ap (λ (v : Building). length v.blocks) l.jumps ∙ jumping_blocks (planned (looping_to l.exit next)) ks l.tested in
     omega arith
 
 -- ---- the kinds of simple statements

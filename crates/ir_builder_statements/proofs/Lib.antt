@@ -6,3 +6,4 @@ pub mod ReturnLemmas
 pub mod SizeLemmas
 pub mod SuiteLemmas
 pub mod BodyLemmas
+pub mod Common

@@ -1,13 +1,5 @@
 -- What is open stays so, and plans fit, while the parts of `if` and `while` end.
-use Rattle.std.proofs.Common.{◌≡◌, ◌<◌, ◌≤◌, ℕ, List, length, arith, le_refl}
-use Rattle.ir_core.specs.declared.code.Last.TheVariants.{If}
-use Rattle.ir_core.specs.declared.code.Reg.{Reg}
-use Rattle.ir_core.specs.Building.{Building, with_last, Extends}
-use Rattle.ir_builder_frames.specs.Calling.{Open}
-use Rattle.ir_builder_frames.proofs.PatchLemmas.{patches}
-use Rattle.ir_builder_loops_and_jumps.specs.declared.ways.Exit.{Exit}
-use Rattle.ir_builder_loops_and_jumps.specs.Runs.{OpenIn}
-use Rattle.ir_builder_loops_and_jumps.proofs.ExitLemmas.{stays_by, stays_patch_below, open_on}
+use Rattle.ir_builder_statements.proofs.Common.{◌≡◌, ◌<◌, ◌≤◌, ℕ, List, length, arith, le_refl, If, Reg, Building, with_last, Extends, Open, patches, Exit, OpenIn, stays_by, stays_patch_below, open_on}
 
 pub open_kept : (b c : Building) (from to : ℕ) (es : List Exit) → Extends b c → to ≤ length b.blocks → OpenIn b from to es → OpenIn c from (length c.blocks) es
 open_kept b c from to es x le o =

@@ -1,28 +1,7 @@
 -- A return does in its code what it means.
-use Rattle.std.proofs.Common.{◌≡◌, ℕ, [], Option, Some, None, refl, sym, subst}
-use Rattle.value_core.specs.Value.{NoneVal}
+use Rattle.ir_builder_statements.proofs.Common.{◌≡◌, ℕ, [], Option, Some, None, refl, sym, subst, NoneVal, TypedExpr, typed_expr, TExpr, maybe_typed, Ref, Return, PyNone, Lit, Reg, Holds, Building, Setting, rtype_of, Adds, Closes, HasRoom, Shows, made_computes, Emits, means_returned, means_return, returned_type, Works, leaves_none, return_works, ComputesReturned}
 use Rattle.py_typed.specs.Sorts as sort
-use Rattle.py_typed.specs.Expressions.{TypedExpr, typed_expr}
-use Rattle.py_typed.specs.declared.expression.TExpr.{TExpr}
-use Rattle.py_typed.specs.Statements.{maybe_typed}
-use Rattle.ir_core.specs.declared.code.RType.TheVariants.{Ref}
-use Rattle.ir_core.specs.declared.code.Last.TheVariants.{Return}
-use Rattle.ir_core.specs.declared.code.Lit.TheVariants.{PyNone}
-use Rattle.ir_core.specs.declared.code.Op.TheVariants.{Lit}
-use Rattle.ir_core.specs.declared.code.Reg.{Reg}
-use Rattle.ir_core.specs.Registers.{Holds}
-use Rattle.ir_core.specs.Building.{Building}
-use Rattle.ir_builder_frames.specs.Settings.{Setting, rtype_of}
-use Rattle.ir_builder_frames.specs.Calling.{Adds, Closes}
-use Rattle.ir_builder_frames.specs.Matching.{HasRoom}
-use Rattle.ir_builder_frames.specs.Computing.{Shows}
 use Rattle.ir_builder_frames.proofs.StepLemmas.{literal_makes}
-use Rattle.ir_builder_frames.proofs.MatchLemmas.{made_computes}
-use Rattle.ir_builder_expressions.specs.Emitting.{Emits}
-use Rattle.ir_builder_loops_and_jumps.specs.Means.{means_returned, means_return, returned_type}
-use Rattle.ir_builder_loops_and_jumps.specs.Runs.{Works}
-use Rattle.ir_builder_loops_and_jumps.proofs.SimpleLemmas.{leaves_none, return_works}
-use Rattle.ir_builder_statements.specs.Parts.{ComputesReturned}
 
 pub none_returned : {line : ℕ} (x : Setting) (o : Option TExpr) (b c : Building) (r : Reg) → o ≡ None → Adds b c r.0 Ref (Lit r PyNone) line → ComputesReturned x (maybe_typed o) b c r.0
 none_returned x o b c r is a =

@@ -1,19 +1,10 @@
 -- What is asked of statements is asked of their parts.
-use Rattle.std.proofs.Common.{◌≡◌, ℕ, ◌+◌, ◌<◌, Bool, true, List, ◌∷◌, length, map, drop, get_or, Option, refl, sym, ap, ◌∙◌, subst}
+use Rattle.ir_builder_statements.proofs.Common.{◌≡◌, ℕ, ◌+◌, ◌<◌, true, List, ◌∷◌, length, map, drop, get_or, Option, refl, sym, ap, ◌∙◌, subst, TExpr, TStmt, Sort, typed_expr, Variable, TypedModule, TypedStmt, TypedSuite, TypedAct, on_line, typed_stmt, typed_act, typed_suite, typed_arm, maybe_typed, arms_of, typed_stmt_of, typed_stmt-While, typed_act-If, typed_act-While, typed_act-Return, typed_act-Break, typed_act-Continue, State, Setting, means_loop, means_statement, means_suite, TestSuits, ReturnSuits, StatementSuits, ActSuits, SuiteSuits, ArmsSuit, LoopSuits}
+use Rattle.std.proofs.Common.{Bool}
 use Rattle.std.proofs.lemmas.List.{drop_more}
-use Rattle.py_typed.specs.declared.expression.TExpr.{TExpr}
-use Rattle.py_typed.specs.declared.statement.TStmt.{TStmt}
 use Rattle.py_typed.specs.declared.statement.TStmtKind.{TStmtKind}
 use Rattle.py_typed.specs.declared.statement.TStmtKind as kind
-use Rattle.py_typed.specs.Sorts.{Sort}
-use Rattle.py_typed.specs.Expressions.{typed_expr}
 use Rattle.py_typed.specs.Statements as tree
-use Rattle.py_typed.specs.Statements.{Variable, TypedModule, TypedStmt, TypedSuite, TypedAct, on_line, typed_stmt, typed_act, typed_suite, typed_arm, maybe_typed, arms_of}
-use Rattle.py_typed.proofs.StatementLemmas.{typed_stmt_of, typed_stmt-While, typed_act-If, typed_act-While, typed_act-Return, typed_act-Break, typed_act-Continue}
-use Rattle.source_meaning.specs.State.{State}
-use Rattle.ir_builder_frames.specs.Settings.{Setting}
-use Rattle.ir_builder_loops_and_jumps.specs.Means.{means_loop, means_statement, means_suite}
-use Rattle.ir_builder_statements.specs.Suiting.{TestSuits, ReturnSuits, StatementSuits, ActSuits, SuiteSuits, ArmsSuit, LoopSuits}
 
 module _ (m : TypedModule) (vs : List Variable) (gives : Option Sort) (looping : Bool) where
   -- ---- rows

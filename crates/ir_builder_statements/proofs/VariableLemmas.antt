@@ -1,34 +1,12 @@
 -- Variables are read and set by their code.
-use Rattle.std.proofs.Common.{◌≡◌, ℕ, zero, suc, ◌<◌, ◌≤◌, List, [], ◌∷◌, map, get_or, Some, None, refl, sym, ap, ◌∙◌, subst, arith}
-use Rattle.std.specs.Prelude.{pos, slice_get}
+use Rattle.ir_builder_statements.proofs.Common.{◌≡◌, ℕ, zero, suc, ◌<◌, ◌≤◌, List, [], ◌∷◌, map, get_or, Some, None, refl, sym, ap, ◌∙◌, subst, arith, pos, slice_get, Var, Target, Sort, Local, Global, Variable, TypedModule, TypedTarget, LocalTarget, GlobalTarget, typed_target, variable, Number, Move, Lit, Prim, PArg, Reg, Building, Extends, Setting, rtype_of, HasType, Pushes, flag_of, HasRoom, Surrounding, AreAlike, OpKinds, IsAmong, WritesGlobal, type_kept, get_below, write_fits, is_scalar, Sets, param_set, other_set, global_set, HasFlag, SetsLocal, TakesGlobal, SetsGlobal, TakesRegister, SetsVariable}
 use Rattle.c_core.specs.declared.primitive.Primitive.TheVariants as prim
 use Rattle.c_core.specs.declared.primitive.GlobalPrim.TheVariants as global
-use Rattle.py_typed.specs.declared.checked.Var.{Var}
-use Rattle.py_typed.specs.declared.statement.Target.{Target}
 use Rattle.py_typed.specs.declared.statement.Target.TheVariants as declared
-use Rattle.py_typed.specs.Sorts.{Sort}
-use Rattle.py_typed.specs.Expressions.{Local, Global}
-use Rattle.py_typed.specs.Statements.{Variable, TypedModule, TypedTarget, LocalTarget, GlobalTarget, typed_target, variable}
 use Rattle.ir_core.specs.declared.code.RType.TheVariants.{Bool as BoolType}
-use Rattle.ir_core.specs.declared.code.Lit.TheVariants.{Number}
-use Rattle.ir_core.specs.declared.code.Op.TheVariants.{Move, Lit, Prim}
-use Rattle.ir_core.specs.declared.code.PArg.{PArg}
 use Rattle.ir_core.specs.declared.code.PArg.TheVariants as arg
-use Rattle.ir_core.specs.declared.code.Reg.{Reg}
-use Rattle.ir_core.specs.Building.{Building, Extends}
-use Rattle.ir_builder_frames.specs.Settings.{Setting, rtype_of}
-use Rattle.ir_builder_frames.specs.Placing.{HasType}
-use Rattle.ir_builder_frames.specs.Calling.{Pushes}
 use Rattle.ir_builder_frames.specs.declared.frame.Frame.{Frame}
-use Rattle.ir_builder_frames.specs.Matching.{flag_of, HasRoom}
-use Rattle.ir_builder_frames.specs.Kinds.{Surrounding, AreAlike, OpKinds, IsAmong, WritesGlobal}
-use Rattle.ir_builder_frames.proofs.HeldLemmas.{type_kept, get_below}
-use Rattle.ir_builder_frames.proofs.GlobalLemmas.{write_fits}
-use Rattle.ir_builder_expressions.specs.Parts.{is_simple}
 use Rattle.ir_builder_expressions.specs.Reading.{setting_in}
-use Rattle.ir_builder_loops_and_jumps.specs.Simple.{Sets}
-use Rattle.ir_builder_loops_and_jumps.proofs.SimpleLemmas.{param_set, other_set, global_set}
-use Rattle.ir_builder_statements.specs.Parts.{HasFlag, SetsLocal, TakesGlobal, SetsGlobal, TakesRegister, SetsVariable}
 
 pub type_by : (b : Building) (r : ℕ) (t u : Sort) → t ≡ u → HasType b r (rtype_of t) → HasType b r (rtype_of u)
 type_by b r t u e h = let P : Sort → Type 0 = λ z. HasType b r (rtype_of z) in subst P e h
@@ -121,7 +99,7 @@ module _ (m : TypedModule) (frame : Frame) (t : Target) (r : Reg) (b c : Buildin
       let P : Target → Type 0 = λ z. TakesRegister m frame (typed_target z) r.0 b in
       let f : TakesRegister m frame (GlobalTarget i) r.0 b = subst P is h in
       let v = f.3 in
-      (v.0, v.1, ap is_simple v.2 ∙ f.4, type_by b r.0 f.1 v.0.1 (sym v.2) f.5)
+      (v.0, v.1, ap is_scalar v.2 ∙ f.4, type_by b r.0 f.1 v.0.1 (sym v.2) f.5)
 
   pub global_put : (i : ℕ) → t ≡ declared.Global i → SetsGlobal m i r.0 b c → SetsVariable m frame (typed_target t) r.0 b c
   global_put i is q =

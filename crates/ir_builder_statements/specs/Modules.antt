@@ -6,7 +6,7 @@ use Rattle.c_core.specs.WellFormed.{is_identifier, names_differ}
 use Rattle.py_typed.specs.Fits.{is_nothing}
 use Rattle.py_typed.specs.Narrowing.{is_closed}
 use Rattle.py_typed.specs.Statements.{Variable, TypedFunc, TypedModule}
-use Rattle.ir_builder_expressions.specs.Parts.{is_simple, is_given}
+use Rattle.ir_builder_expressions.specs.Parts.{is_scalar, is_result}
 use Rattle.ir_builder_statements.specs.Suiting.{SuiteSuits}
 
 abbrev pub variable_names : List Variable → List (List ℕ)
@@ -15,10 +15,10 @@ variable_names vs = map (λ v. v.0) vs
 pub record FunctionSuits (m : TypedModule) (f : TypedFunc) : Type 0 where
   pub name : is_identifier f.name ≡ true
   pub parameters : f.params ≤ length f.locals
-  pub scalars : (i : ℕ) (v : Variable) → slice_get f.locals i ≡ Some v → is_simple v.1 ≡ true
+  pub scalars : (i : ℕ) (v : Variable) → slice_get f.locals i ≡ Some v → is_scalar v.1 ≡ true
   pub identifiers : list_all is_identifier (variable_names f.locals) ≡ true
   pub differ : names_differ (variable_names f.locals) ≡ true
-  pub result : is_given f.ret ≡ true
+  pub result : is_result f.ret ≡ true
   pub body : SuiteSuits m f.locals (Some f.ret) false f.body
   -- what gives a value does not come to its end
   pub ends : (is_nothing f.ret ≡ true) ⊎ (is_closed f.body ≡ true)

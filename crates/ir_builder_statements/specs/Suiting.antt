@@ -9,7 +9,7 @@ use Rattle.py_typed.specs.Expressions.{TypedExpr, typed, Print, TypedExprs, no_e
 use Rattle.py_typed.specs.Statements.{Variable, TypedModule, TypedTarget, LocalTarget, GlobalTarget, TypedStmt, on_line, TypedAct, Do, Assign, Aug, If, While, Return, Break, Continue, Pass, TypedSuite, no_stmts, stmt_then, Arms, no_arms, arm_then}
 use Rattle.ir_builder_operations.specs.Operating.{is_whole}
 use Rattle.ir_builder_expressions.specs.declared.applying.Binary.TheVariants.{Arithmetic, Joined}
-use Rattle.ir_builder_expressions.specs.Parts.{is_simple}
+use Rattle.ir_builder_expressions.specs.Parts.{is_scalar}
 use Rattle.ir_builder_expressions.specs.Applying.{BinarySuits}
 use Rattle.ir_builder_expressions.specs.Suiting.{Suits}
 
@@ -18,7 +18,7 @@ module _ (m : TypedModule) (vs : List Variable) (gives : Option Sort) where
   -- values that are printed
   abbrev pub PrintSuits : TypedExprs → Type 0
   PrintSuits no_exprs = Unit {0}
-  PrintSuits (expr_then e more) = (is_simple (type_of e) ≡ true) × Suits m vs e × PrintSuits more
+  PrintSuits (expr_then e more) = (is_scalar (type_of e) ≡ true) × Suits m vs e × PrintSuits more
 
   -- an expression alone: `print`, or any that is built
   abbrev pub DoSuits : TypedExpr → Type 0
@@ -47,7 +47,7 @@ module _ (m : TypedModule) (vs : List Variable) (gives : Option Sort) where
 
   abbrev pub ReturnSuits : Option TypedExpr → Type 0
   ReturnSuits None = gives ≡ Some sort.Nothing
-  ReturnSuits (Some e) = (is_simple (type_of e) ≡ true) × (gives ≡ Some (type_of e)) × Suits m vs e
+  ReturnSuits (Some e) = (is_scalar (type_of e) ≡ true) × (gives ≡ Some (type_of e)) × Suits m vs e
 
   -- a test is a bool
   abbrev pub TestSuits : TypedExpr → Type 0
@@ -60,7 +60,7 @@ module _ (m : TypedModule) (vs : List Variable) (gives : Option Sort) where
 
     pub ActSuits : Bool → TypedAct → Type 0
     ActSuits looping (Do e) = DoSuits e
-    ActSuits looping (Assign targets e) = (is_simple (type_of e) ≡ true) × IsOnly targets (type_of e) × Suits m vs e
+    ActSuits looping (Assign targets e) = (is_scalar (type_of e) ≡ true) × IsOnly targets (type_of e) × Suits m vs e
     ActSuits looping (Aug target op e t) = VariableUpdates target op t (type_of e) × Suits m vs e
     ActSuits looping (If arms other) = ArmsSuit looping arms × SuiteSuits looping other
     ActSuits looping (While test body) = TestSuits test × SuiteSuits true body

@@ -6,7 +6,7 @@ ghost use Rattle.ir_builder_frames.specs.Shaped.{Keeps, KeepsIf};
 ghost use Rattle.ir_builder_frames.specs.Kinds.{KeepsKinds};
 ghost use Rattle.ir_builder_loops_and_jumps.specs.Ways.{planned, left};
 ghost use Rattle.ir_builder_loops_and_jumps.specs.Plans.{PlanFits};
-ghost use Rattle.ir_builder_loops_and_jumps.specs.Runs.{OpenIn, Patching};
+ghost use Rattle.ir_builder_loops_and_jumps.specs.Runs.{OpenIn, all_jumping};
 
 use ir_builder_frames::Emitter;
 use ir_builder_loops_and_jumps::{Exit, ExitPlan, Way};
@@ -41,7 +41,7 @@ fn place_of(plan: ExitPlan, way: Way) -> Option<usize>
 /// Writes the jumps of the exits whose way is in a plan. It takes no memory.
 pub(crate) fn patch_all(b: &mut Emitter, exits: &[Exit], plan: ExitPlan)
     requires opens { (from : ℕ) × OpenIn b.old from (length b.old.blocks) exits.now }
-    ensures patching { Patching b.old b.new exits.now [] (planned plan) }
+    ensures jumps { b.new ≡ all_jumping (planned plan) exits.now b.old }
     ensures shaped { KeepsIf (λ n m. PlanFits m (planned plan) exits.now) b.old b.new }
     ensures kinds { KeepsKinds b.old b.new }
 {

@@ -12,7 +12,7 @@ ghost use Rattle.ir_builder_frames.specs.Computing.{Shows, Attempts};
 ghost use Rattle.ir_builder_frames.specs.Shaped.{Keeps};
 ghost use Rattle.ir_builder_frames.specs.Kinds.{IsAmong, KeepsKinds, KeepsKindsIf};
 ghost use Rattle.ir_builder_operations.specs.Operating.{ActsOn};
-ghost use Rattle.ir_builder_expressions.specs.Parts.{is_simple};
+ghost use Rattle.ir_builder_expressions.specs.Parts.{is_scalar};
 ghost use Rattle.ir_builder_expressions.specs.Applying.{BinarySuits};
 ghost use Rattle.ir_builder_expressions.specs.Suiting.{Suits};
 ghost use Rattle.ir_builder_loops_and_jumps.specs.Means.{means_assignment, means_update, means_return, returned_type};
@@ -42,7 +42,7 @@ pub(crate) fn emit_assignment(
     e: &TExpr,
     line: usize,
 ) -> Result<(), Memory>
-    requires simple { is_simple (type_of (typed_expr e.now)) ≡ true }
+    requires simple { is_scalar (type_of (typed_expr e.now)) ≡ true }
     requires target { IsOnly (typed_module checked.now) (map variable locals.now) None (map typed_target targets.now) (type_of (typed_expr e.now)) }
     requires suits { Suits (typed_module checked.now) (map variable locals.now) (typed_expr e.now) }
     requires room { HasRoom (setting checked.now locals.now frame) b.old }

@@ -11,7 +11,7 @@ ghost use Rattle.ir_builder_frames.specs.Kinds.{IsAmong, KeepsKindsIf};
 ghost use Rattle.ir_builder_loops_and_jumps.specs.Means.{means_loop, means_statement, means_suite};
 ghost use Rattle.ir_builder_loops_and_jumps.specs.Around.{Begins};
 ghost use Rattle.ir_builder_loops_and_jumps.specs.Runs.{Emitted};
-ghost use Rattle.ir_builder_loops_and_jumps.specs.Tested.{means_arms, Tested};
+ghost use Rattle.ir_builder_loops_and_jumps.specs.Tested.{Tested};
 ghost use Rattle.ir_builder_statements.specs.Suiting.{LoopSuits, StatementSuits, SuiteSuits, ArmsSuit};
 ghost use Rattle.ir_builder_statements.specs.Kinds.{IsAround};
 
@@ -159,7 +159,7 @@ fn emit_arms(
     requires room { HasRoom (setting checked.now locals.now frame) b.old }
     requires alone { frame.ret ≡ None }
     ensures kept { Extends b.old b.new }
-    ensures tested { OnOk result (Tested (setting checked.now locals.now frame) (option_map sort (option_copied gives.entry)) looping (means_arms (setting checked.now locals.now frame) arms.now) b.old b.new exits.new.items) }
+    ensures tested { OnOk result (Tested (setting checked.now locals.now frame) (option_map sort (option_copied gives.entry)) looping [] arms.now b.old b.new exits.new.items) }
     ensures shaped { OnOk result (Keeps b.old b.new) }
     ensures kinds { OnOk result (KeepsKindsIf (IsAround (typed_module checked.now) (option_map sort (option_copied gives.entry))) b.old b.new) }
 {

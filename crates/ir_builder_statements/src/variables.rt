@@ -6,7 +6,7 @@ ghost use Rattle.py_typed.specs.Statements.{TypedModule, Variable, typed_module,
 ghost use Rattle.ir_core.specs.Building.{Extends};
 ghost use Rattle.ir_builder_frames.specs.Shaped.{Keeps};
 ghost use Rattle.ir_builder_frames.specs.Kinds.{IsAmong, AreAlike, KeepsKindsIf};
-ghost use Rattle.ir_builder_expressions.specs.Parts.{is_simple};
+ghost use Rattle.ir_builder_expressions.specs.Parts.{is_scalar};
 ghost use Rattle.ir_builder_statements.specs.Suiting.{IsVariable};
 ghost use Rattle.ir_builder_statements.specs.Parts.{HasFlag, SetsLocal, SetsGlobal, TakesGlobal, TakesRegister, SetsVariable, reading_of};
 
@@ -20,7 +20,7 @@ use value_core::{Many, Memory};
 
 // A type of numbers, bools or texts.
 fn simple_type(t: &Ty) -> Ty
-    requires { is_simple (sort t.now) ≡ true }
+    requires { is_scalar (sort t.now) ≡ true }
     ensures { sort result ≡ sort t.now }
 {
     match t {
@@ -46,7 +46,7 @@ pub(crate) fn variable_type<'a>(checked: &'a Checked, locals: &'a [Var], target:
 
 /// The expression that reads a variable of a type.
 pub(crate) fn reading(target: &Target, t: &Ty, span: Span) -> TExpr
-    requires simple { is_simple (sort t.now) ≡ true }
+    requires simple { is_scalar (sort t.now) ≡ true }
     requires variable { (m : TypedModule) × (vs : List Variable) × IsVariable m vs None (typed_target target.now) (sort t.now) }
     ensures same { sort result.ty ≡ sort t.now }
     ensures reads { typed_expr result ≡ reading_of (typed_target target.now) (sort t.now) span }

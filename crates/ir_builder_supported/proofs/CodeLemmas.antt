@@ -1,9 +1,5 @@
 -- What is found where the code stands in a comparison, at a definition, and among the definitions of functions.
-use Rattle.std.proofs.Common.{◌≡◌, ◌∙◌, refl, sym, ap, arith, ℕ, suc, ◌+◌, ◌<◌, max, Bool, true, false, cond, List, [], ◌∷◌, length, map, get_or, drop, Option, Some, None}
-use Rattle.std.specs.Prelude.{slice_get}
-use Rattle.std.specs.List.{filter}
-use Rattle.std.specs.Option.{option_map}
-use Rattle.std.proofs.lemmas.Option.{slice_get-map}
+use Rattle.ir_builder_supported.proofs.Common.{◌≡◌, ◌∙◌, refl, sym, ap, arith, ℕ, suc, ◌+◌, ◌<◌, max, Bool, true, false, cond, List, [], ◌∷◌, length, map, get_or, drop, Option, Some, None, slice_get, filter, option_map, slice_get-map, StmtTree, Suite, stmt_tree, trees, suite_definitions, sort, TStmt, size-TStmt, typed_expr, typed_node, typed_comparison, comparisons_of, type_of, Variable, TypedFunc, TypedModule, TypedSuite, typed_stmt, typed_act, typed_suite, typed_arm, arms_of, typed_func, Unbuilt, unbuilt, chain_form, node_form, function_form, is_form, is_function, is_def, definition_line, uncompiled_form, noted, expression_least, part_least, chain_least, statement_least, act_least, suite_least, arms_least, functions_least}
 use Rattle.std.proofs.lemmas.List.{drop_more}
 use Rattle.std.specs.declared.boxed.Box.{Box}
 use Rattle.std.specs.declared.alloc.Global.{Global}
@@ -11,29 +7,17 @@ use denote.Ref.{Bor}
 use denote.Param.Weighed.{most}
 use Rattle.py_syntax.specs.declared.expression.CmpOp.{CmpOp}
 use Rattle.py_syntax.specs.declared.statement.Stmt.{Stmt}
-use Rattle.py_syntax.specs.Statements.{StmtTree, Suite, stmt_tree}
 use Rattle.py_syntax.proofs.StatementLemmas.{stmt_tree_at}
-use Rattle.py_check_names.specs.Walked.{trees}
-use Rattle.py_check_names.specs.Outline.{suite_definitions}
-use Rattle.py_typed.specs.Sorts.{sort}
 use Rattle.py_typed.specs.declared.expression.TExpr.{TExpr}
 use Rattle.py_typed.specs.declared.expression.TKind as kind
-use Rattle.py_typed.specs.declared.statement.TStmt.{TStmt, size-TStmt}
 use Rattle.py_typed.specs.declared.statement.TStmtKind as act
 use Rattle.py_typed.specs.declared.checked.TFunc.{TFunc}
-use Rattle.py_typed.specs.Expressions.{typed_expr, typed_node, typed_comparison, comparisons_of, type_of}
-use Rattle.py_typed.specs.Statements.{Variable, TypedFunc, TypedModule, TypedSuite, typed_stmt, typed_act, typed_suite, typed_arm, arms_of, typed_func}
 use Rattle.py_typed.proofs.ExpressionLemmas.{typed_expr_at, typed_node-Compare}
 use Rattle.py_typed.proofs.StatementLemmas.{typed_stmt_at, typed_act-If}
 use Rattle.py_check_unbuilt.specs.declared.form.Form.{Form}
 use Rattle.py_check_unbuilt.specs.declared.form.Form.TheVariants as form
 use Rattle.py_check_unbuilt.specs.declared.form.TypeKind.{TypeKind}
-use Rattle.py_check_unbuilt.specs.declared.form.Unbuilt.{Unbuilt}
-use Rattle.ir_builder_supported.specs.Forms.{unbuilt, chain_form, node_form, function_form}
 use Rattle.ir_builder_supported.specs.Forms.{kind as sort_kind}
-use Rattle.ir_builder_supported.specs.Expressions.{is_form}
-use Rattle.ir_builder_supported.specs.Statements.{is_function, is_def, definition_line, uncompiled_form}
-use Rattle.ir_builder_supported.specs.Least.{noted, expression_least, part_least, chain_least, statement_least, act_least, suite_least, arms_least, functions_least}
 use Rattle.ir_builder_supported.proofs.FormLemmas.{module_same}
 
 pub comparison_found : (e : TExpr) (a : Box TExpr Global) (more more2 : List (CmpOp × TExpr)) → e.kind ≡ kind.Compare a more → more2 ≡ more → (b : Bool) → b ≡ is_form (typed_node e.kind) (sort e.ty) → b ≡ true → (found first last : Option Unbuilt) → first ≡ expression_least found (typed_expr a.value) → last ≡ chain_least first (comparisons_of (map typed_comparison more2)) → last ≡ expression_least found (typed_expr e)

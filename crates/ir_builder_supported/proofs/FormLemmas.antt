@@ -1,18 +1,5 @@
 -- The first form that is found along a tree is the least of those that stand in it.
-use Rattle.std.proofs.Common.{◌≡◌, ◌∙◌, refl, sym, ap, ℕ, suc, Bool, true, false, List, [], ◌∷◌, ◌++◌, Option, Some, None}
-use Rattle.std.specs.Prelude.{◌&&◌, slice_get}
-use Rattle.std.specs.List.{filter}
-use Rattle.py_syntax.specs.Statements.{StmtTree, Suite}
-use Rattle.py_check_names.specs.Outline.{suite_definitions}
-use Rattle.py_typed.specs.Expressions.{TypedExpr, typed, TypedNode, Neg, Not, Truth, Arith, Concat, Compare, And, Or, Cond, At, Call, Print, Len, ToStr, Coerce, TypedExprs, no_exprs, expr_then, Comparisons, no_comparisons, comparison_then, type_of}
-use Rattle.py_typed.specs.Statements.{Variable, TypedFunc, TypedModule, TypedStmt, on_line, TypedAct, Do, Assign, Aug, If, While, Return, Break, Continue, Pass, TypedSuite, no_stmts, stmt_then, Arms, no_arms, arm_then}
-use Rattle.py_check_unbuilt.specs.declared.form.Unbuilt.{Unbuilt}
-use Rattle.py_check_unbuilt.specs.Later.{lesser, least}
-use Rattle.ir_builder_expressions.specs.Compiled.{is_scalar, is_built}
-use Rattle.ir_builder_supported.specs.Forms.{unbuilt, node_form, expression_form, expression_at, targets_form, update_form, function_form}
-use Rattle.ir_builder_supported.specs.Expressions.{or_parts, is_form, expression_forms, part_forms, row_forms, chain_forms}
-use Rattle.ir_builder_supported.specs.Statements.{alone_forms, is_one, is_updated, returned_forms, statement_forms, act_forms, suite_forms, arms_forms, is_function, is_def, definition_line, function_forms, functions_forms, uncompiled_form}
-use Rattle.ir_builder_supported.specs.Least.{noted, expression_least, part_least, row_least, chain_least, alone_least, returned_least, statement_least, act_least, suite_least, arms_least, function_least, functions_least}
+use Rattle.ir_builder_supported.proofs.Common.{◌≡◌, ◌∙◌, refl, sym, ap, ℕ, suc, Bool, true, false, List, [], ◌∷◌, ◌++◌, Option, Some, None, ◌&&◌, slice_get, filter, StmtTree, Suite, suite_definitions, TypedExpr, typed, TypedNode, Neg, Not, Truth, Arith, Concat, Compare, And, Or, Cond, At, Call, Print, Len, ToStr, Coerce, TypedExprs, no_exprs, expr_then, Comparisons, no_comparisons, comparison_then, type_of, Variable, TypedFunc, TypedModule, TypedStmt, on_line, TypedAct, Do, Assign, Aug, If, While, Return, Break, Continue, Pass, TypedSuite, no_stmts, stmt_then, Arms, no_arms, arm_then, Unbuilt, lesser, least, is_arithmetic, is_scalar, unbuilt, node_form, expression_form, expression_at, targets_form, update_form, function_form, or_parts, is_form, expression_forms, part_forms, row_forms, chain_forms, alone_forms, is_one, is_updated, returned_forms, statement_forms, act_forms, suite_forms, arms_forms, is_function, is_def, definition_line, function_forms, functions_forms, uncompiled_form, noted, expression_least, part_least, row_least, chain_least, alone_least, returned_least, statement_least, act_least, suite_least, arms_least, function_least, functions_least}
 
 -- the least of two rows is found in the one and then in the other
 least_append : (found : Option Unbuilt) (xs ys : List Unbuilt) → least found (xs ++ ys) ≡ least (least found xs) ys
@@ -75,7 +62,7 @@ module _ (locals globals : List Variable) where
     act_same : (found : Option Unbuilt) (line : ℕ) (a : TypedAct) → act_least locals globals found line a ≡ least found (act_forms locals globals line a)
     act_same found line (Do e) = alone_same found e
     act_same found line (Assign ts e) = noted_same (is_one ts && is_scalar (type_of e)) (unbuilt line (targets_form ts (expression_form e))) found (expression_least found e) (expression_forms e) (expression_same found e)
-    act_same found line (Aug t op e s) = noted_same (is_updated locals globals t s && (is_scalar s && is_built op)) (unbuilt line (update_form t s)) found (expression_least found e) (expression_forms e) (expression_same found e)
+    act_same found line (Aug t op e s) = noted_same (is_updated locals globals t s && (is_scalar s && is_arithmetic op)) (unbuilt line (update_form t s)) found (expression_least found e) (expression_forms e) (expression_same found e)
     act_same found line (If arms other) = joined found _ _ (arms_forms locals globals arms) (suite_forms locals globals other) (arms_same found arms) (suite_same (arms_least locals globals found arms) other)
     act_same found line (While test body) = joined found _ _ (expression_forms test) (suite_forms locals globals body) (expression_same found test) (suite_same (expression_least found test) body)
     act_same found line (Return e) = returned_same found e

@@ -1,5 +1,6 @@
 pub mod FormLemmas
-pub mod CompiledLemmas
+pub mod SuitLemmas
 pub mod SuiteLemmas
 pub mod ModuleLemmas
 pub mod CodeLemmas
+pub mod Common

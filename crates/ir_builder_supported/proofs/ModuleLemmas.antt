@@ -1,33 +1,13 @@
 -- A well typed module all of which is compiled is one that is built.
-use Rattle.std.proofs.Common.{◌≡◌, refl, sym, ◌∙◌, ap, subst, arith, ℕ, zero, suc, ◌+◌, Bool, true, false, List, [], ◌∷◌, ◌++◌, length, map, Option, Some, None}
-use Rattle.std.proofs.lemmas.Bool.{leb-true, or_cases}
+use Rattle.ir_builder_supported.proofs.Common.{◌≡◌, refl, sym, ◌∙◌, ap, subst, arith, ℕ, zero, suc, ◌+◌, Bool, true, false, List, [], ◌∷◌, ◌++◌, length, map, Option, Some, None, leb-true, or_cases, same_Some, not, ◌&&◌, ◌||◌, nat_le, slice_get, list_any, flat_map, filter, StmtTree, Suite, suite_definitions, ClassEntry, Signature, is_same_type, is_nothing, is_closed, Variable, TypedFunc, TypedModule, init_class, is_called_in, all_differ, suite_typed, and_left, and_right, one_type, Unbuilt, lesser, least, parameter_sorts, is_scalar, is_result, unbuilt, is_none, function_form, suite_forms, are_scalars, is_function, is_def, definition_line, function_forms, functions_forms}
 use Rattle.std.proofs.lemmas.List.Folds.{list_any-append}
-use Rattle.std.proofs.lemmas.Option.{same_Some}
-use Rattle.std.specs.Prelude.{not, ◌&&◌, ◌||◌, nat_le, slice_get}
-use Rattle.std.specs.List.{list_any, flat_map, filter}
 use Rattle.std.specs.Str.{bytes_eq}
 use Rattle.c_core.specs.WellFormed.{is_identifier, names_differ}
 use Rattle.c_core.proofs.Lines.{all_at as at_each}
-use Rattle.py_syntax.specs.Statements.{StmtTree, Suite}
-use Rattle.py_check_names.specs.Outline.{suite_definitions}
-use Rattle.py_typed.specs.Classes.{ClassEntry, Signature}
-use Rattle.py_typed.specs.Fits.{is_same_type, is_nothing}
-use Rattle.py_typed.specs.Narrowing.{is_closed}
-use Rattle.py_typed.specs.Statements.{Variable, TypedFunc, TypedModule}
-use Rattle.py_typed.specs.WellTypedExpr.{init_class}
-use Rattle.py_typed.specs.WellTyped.{is_called_in, all_differ, suite_typed}
 use Rattle.py_typed.specs.WellTypedModule.{names_of, same_row, all_at, ends_well, parameter_types, signature_fits, variables_typed, func_typed, own_name, is_well_typed}
-use Rattle.py_typed.proofs.FitLemmas.{and_left, and_right, one_type}
-use Rattle.py_check_unbuilt.specs.declared.form.Unbuilt.{Unbuilt}
-use Rattle.py_check_unbuilt.specs.Later.{lesser, least}
-use Rattle.ir_builder_frames.specs.Matching.{parameter_sorts}
-use Rattle.ir_builder_expressions.specs.Compiled.{is_scalar, is_result}
-use Rattle.ir_builder_expressions.proofs.SuitLemmas.{AllScalar, AllSigned, same_sorts}
 use Rattle.ir_builder_statements.specs.Modules.{FunctionSuits, ModuleSuits}
-use Rattle.ir_builder_supported.specs.Forms.{unbuilt, is_none, function_form}
-use Rattle.ir_builder_supported.specs.Statements.{suite_forms, are_scalars, is_function, is_def, definition_line, function_forms, functions_forms}
 use Rattle.ir_builder_supported.specs.Laws.{CompiledSuits}
-use Rattle.ir_builder_supported.proofs.CompiledLemmas.{none_left, none_right, form_of, parts_of}
+use Rattle.ir_builder_supported.proofs.SuitLemmas.{none_left, none_right, form_of, parts_of, AllScalar, AllSigned, same_sorts}
 use Rattle.ir_builder_supported.proofs.SuiteLemmas.{suite_suits}
 
 -- ---- forms

@@ -1,31 +1,13 @@
 -- A well typed statement in which all is compiled suits, in a function whose variables are numbers, bools and texts.
-use Rattle.std.proofs.Common.{◌≡◌, refl, sym, ◌∙◌, ap, subst, ℕ, Bool, true, false, List, [], ◌∷◌, ◌++◌, Option, Some, None, ◌⊎◌, ⊎_elim, inl, inr}
-use Rattle.std.proofs.lemmas.Bool.{or_cases}
-use Rattle.std.specs.Prelude.{not, ◌&&◌, if◌then◌else◌, slice_get}
+use Rattle.ir_builder_supported.proofs.Common.{◌≡◌, refl, sym, ◌∙◌, ap, subst, ℕ, Bool, true, false, List, [], ◌∷◌, ◌++◌, Option, Some, None, ◌⊎◌, ⊎_elim, inl, inr, or_cases, not, ◌&&◌, if◌then◌else◌, slice_get, Span, Sort, is_same_type, is_number, is_nothing, number_join, fits, TypedExpr, typed, TypedNode, Nothing, Print, TypedExprs, no_exprs, expr_then, type_of, Variable, TypedModule, TypedTarget, LocalTarget, GlobalTarget, TypedStmt, on_line, TypedAct, Do, Assign, Aug, If, While, Return, Break, Continue, Pass, TypedSuite, no_stmts, stmt_then, Arms, no_arms, arm_then, is_in, facts, without, bound_suite, part_sorts, after, stands, parts_typed, are_values, rule, is_type, are_texts, are_numbers, is_bar, operation_sort, reads_as, is_value, is_typed, is_none_literal, target_type, read_type, parts_fit, assignment_fits, is_single, return_fits, stmt_typed, act_typed, suite_typed, arms_typed, and_left, and_right, one_type, is_arithmetic, is_whole, is_int, is_i64, is_scalar, Suits, unbuilt, node_form, expression_form, expression_at, targets_form, update_form, is_form, expression_forms, part_forms, row_forms, alone_forms, is_one, is_taken, takes_result, is_updated, returned_forms, statement_forms, act_forms, suite_forms, arms_forms}
 use Rattle.py_syntax.specs.declared.expression.BinOp.{BinOp}
 use Rattle.py_syntax.specs.declared.expression.BinOp.TheVariants.{Add, Sub, Mul, FloorDiv, Mod, Shl, Shr}
-use Rattle.py_syntax.specs.declared.token.Span.{Span}
 use Rattle.py_typed.specs.Sorts as sort
-use Rattle.py_typed.specs.Sorts.{Sort}
-use Rattle.py_typed.specs.Fits.{is_same_type, is_number, is_nothing, number_join, fits}
-use Rattle.py_typed.specs.Expressions.{TypedExpr, typed, TypedNode, Nothing, Print, TypedExprs, no_exprs, expr_then, type_of}
-use Rattle.py_typed.specs.Statements.{Variable, TypedModule, TypedTarget, LocalTarget, GlobalTarget, TypedStmt, on_line, TypedAct, Do, Assign, Aug, If, While, Return, Break, Continue, Pass, TypedSuite, no_stmts, stmt_then, Arms, no_arms, arm_then}
 use Rattle.py_typed.specs.TargetTypes.{sort_at}
-use Rattle.py_typed.specs.Narrowing.{is_in, facts, without, bound_suite, part_sorts, after}
-use Rattle.py_typed.specs.WellTypedExpr.{stands, parts_typed, are_values, rule, is_type, are_texts, are_numbers, is_bar, operation_sort, reads_as, is_value, is_typed, is_none_literal}
-use Rattle.py_typed.specs.WellTyped.{target_type, read_type, parts_fit, assignment_fits, is_single, return_fits, stmt_typed, act_typed, suite_typed, arms_typed}
-use Rattle.py_typed.proofs.FitLemmas.{and_left, and_right, one_type}
-use Rattle.ir_builder_operations.specs.Operating.{is_whole}
 use Rattle.ir_builder_expressions.specs.declared.applying.Binary.TheVariants.{Arithmetic}
-use Rattle.ir_builder_expressions.specs.Compiled.{is_int, is_i64, is_scalar, is_built}
 use Rattle.ir_builder_expressions.specs.Applying.{BinarySuits}
-use Rattle.ir_builder_expressions.specs.Suiting.{Suits}
-use Rattle.ir_builder_expressions.proofs.SuitLemmas.{AllScalar, AllSigned, gives_value, reads_itself, well_typed_suits, well_typed_node}
 use Rattle.ir_builder_statements.specs.Suiting.{PrintSuits, DoSuits, IsOnly, UpdateSuits, VariableUpdates, ReturnSuits, StatementSuits, ActSuits, SuiteSuits, ArmsSuit}
-use Rattle.ir_builder_supported.specs.Forms.{unbuilt, node_form, expression_form, expression_at, targets_form, update_form}
-use Rattle.ir_builder_supported.specs.Expressions.{is_form, expression_forms, part_forms, row_forms}
-use Rattle.ir_builder_supported.specs.Statements.{alone_forms, is_one, is_taken, takes_result, is_updated, returned_forms, statement_forms, act_forms, suite_forms, arms_forms}
-use Rattle.ir_builder_supported.proofs.CompiledLemmas.{none_left, none_right, form_of, parts_of, compiled, compiled_node}
+use Rattle.ir_builder_supported.proofs.SuitLemmas.{none_left, none_right, form_of, parts_of, AllScalar, AllSigned, own_form, own_parts, gives_value, reads_itself, well_typed_suits, well_typed_node}
 
 -- ---- types
 
@@ -82,7 +64,7 @@ taking P int u s h p =
 
 -- ---- operations whose result a variable takes that is their first operand
 
-numbers_update : (op : BinOp) (u s w : Sort) (b : Bool) → is_built op ≡ true → is_taken u s ≡ true → (b ≡ true → are_numbers u w ≡ true) → is_type (if b then Some (number_join u w) else None) s ≡ true → (is_whole u ≡ true) × BinarySuits (Arithmetic op) s u w
+numbers_update : (op : BinOp) (u s w : Sort) (b : Bool) → is_arithmetic op ≡ true → is_taken u s ≡ true → (b ≡ true → are_numbers u w ≡ true) → is_type (if b then Some (number_join u w) else None) s ≡ true → (is_whole u ≡ true) × BinarySuits (Arithmetic op) s u w
 numbers_update op u s w true built takes numbers h =
     let both = numbers refl in
     let whole : is_whole s ≡ true = subst (λ z. is_whole z ≡ true) (one_type (number_join u w) s h) (join_whole u w) in (
@@ -92,11 +74,8 @@ numbers_update op u s w true built takes numbers h =
 numbers_update op u s w false built takes numbers h = absurd (cc)
 
 module _ (m : TypedModule) (vs : List Variable) (init : Option ℕ) (scalars : AllScalar m vs init) (signed : AllSigned m vs init) where
-  value_scalar : (testing : Bool) (known : List ℕ) (e : TypedExpr) → stands m vs init testing known e ≡ true → expression_forms e ≡ [] → is_scalar (type_of e) ≡ true
-  value_scalar testing known e h p = gives_value m vs init testing known e h (compiled e p)
-
   expression_suits : (testing : Bool) (known : List ℕ) (e : TypedExpr) → stands m vs init testing known e ≡ true → expression_forms e ≡ [] → Suits m vs e
-  expression_suits testing known e h p = well_typed_suits m vs init scalars signed testing known e h (compiled e p)
+  expression_suits testing known e h p = well_typed_suits m vs init scalars signed testing known e h p
 
   test_sort : (known : List ℕ) (e : TypedExpr) → stands m vs init true known e ≡ true → type_of e ≡ sort.Bool
   test_sort known (typed n t place) h = one_type t sort.Bool (and_right _ _ (and_left _ _ (and_left _ _ h)))
@@ -109,7 +88,7 @@ module _ (m : TypedModule) (vs : List Variable) (init : Option ℕ) (scalars : A
     print_suits known no_exprs h p = tt
     print_suits known (expr_then e more) h p =
         let here = none_left (expression_forms e) (row_forms more) p in
-        (value_scalar false known e (and_left _ _ h) here, expression_suits false known e (and_left _ _ h) here, print_suits known more (and_right _ _ h) (none_right (expression_forms e) (row_forms more) p))
+        (gives_value m vs init false known e (and_left _ _ h) here, expression_suits false known e (and_left _ _ h) here, print_suits known more (and_right _ _ h) (none_right (expression_forms e) (row_forms more) p))
 
     node_parts : (known : List ℕ) (n : TypedNode) (t : Sort) (place : Span) → is_typed m vs init known (typed n t place) ≡ true → parts_typed m vs init false known n ≡ true
     node_parts known n t place h = and_left _ _ (and_left _ _ (and_left _ _ h))
@@ -120,8 +99,7 @@ module _ (m : TypedModule) (vs : List Variable) (init : Option ℕ) (scalars : A
     alone_suits : (known : List ℕ) (e : TypedExpr) → is_typed m vs init known e ≡ true → alone_forms e ≡ [] → DoSuits m vs result e
     alone_suits known (typed (Print es) t place) h p = print_suits known es (node_parts known (Print es) t place h) p
     alone_suits known (typed n t place) h p =
-        well_typed_node m vs init scalars signed false known n t (node_parts known n t place h) (node_rule known n t place h)
-        (compiled_node n t (form_of (is_form n t) (unbuilt place.line (node_form n t)) (part_forms n) p) (parts_of (is_form n t) (unbuilt place.line (node_form n t)) (part_forms n) p))
+        well_typed_node m vs init scalars signed false known n t (node_parts known n t place h) (node_rule known n t place h) (own_form n t place p) (own_parts n t place p)
 
     -- ---- assignments
 
@@ -146,11 +124,11 @@ module _ (m : TypedModule) (vs : List Variable) (init : Option ℕ) (scalars : A
         inr (refl, (sym (one_type sort.Str s h), one_type u sort.Str (and_left _ _ is), one_type w sort.Str (and_right _ _ is)))
     adds_update u s w false is takes h = inl (numbers_update Add u s w (are_numbers u w) refl takes (λ e. e) h)
 
-    other_update : (op : BinOp) (u s w : Sort) → is_built op ≡ true → is_taken u s ≡ true → is_type (if are_numbers u w && not (is_bar op) then Some (number_join u w) else None) s ≡ true → UpdateSuits m vs result op u s w
+    other_update : (op : BinOp) (u s w : Sort) → is_arithmetic op ≡ true → is_taken u s ≡ true → is_type (if are_numbers u w && not (is_bar op) then Some (number_join u w) else None) s ≡ true → UpdateSuits m vs result op u s w
     other_update op u s w built takes h =
         inl (numbers_update op u s w (are_numbers u w && not (is_bar op)) built takes (λ e. and_left (are_numbers u w) (not (is_bar op)) e) h)
 
-    operation_suits : (op : BinOp) (u s w : Sort) → is_built op ≡ true → is_taken u s ≡ true → is_type (operation_sort op u w) s ≡ true → UpdateSuits m vs result op u s w
+    operation_suits : (op : BinOp) (u s w : Sort) → is_arithmetic op ≡ true → is_taken u s ≡ true → is_type (operation_sort op u w) s ≡ true → UpdateSuits m vs result op u s w
     operation_suits Add u s w built takes h = adds_update u s w (are_texts u w) refl takes h
     operation_suits Sub u s w built takes h = other_update Sub u s w built takes h
     operation_suits Mul u s w built takes h = other_update Mul u s w built takes h
@@ -161,10 +139,10 @@ module _ (m : TypedModule) (vs : List Variable) (init : Option ℕ) (scalars : A
     operation_suits _ u s w built takes h = absurd (cc)
 
     -- a variable that is read with a type is updated in another one
-    variable_updated : (op : BinOp) (r u s w : Sort) → r ≡ u → is_built op ≡ true → is_taken u s ≡ true → is_type (operation_sort op r w) s ≡ true → UpdateSuits m vs result op u s w
+    variable_updated : (op : BinOp) (r u s w : Sort) → r ≡ u → is_arithmetic op ≡ true → is_taken u s ≡ true → is_type (operation_sort op r w) s ≡ true → UpdateSuits m vs result op u s w
     variable_updated op r u s w e built takes h = operation_suits op u s w built takes (subst (λ z. is_type (operation_sort op z w) s ≡ true) e h)
 
-    updated : (known : List ℕ) (t : TypedTarget) (op : BinOp) (s w : Sort) → is_updated vs m.globals t s ≡ true → is_scalar s ≡ true → is_built op ≡ true → is_type (operation_sort op (read_type m vs init result known t) w) s ≡ true → VariableUpdates m vs result t op s w
+    updated : (known : List ℕ) (t : TypedTarget) (op : BinOp) (s w : Sort) → is_updated vs m.globals t s ≡ true → is_scalar s ≡ true → is_arithmetic op ≡ true → is_type (operation_sort op (read_type m vs init result known t) w) s ≡ true → VariableUpdates m vs result t op s w
     updated known (LocalTarget i) op s w o c built h =
         let v = variable_taking (slice_get vs i) s o in
         let u : Sort = v.0.1 in
@@ -180,7 +158,7 @@ module _ (m : TypedModule) (vs : List Variable) (init : Option ℕ) (scalars : A
     -- ---- what is returned
 
     none_not_compiled : (e : TypedExpr) → is_none_literal e ≡ true → expression_forms e ≡ [] → ⊥
-    none_not_compiled (typed n t place) h p = node_other n t h (form_of (is_form n t) (unbuilt place.line (node_form n t)) (part_forms n) p)
+    none_not_compiled (typed n t place) h p = node_other n t h (own_form n t place p)
       where
         node_other : (n : TypedNode) (t : Sort) → is_none_literal (typed n t place) ≡ true → is_form n t ≡ true → ⊥
         node_other Nothing t h f = absurd (cc)
@@ -217,10 +195,10 @@ module _ (m : TypedModule) (vs : List Variable) (init : Option ℕ) (scalars : A
             expression_suits false known e (and_left _ _ (and_left _ _ (and_left _ _ h))) (parts_of (is_one ts && is_scalar (type_of e)) (unbuilt line (targets_form ts (expression_form e))) (expression_forms e) p),
           )
       act_suits known looping handling line (Aug t op e s) h p =
-          let form = form_of (is_updated vs m.globals t s && (is_scalar s && is_built op)) (unbuilt line (update_form t s)) (expression_forms e) p in
-          let more = and_right (is_updated vs m.globals t s) (is_scalar s && is_built op) form in
-          let found = updated result known t op s (type_of e) (and_left (is_updated vs m.globals t s) (is_scalar s && is_built op) form) (and_left (is_scalar s) (is_built op) more) (and_right (is_scalar s) (is_built op) more) (and_left _ _ (and_right _ _ h)) in
-          (found, expression_suits false known e (and_left _ _ (and_left _ _ h)) (parts_of (is_updated vs m.globals t s && (is_scalar s && is_built op)) (unbuilt line (update_form t s)) (expression_forms e) p))
+          let form = form_of (is_updated vs m.globals t s && (is_scalar s && is_arithmetic op)) (unbuilt line (update_form t s)) (expression_forms e) p in
+          let more = and_right (is_updated vs m.globals t s) (is_scalar s && is_arithmetic op) form in
+          let found = updated result known t op s (type_of e) (and_left (is_updated vs m.globals t s) (is_scalar s && is_arithmetic op) form) (and_left (is_scalar s) (is_arithmetic op) more) (and_right (is_scalar s) (is_arithmetic op) more) (and_left _ _ (and_right _ _ h)) in
+          (found, expression_suits false known e (and_left _ _ (and_left _ _ h)) (parts_of (is_updated vs m.globals t s && (is_scalar s && is_arithmetic op)) (unbuilt line (update_form t s)) (expression_forms e) p))
       act_suits known looping handling line (If arms other) h p =
           let found = arms_suit known looping handling arms (λ there. suite_typed m vs init result there looping handling other) (and_right _ _ h) (none_left (arms_forms vs m.globals arms) (suite_forms vs m.globals other) p) in
           (found.0, suite_suits found.1 looping handling other found.2 (none_right (arms_forms vs m.globals arms) (suite_forms vs m.globals other) p))

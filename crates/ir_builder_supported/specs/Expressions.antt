@@ -5,8 +5,9 @@ use Rattle.py_typed.specs.Fits.{is_number}
 use Rattle.py_typed.specs.Sorts.{Sort}
 use Rattle.py_typed.specs.Expressions.{TypedExpr, typed, TypedNode, Int, Str, Flag, Local, Global, Neg, Not, Truth, Arith, Concat, Compare, And, Or, Cond, At, Call, Input, Len, ToStr, Coerce, TypedExprs, no_exprs, expr_then, Comparisons, no_comparisons, comparison_then, type_of}
 use Rattle.py_check_unbuilt.specs.declared.form.Unbuilt.{Unbuilt}
-use Rattle.ir_builder_operations.specs.Operating.{is_whole}
-use Rattle.ir_builder_expressions.specs.Compiled.{is_bool, is_int, is_text, is_scalar, is_result, is_built, is_ordering, is_pair}
+use Rattle.ir_builder_operations.specs.Operating.{is_arithmetic, is_whole}
+use Rattle.ir_builder_comparisons.specs.Comparing.{is_ordering}
+use Rattle.ir_builder_expressions.specs.Parts.{is_bool, is_int, is_text, is_scalar, is_result, is_pair}
 use Rattle.ir_builder_supported.specs.Forms.{unbuilt, node_form}
 
 -- something, unless it is compiled; then what is not of its parts
@@ -28,7 +29,7 @@ is_form (Global i) t = is_scalar t
 is_form (Neg e) t = is_whole t
 is_form (Not e) t = is_bool t
 is_form (Truth e) t = is_bool t && is_scalar (type_of e)
-is_form (Arith op a b) t = is_whole t && is_built op
+is_form (Arith op a b) t = is_whole t && is_arithmetic op
 is_form (Concat a b) t = is_text t
 is_form (Compare e more) t = is_bool t && (is_scalar (type_of e) && are_pairs (type_of e) more)
 is_form (And a b) t = is_scalar t

@@ -12,7 +12,7 @@ use Rattle.py_check_unbuilt.specs.declared.form.Form.TheVariants as form
 use Rattle.py_check_unbuilt.specs.declared.form.TypeKind.{TypeKind}
 use Rattle.py_check_unbuilt.specs.declared.form.TypeKind.TheVariants as kinds
 use Rattle.py_check_unbuilt.specs.declared.form.Unbuilt.{Unbuilt}
-use Rattle.ir_builder_expressions.specs.Compiled.{is_scalar}
+use Rattle.ir_builder_expressions.specs.Parts.{is_scalar}
 
 -- a form on a line
 abbrev pub unbuilt : ℕ → Form → Unbuilt

@@ -7,7 +7,8 @@ use Rattle.py_typed.specs.Statements.{Variable, TypedFunc, TypedStmt, on_line, T
 use Rattle.py_check_unbuilt.specs.declared.form.Form.TheVariants as form
 use Rattle.py_check_unbuilt.specs.declared.form.Unbuilt.{Unbuilt}
 use Rattle.py_check_unbuilt.specs.Later.{lesser}
-use Rattle.ir_builder_expressions.specs.Compiled.{is_scalar, is_built}
+use Rattle.ir_builder_operations.specs.Operating.{is_arithmetic}
+use Rattle.ir_builder_expressions.specs.Parts.{is_scalar}
 use Rattle.ir_builder_supported.specs.Forms.{unbuilt, node_form, expression_form, expression_at, targets_form, update_form, function_form}
 use Rattle.ir_builder_supported.specs.Expressions.{is_form}
 use Rattle.ir_builder_supported.specs.Statements.{is_one, is_updated, is_function, definition_line}
@@ -63,7 +64,7 @@ module _ (locals globals : List Variable) where
     pub act_least : Option Unbuilt → ℕ → TypedAct → Option Unbuilt
     act_least found line (Do e) = alone_least found e
     act_least found line (Assign ts e) = noted (is_one ts && is_scalar (type_of e)) (unbuilt line (targets_form ts (expression_form e))) found (expression_least found e)
-    act_least found line (Aug t op e s) = noted (is_updated locals globals t s && (is_scalar s && is_built op)) (unbuilt line (update_form t s)) found (expression_least found e)
+    act_least found line (Aug t op e s) = noted (is_updated locals globals t s && (is_scalar s && is_arithmetic op)) (unbuilt line (update_form t s)) found (expression_least found e)
     act_least found line (If arms other) = suite_least (arms_least found arms) other
     act_least found line (While test body) = suite_least (expression_least found test) body
     act_least found line (Return e) = returned_least found e

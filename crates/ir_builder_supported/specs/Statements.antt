@@ -11,7 +11,8 @@ use Rattle.py_check_names.specs.Outline.{suite_definitions}
 use Rattle.py_check_unbuilt.specs.declared.form.Form.TheVariants as form
 use Rattle.py_check_unbuilt.specs.declared.form.Unbuilt.{Unbuilt}
 use Rattle.py_check_unbuilt.specs.Later.{least}
-use Rattle.ir_builder_expressions.specs.Compiled.{is_int, is_i64, is_scalar, is_result, is_built}
+use Rattle.ir_builder_operations.specs.Operating.{is_arithmetic}
+use Rattle.ir_builder_expressions.specs.Parts.{is_int, is_i64, is_scalar, is_result}
 use Rattle.ir_builder_supported.specs.Forms.{unbuilt, expression_form, expression_at, targets_form, update_form, is_none, function_form}
 use Rattle.ir_builder_supported.specs.Expressions.{or_parts, expression_forms, row_forms}
 
@@ -58,7 +59,7 @@ module _ (locals globals : List Variable) where
     pub act_forms : ℕ → TypedAct → List Unbuilt
     act_forms line (Do e) = alone_forms e
     act_forms line (Assign ts e) = or_parts (is_one ts && is_scalar (type_of e)) (unbuilt line (targets_form ts (expression_form e))) (expression_forms e)
-    act_forms line (Aug t op e s) = or_parts (is_updated t s && (is_scalar s && is_built op)) (unbuilt line (update_form t s)) (expression_forms e)
+    act_forms line (Aug t op e s) = or_parts (is_updated t s && (is_scalar s && is_arithmetic op)) (unbuilt line (update_form t s)) (expression_forms e)
     act_forms line (If arms other) = arms_forms arms ++ suite_forms other
     act_forms line (While test body) = expression_forms test ++ suite_forms body
     act_forms line (Return e) = returned_forms e

@@ -4,8 +4,9 @@ ghost use Rattle.py_typed.specs.Sorts.{sort};
 ghost use Rattle.py_typed.specs.Fits as fits;
 ghost use Rattle.py_typed.specs.Expressions.{typed_expr, typed_node, typed_comparison, comparisons_of};
 ghost use Rattle.py_typed.specs.Statements.{typed_target, typed_func, variable};
+ghost use Rattle.ir_builder_comparisons.specs.Comparing as comparing;
 ghost use Rattle.ir_builder_operations.specs.Operating as operating;
-ghost use Rattle.ir_builder_expressions.specs.Compiled as compiled;
+ghost use Rattle.ir_builder_expressions.specs.Parts as sorts;
 ghost use Rattle.ir_builder_supported.specs.Expressions as form;
 ghost use Rattle.ir_builder_supported.specs.Statements as statement;
 
@@ -13,25 +14,25 @@ use py_syntax::{BinOp, CmpOp};
 use py_typed::{TExpr, TFunc, TKind, Target, Ty, Var, is_same_type};
 
 fn is_int(t: &Ty) -> bool
-    ensures { result ≡ compiled.is_int (sort t.now) }
+    ensures { result ≡ sorts.is_int (sort t.now) }
 {
     matches!(t, Ty::Int)
 }
 
 fn is_i64(t: &Ty) -> bool
-    ensures { result ≡ compiled.is_i64 (sort t.now) }
+    ensures { result ≡ sorts.is_i64 (sort t.now) }
 {
     matches!(t, Ty::I64)
 }
 
 fn is_text(t: &Ty) -> bool
-    ensures { result ≡ compiled.is_text (sort t.now) }
+    ensures { result ≡ sorts.is_text (sort t.now) }
 {
     matches!(t, Ty::Str)
 }
 
 fn is_bool(t: &Ty) -> bool
-    ensures { result ≡ compiled.is_bool (sort t.now) }
+    ensures { result ≡ sorts.is_bool (sort t.now) }
 {
     matches!(t, Ty::Bool)
 }
@@ -52,26 +53,26 @@ fn is_number(t: &Ty) -> bool
 
 /// Whether a type is one of variables: numbers, bools and texts.
 pub(crate) fn is_scalar(t: &Ty) -> bool
-    ensures { result ≡ compiled.is_scalar (sort t.now) }
+    ensures { result ≡ sorts.is_scalar (sort t.now) }
 {
     matches!(t, Ty::Int | Ty::I64 | Ty::Bool | Ty::Str)
 }
 
 /// Whether a type is one of results, which may be None.
 fn is_result(t: &Ty) -> bool
-    ensures { result ≡ compiled.is_result (sort t.now) }
+    ensures { result ≡ sorts.is_result (sort t.now) }
 {
     matches!(t, Ty::Int | Ty::I64 | Ty::Bool | Ty::Str | Ty::Nothing)
 }
 
-fn is_built(op: BinOp) -> bool
-    ensures { result ≡ compiled.is_built op }
+fn is_arithmetic(op: BinOp) -> bool
+    ensures { result ≡ operating.is_arithmetic op }
 {
     !matches!(op, BinOp::Bar)
 }
 
 fn is_ordering(op: CmpOp) -> bool
-    ensures { result ≡ compiled.is_ordering op }
+    ensures { result ≡ comparing.is_ordering op }
 {
     matches!(
         op,
@@ -81,7 +82,7 @@ fn is_ordering(op: CmpOp) -> bool
 
 /// Whether operands of two types are compared as numbers or as texts.
 fn is_pair(left: &Ty, right: &Ty) -> bool
-    ensures { result ≡ compiled.is_pair (sort left.now) (sort right.now) }
+    ensures { result ≡ sorts.is_pair (sort left.now) (sort right.now) }
 {
     (is_number(left) && is_number(right)) || (is_text(left) && is_text(right))
 }
@@ -113,7 +114,7 @@ pub(crate) fn is_form(e: &TExpr) -> bool
         TKind::Neg(_) => is_whole(&e.ty),
         TKind::Not(_) => is_bool(&e.ty),
         TKind::Truth(a) => is_bool(&e.ty) && is_scalar(&a.ty),
-        TKind::Arith(op, _, _) => is_whole(&e.ty) && is_built(*op),
+        TKind::Arith(op, _, _) => is_whole(&e.ty) && is_arithmetic(*op),
         TKind::Concat(_, _) => is_text(&e.ty),
         TKind::Compare(first, more) => {
             is_bool(&e.ty) && (is_scalar(&first.ty) && are_pairs(&first.ty, more.as_slice()))
@@ -161,7 +162,7 @@ fn is_one(targets: &[Target]) -> bool
 
 /// Whether these targets are assigned a value of this type.
 pub(crate) fn is_assigned(targets: &[Target], t: &Ty) -> bool
-    ensures { result ≡ (statement.is_one (map typed_target targets.now) && compiled.is_scalar (sort t.now)) }
+    ensures { result ≡ (statement.is_one (map typed_target targets.now) && sorts.is_scalar (sort t.now)) }
 {
     is_one(targets) && is_scalar(t)
 }
@@ -203,9 +204,9 @@ pub(crate) fn is_updated(
     op: BinOp,
     t: &Ty,
 ) -> bool
-    ensures { result ≡ (statement.is_updated (map variable locals.now) (map variable globals.now) (typed_target target.now) (sort t.now) && (compiled.is_scalar (sort t.now) && compiled.is_built op)) }
+    ensures { result ≡ (statement.is_updated (map variable locals.now) (map variable globals.now) (typed_target target.now) (sort t.now) && (sorts.is_scalar (sort t.now) && operating.is_arithmetic op)) }
 {
-    is_updated_name(locals, globals, target, t) && (is_scalar(t) && is_built(op))
+    is_updated_name(locals, globals, target, t) && (is_scalar(t) && is_arithmetic(op))
 }
 
 fn are_scalars(variables: &[Var]) -> bool

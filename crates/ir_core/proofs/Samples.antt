@@ -26,6 +26,7 @@ use Rattle.c_core.specs.declared.primitive.ListPrim.TheVariants as list
 use Rattle.c_core.specs.declared.primitive.DictPrim.TheVariants as dict
 use Rattle.c_core.specs.declared.primitive.InstancePrim.TheVariants as instance
 use Rattle.c_core.specs.declared.primitive.AttrPrim.TheVariants as attr
+use Rattle.c_core.specs.declared.primitive.GlobalPrim.TheVariants as global
 use Rattle.c_core.specs.declared.primitive.ErrPrim.TheVariants as err
 use Rattle.c_core.specs.declared.primitive.IoPrim.TheVariants as io
 use Rattle.ir_core.specs.declared.code.RType.{RType}
@@ -44,7 +45,7 @@ use Rattle.ir_core.specs.Registers.{Unset, Holds}
 use Rattle.ir_core.specs.Names.{function_id}
 use Rattle.ir_core.specs.declared.code.ErrorKind.TheVariants.{Magic, MagicOverlapping}
 use Rattle.ir_core.specs.Effects.{World, Argument, Given, Written, Effect, Wrong, Gives, Acts, Fails, Ends, IfTarget, IfWritten, effect}
-use Rattle.ir_core.specs.Rows.{error_kind}
+use Rattle.ir_core.specs.Rows.{kind_by_result, error_kind}
 use Rattle.ir_core.specs.Meaning.{Waiting, Config, Runs, Leaves, Ended, Stuck, Mode, Plain, Strict, Fitting, steps}
 use Rattle.ir_core.specs.Runs.{start, Calm, Fit}
 use Rattle.c_core.specs.Step as machine
@@ -445,6 +446,23 @@ int_tells = refl
 
 native_tells : error_kind (prim.Tagged tagged.AsInt64) (Some I64) ≡ MagicOverlapping
 native_tells = refl
+
+-- by their rows, whatever the target
+native_without_target_tells : error_kind (prim.Int64 int64.FloorDivide) None ≡ MagicOverlapping
+native_without_target_tells = refl
+
+int_for_native_tells : error_kind (prim.Tagged tagged.Add) (Some I64) ≡ Magic
+int_for_native_tells = refl
+
+-- where the row leaves it to a slot or a global, by the target
+attribute_tells : (t : Option RType) → error_kind (prim.Attr attr.Get) t ≡ kind_by_result t
+attribute_tells t = refl
+
+lent_attribute_tells : (t : Option RType) → error_kind (prim.Attr attr.GetBorrow) t ≡ kind_by_result t
+lent_attribute_tells t = refl
+
+global_tells : (t : Option RType) → error_kind (prim.Global global.Get) t ≡ kind_by_result t
+global_tells t = refl
 
 -- ---- stuck, each in its way: the module alone, with an object, a truth, a native integer and an `int`
 abbrev alone : List (Op × ℕ) → Last → Program

@@ -1,7 +1,10 @@
 -- How operations fail: of each primitive whether it does, one row one line, and what is to stand behind an operation so that
 -- its failure is seen (mypyc's developer guide, "Error handling").
-use Rattle.std.specs.Prelude.{ℕ, List, Option, Some, slice_get}
+use Rattle.std.specs.Prelude.{ℕ, List, Option, Some, None, slice_get}
 use Rattle.std.specs.Option.{option_map, option_and_then}
+use Rattle.c_core.specs.declared.code.Kind.{Kind}
+use Rattle.c_core.specs.declared.code.Kind.TheVariants.{Tagged, Int64, Char, Object}
+use Rattle.c_core.specs.Primitives.{KindAt, Is, OfGlobal, OfSlot, Outcome, Nothing, Owned, Lent, row_of}
 use Rattle.c_core.specs.declared.primitive.Primitive.{Primitive}
 use Rattle.c_core.specs.declared.primitive.Primitive.TheVariants as prim
 use Rattle.c_core.specs.declared.primitive.Int64Prim.TheVariants as int64
@@ -21,7 +24,7 @@ use Rattle.c_core.specs.declared.primitive.IoPrim.TheVariants as io
 use Rattle.ir_core.specs.declared.code.ErrorKind.{ErrorKind}
 use Rattle.ir_core.specs.declared.code.ErrorKind.TheVariants.{Never, Magic, Always, MagicOverlapping}
 use Rattle.ir_core.specs.declared.code.RType.{RType}
-use Rattle.ir_core.specs.declared.code.RType.TheVariants.{I64}
+use Rattle.ir_core.specs.declared.code.RType.TheVariants.{Int, I64, Bool, Ref}
 use Rattle.ir_core.specs.declared.code.Op.{Op}
 use Rattle.ir_core.specs.declared.code.Op.TheVariants as op
 use Rattle.ir_core.specs.declared.code.Reg.{Reg}
@@ -116,6 +119,24 @@ failing (prim.Err err.Catch) = NeverFails
 failing (prim.Io io.Write) = NeverFails
 failing (prim.Io io.Input) = MayFail
 
+-- the type of the registers that hold words of a kind
+abbrev pub register_type : Kind → RType
+register_type Tagged = Int
+register_type Int64 = I64
+register_type Char = Bool
+register_type Object = Ref
+
+-- the type of what an operation gives: its row says it, or leaves it to a slot or a global, and then it is that of the target
+abbrev pub type_at : KindAt → Option RType → Option RType
+type_at (Is k) t = Some (register_type k)
+type_at OfGlobal t = t
+type_at OfSlot t = t
+
+abbrev pub type_given : Outcome → Option RType → Option RType
+type_given Nothing t = None
+type_given (Owned k) t = type_at k t
+type_given (Lent k) t = type_at k t
+
 -- what may fail tells it by the error value of its result, which for a native integer is an ordinary value too
 abbrev pub kind_by_result : Option RType → ErrorKind
 kind_by_result (Some I64) = MagicOverlapping
@@ -126,9 +147,9 @@ kind_by NeverFails t = Never
 kind_by MayFail t = kind_by_result t
 kind_by AlwaysFails t = Always
 
--- the error kind of a primitive whose target has this type, if it has one
+-- the error kind of a primitive, whose target, if it has one, has this type
 abbrev pub error_kind : Primitive → Option RType → ErrorKind
-error_kind p t = kind_by (failing p) t
+error_kind p t = kind_by (failing p) (type_given (row_of p).outcome t)
 
 -- what is to stand behind an operation of a kind and a target
 abbrev pub edge_of_kind : ErrorKind → Option Reg → Edge

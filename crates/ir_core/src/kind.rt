@@ -1,5 +1,5 @@
 //! How an operation tells that it failed, and what wants to stand behind it.
-ghost use Rattle.std.specs.Prelude.{◌≡◌, Some};
+ghost use Rattle.std.specs.Prelude.{◌≡◌, Option, Some};
 ghost use Rattle.ir_core.specs.Items.{End, in_block, item_in};
 ghost use Rattle.ir_core.specs.Rows.{error_kind, kind_by_result, edge_of_kind, type_of_reg, edge_of_op};
 ghost use Rattle.ir_core.specs.Meaning as spec;
@@ -20,34 +20,44 @@ pub enum Edge {
     Jumps,
 }
 
-/// The error kind of a primitive whose target, if it has one, has this type.
+/// The error kind of a primitive whose target, if it has one, has this type. The row of the primitive decides; only where it
+/// leaves the kind of its result to a slot or a global the target does.
 pub fn kind_of(p: Prim, target: Option<RType>) -> ErrorKind
     ensures { result ≡ error_kind p target }
 {
     match p {
         Prim::Int64(
             Int64Prim::FloorDivide | Int64Prim::Remainder | Int64Prim::Lshift | Int64Prim::Rshift,
-        )
-        | Prim::Tagged(
-            TaggedPrim::Add
-            | TaggedPrim::Subtract
-            | TaggedPrim::Multiply
-            | TaggedPrim::Negate
-            | TaggedPrim::FloorDivide
-            | TaggedPrim::Remainder
-            | TaggedPrim::Lshift
-            | TaggedPrim::Rshift
-            | TaggedPrim::AsInt64,
-        )
-        | Prim::Str(StrPrim::GetItem)
+        ) => ErrorKind::MagicOverlapping,
+        Prim::Tagged(p) => kind_of_tagged(p),
+        Prim::Str(StrPrim::GetItem)
         | Prim::List(
             ListPrim::GetItem | ListPrim::GetItemBorrow | ListPrim::SetItem | ListPrim::Pop,
         )
         | Prim::Dict(DictPrim::GetItem | DictPrim::DelItem | DictPrim::CheckSize)
-        | Prim::Attr(AttrPrim::Get | AttrPrim::GetBorrow)
-        | Prim::Global(GlobalPrim::Get)
-        | Prim::Io(IoPrim::Input) => by_result(target),
+        | Prim::Io(IoPrim::Input) => ErrorKind::Magic,
+        Prim::Attr(AttrPrim::Get | AttrPrim::GetBorrow) | Prim::Global(GlobalPrim::Get) => {
+            by_result(target)
+        }
         Prim::Err(ErrPrim::SetObject | ErrPrim::Unbound) => ErrorKind::Always,
+        _ => ErrorKind::Never,
+    }
+}
+
+// The error kind of a primitive of `int`s, whatever its target.
+fn kind_of_tagged(p: TaggedPrim) -> ErrorKind
+    ensures { (target : Option RType) → result ≡ error_kind (Prim.Tagged p) target }
+{
+    match p {
+        TaggedPrim::AsInt64 => ErrorKind::MagicOverlapping,
+        TaggedPrim::Add
+        | TaggedPrim::Subtract
+        | TaggedPrim::Multiply
+        | TaggedPrim::Negate
+        | TaggedPrim::FloorDivide
+        | TaggedPrim::Remainder
+        | TaggedPrim::Lshift
+        | TaggedPrim::Rshift => ErrorKind::Magic,
         _ => ErrorKind::Never,
     }
 }

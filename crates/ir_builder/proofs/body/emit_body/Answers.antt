@@ -1,8 +1,4 @@
-use Rattle.std.specs.Option.{option_map, option_copied}
-use Rattle.py_typed.specs.Sorts.{sort}
-use Rattle.std.proofs.Common.{arith, refl}
-use Rattle.ir_builder_frames.specs.Settings.{setting}
-use Rattle.ir_builder.specs.Bodies.{body_frame}
+use Rattle.ir_builder.proofs.Common.{option_map, option_copied, sort, arith, refl, setting, body_frame}
 use Rattle.ir_builder.proofs.BodyLemmas.{bodied, given_kinds}
 use Rattle.ir_builder.proofs.body.emit_body.Goals as goal
 

@@ -1,4 +1,4 @@
-use Rattle.std.proofs.Common.{◌∙◌, sym, arith}
+use Rattle.ir_builder.proofs.Common.{◌∙◌, sym, arith}
 use Rattle.ir_builder.proofs.FillLemmas.{filled_set, filled_past, filled_end}
 use Rattle.ir_builder.proofs.body.fill.Goals.{then-is_open, else-is_open}
 use Rattle.ir_builder.proofs.body.fill.Goals as goal

@@ -1,7 +1,4 @@
-use Rattle.std.proofs.Common.{◌≤◌}
-use Rattle.ir_builder_frames.specs.Shaped.{KeepsIf}
-use Rattle.ir_builder_frames.specs.Kinds.{KeepsKinds}
-use Rattle.ir_builder.specs.Bodies.{Filled}
+use Rattle.ir_builder.proofs.Common.{◌≤◌, KeepsIf, KeepsKinds, Filled}
 use Rattle.ir_builder.proofs.body.fill.Given as goal
 
 abbrev pub invariant-loop-k : goal.invariant-loop-k

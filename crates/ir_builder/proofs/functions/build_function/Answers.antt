@@ -1,5 +1,4 @@
-use Rattle.std.proofs.Common.{rules, ◌≡◌, ◌∙◌, map, refl, sym}
-use Rattle.py_typed.specs.Statements.{typed_module, typed_func, variable}
+use Rattle.ir_builder.proofs.Common.{rules, ◌≡◌, ◌∙◌, map, refl, sym, typed_module, typed_func, variable}
 use Rattle.ir_builder_frames.proofs.MatchLemmas.{room_on}
 use Rattle.ir_builder.proofs.ArgumentLemmas.{map_length}
 use Rattle.ir_builder.proofs.FunctionLemmas.{registers_differ, begin_room, few_params, function_is}

@@ -1,5 +1,4 @@
-use Rattle.std.proofs.Common.{refl}
-use Rattle.py_typed.specs.Statements.{typed_module}
+use Rattle.ir_builder.proofs.Common.{refl, typed_module}
 use Rattle.ir_builder.proofs.FunctionLemmas.{own_is}
 use Rattle.ir_builder.proofs.functions.build_own.Goals as goal
 

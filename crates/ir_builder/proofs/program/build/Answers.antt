@@ -1,5 +1,4 @@
-use Rattle.py_typed.specs.Statements.{typed_module}
-use Rattle.ir_builder_frames.proofs.HeldLemmas.{ok_map}
+use Rattle.ir_builder.proofs.Common.{typed_module, ok_map}
 use Rattle.ir_builder_shapes_laws.proofs.Whole.{built_has_shape}
 use Rattle.ir_builder.proofs.WholeLemmas.{is_calm, does_as_module, is_program, no_tests}
 use Rattle.ir_builder.proofs.program.build.Goals as goal

@@ -1,4 +1,4 @@
-use Rattle.py_typed.specs.Statements.{typed_module}
+use Rattle.ir_builder.proofs.Common.{typed_module}
 use Rattle.ir_builder.proofs.WholeLemmas.{suits_at, built_next}
 use Rattle.ir_builder.proofs.program.build_functions.Goals as goal
 

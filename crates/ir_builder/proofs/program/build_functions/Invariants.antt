@@ -1,6 +1,4 @@
-use Rattle.std.proofs.Common.{map, take}
-use Rattle.py_typed.specs.Statements.{typed_module, typed_func}
-use Rattle.ir_builder.specs.Functions.{AllBuilt}
+use Rattle.ir_builder.proofs.Common.{map, take, typed_module, typed_func, AllBuilt}
 use Rattle.ir_builder.proofs.program.build_functions.Given as goal
 
 abbrev pub invariant-loop-f : goal.invariant-loop-f

@@ -1,4 +1,4 @@
-use Rattle.std.proofs.Common.{◌-◌, arith}
+use Rattle.ir_builder.proofs.Common.{◌-◌, arith}
 use Rattle.ir_builder.proofs.RegisterLemmas.{flags_more, keeps_more}
 use Rattle.ir_builder.proofs.registers.add_flags.Goals as goal
 

@@ -1,7 +1,4 @@
-use Rattle.std.proofs.Common.{◌-◌}
-use Rattle.ir_builder_frames.specs.Shaped.{Keeps}
-use Rattle.ir_builder_frames.specs.Kinds.{KeepsKinds}
-use Rattle.ir_builder.specs.Registers.{AddsFlags}
+use Rattle.ir_builder.proofs.Common.{◌-◌, Keeps, KeepsKinds, AddsFlags}
 use Rattle.ir_builder.proofs.registers.add_flags.Given as goal
 
 abbrev pub invariant-loop-variable : goal.invariant-loop-variable

@@ -1,6 +1,4 @@
-use Rattle.std.proofs.Common.{◌≡◌, map, take}
-use Rattle.py_typed.specs.Statements.{variable}
-use Rattle.ir_builder.specs.Registers.{variable_registers}
+use Rattle.ir_builder.proofs.Common.{◌≡◌, map, take, variable, variable_registers}
 use Rattle.ir_builder.proofs.registers.registers_for.Given as goal
 
 abbrev pub invariant-loop-one : goal.invariant-loop-one

@@ -25,7 +25,8 @@ use Rattle.ir_builder_expressions.proofs.WalkingLemmas.{walks_refl, walks_known,
 use Rattle.ir_builder_expressions.proofs.ArgumentLemmas.{argument_suits, passing_none, passing_on, passing_ends}
 use Rattle.ir_builder_expressions.proofs.GoingLemmas.{going_walks, going_start, going_at, going_on, going_over, first_suits, item_suits, chain_empty, Chain}
 use Rattle.ir_builder_expressions.specs.declared.comparing.Side.{Side}
-use Rattle.ir_builder_expressions.specs.Comparing.{kind_sort, is_compared}
+use Rattle.ir_builder_expressions.specs.Parts.{is_pair}
+use Rattle.ir_builder_expressions.specs.Comparing.{kind_sort}
 use Rattle.ir_builder_expressions.proofs.SideLemmas.{side_emits}
 use Rattle.ir_builder_expressions.proofs.WeightLemmas.{weight_of_arm, weight_of_all, weight_of_chain, same_weight, compare_weight, and_weight, or_weight, cond_weight, call_weight, member_weight, first_weight, later_weight}
 use Rattle.ir_builder_expressions.proofs.UnsuitedLemmas.{applied_left}
@@ -472,7 +473,7 @@ emit_chain-emit_pair-requires t c =
     let x : Setting = setting c.args.checked.now c.args.locals.now c.args.frame in
     let k = first_suits x (kind_sort c.args.first.own) c.args.rest.now c.index-rest-0.result c.index-rest-0-2.result c.in-len1-up.len_at_least c.requires.suits in
     let side = c.in_ok-left-in-len1-up.ensures.emitted in
-    record { ordering = k.0; compared = subst (λ z. is_compared (kind_sort c.args.first.own) z ≡ true) (sym side.own) k.1; left_shown = c.requires.shown; right_shown = side.shown; left = type_kept _ _ _ _ c.in_ok-left-in-len1-up.ensures.walked.kept c.requires.first; right = side.emits.type }
+    record { ordering = k.0; compared = subst (λ z. is_pair (kind_sort c.args.first.own) z ≡ true) (sym side.own) k.1; left_shown = c.requires.shown; right_shown = side.shown; left = type_kept _ _ _ _ c.in_ok-left-in-len1-up.ensures.walked.kept c.requires.first; right = side.emits.type }
 
 pub emit_chain-returns-in_err-holds-in-len1-up-clause-walked : goal.emit_chain-returns-in_err-holds-in-len1-up-clause-walked
 emit_chain-returns-in_err-holds-in-len1-up-clause-walked t c =
@@ -524,7 +525,7 @@ emit_chain-emit_pair-requires-in-loop-op t c =
     let more : Chain = take (length c.args.rest.now - 1) (drop 1 c.args.rest.now) in
     let k = item_suits x (kind_sort c.loop-op.left.own) more c.loop-op.op-index c.loop-op-item.result c.loop-op-test.true c.loop-op-item.is c.loop-op.invariant.suits in
     let side = c.in_ok-right-in-len1-up.ensures.emitted in
-    record { ordering = k.0; compared = subst (λ z. is_compared (kind_sort c.loop-op.left.own) z ≡ true) (sym side.own) k.1; left_shown = c.loop-op.invariant.shown; right_shown = side.shown; left = type_kept _ _ _ _ (extends_trans _ _ _ c.in_ok-begin_link-in-len1-up.ensures.kept c.in_ok-right-in-len1-up.ensures.walked.kept) c.loop-op.invariant.operand; right = side.emits.type }
+    record { ordering = k.0; compared = subst (λ z. is_pair (kind_sort c.loop-op.left.own) z ≡ true) (sym side.own) k.1; left_shown = c.loop-op.invariant.shown; right_shown = side.shown; left = type_kept _ _ _ _ (extends_trans _ _ _ c.in_ok-begin_link-in-len1-up.ensures.kept c.in_ok-right-in-len1-up.ensures.walked.kept) c.loop-op.invariant.operand; right = side.emits.type }
 
 pub emit_chain-loop-op-preserved : goal.emit_chain-loop-op-preserved
 emit_chain-loop-op-preserved t c =

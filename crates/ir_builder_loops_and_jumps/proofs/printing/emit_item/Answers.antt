@@ -1,5 +1,4 @@
-use Rattle.py_typed.specs.Sorts.{sort}
-use Rattle.ir_builder_frames.proofs.HeldLemmas.{on_ok_map}
+use Rattle.ir_builder_loops_and_jumps.proofs.Common.{sort, on_ok_map}
 use Rattle.ir_builder_loops_and_jumps.proofs.PrintLemmas.{first_item, later_item}
 use Rattle.ir_builder_loops_and_jumps.proofs.printing.emit_item.Goals as goal
 

@@ -1,4 +1,4 @@
-use Rattle.ir_builder_frames.proofs.HeldLemmas.{on_ok_map}
+use Rattle.ir_builder_loops_and_jumps.proofs.Common.{on_ok_map}
 use Rattle.ir_builder_loops_and_jumps.proofs.PrintLemmas.{text_written}
 use Rattle.ir_builder_loops_and_jumps.proofs.printing.emit_literal.Goals as goal
 

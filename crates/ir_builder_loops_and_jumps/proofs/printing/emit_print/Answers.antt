@@ -1,9 +1,4 @@
-use Rattle.std.proofs.Common.{◌<◌, length, arith, rules, get_or}
-use Rattle.py_typed.specs.Sorts.{sort}
-use Rattle.py_typed.specs.declared.expression.TExpr.{TExpr}
-use Rattle.ir_core.specs.declared.code.Reg.{Reg}
-use Rattle.ir_builder_frames.specs.Settings.{rtype_of}
-use Rattle.ir_builder_frames.proofs.HeldLemmas.{on_ok_map, type_kept}
+use Rattle.ir_builder_loops_and_jumps.proofs.Common.{◌<◌, length, arith, rules, get_or, sort, TExpr, Reg, rtype_of, on_ok_map, type_kept}
 use Rattle.ir_builder_loops_and_jumps.proofs.PrintLemmas.{printing_none, printing_on, as_many, item_written, item_type, line_written, item_own}
 use Rattle.ir_builder_loops_and_jumps.proofs.printing.emit_print.Goals as goal
 

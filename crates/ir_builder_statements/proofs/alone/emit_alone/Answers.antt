@@ -1,6 +1,4 @@
-use Rattle.py_typed.specs.Expressions.{typed_expr}
-use Rattle.ir_builder_frames.specs.Settings.{Setting, setting}
-use Rattle.ir_builder_frames.proofs.HeldLemmas.{on_ok_map}
+use Rattle.ir_builder_statements.proofs.Common.{typed_expr, Setting, setting, on_ok_map}
 use Rattle.ir_builder_statements.proofs.AloneLemmas.{print_alone, value_alone}
 use Rattle.ir_builder_statements.proofs.alone.emit_alone.Goals as goal
 

@@ -1,10 +1,4 @@
-use Rattle.std.proofs.Common.{List, map, subst}
-use Rattle.py_typed.specs.Expressions.{typed_expr, type_of}
-use Rattle.source_meaning.specs.Operations.{line_of}
-use Rattle.ir_core.specs.declared.code.Reg.{Reg}
-use Rattle.ir_builder_loops_and_jumps.specs.Printing.{Writes}
-use Rattle.ir_builder_frames.specs.Settings.{Setting, setting}
-use Rattle.ir_builder_frames.proofs.HeldLemmas.{on_ok_map}
+use Rattle.ir_builder_statements.proofs.Common.{List, map, subst, typed_expr, type_of, line_of, Reg, Writes, Setting, setting, on_ok_map}
 use Rattle.ir_builder_statements.proofs.AloneLemmas.{printed_suit, printed_texts, printing_code}
 use Rattle.ir_builder_statements.proofs.alone.emit_printing.Goals as goal
 

@@ -1,8 +1,6 @@
-use Rattle.std.proofs.Common.{arith, inr, refl, le_refl}
+use Rattle.ir_builder_statements.proofs.Common.{◌≡◌, ◌∙◌, ap, length, arith, inr, refl, le_refl, Building, extends_trans, type_kept, planned, jumping_blocks, plan_fits, loop_above, turn_ends}
+use Rattle.ir_builder_loops_and_jumps.specs.Around.{looping_to}
 use Rattle.ir_core.specs.declared.code.RType.TheVariants.{Bool}
-use Rattle.ir_builder_frames.proofs.HeldLemmas.{extends_trans, type_kept}
-use Rattle.ir_builder_loops_and_jumps.specs.Ways.{planned}
-use Rattle.ir_builder_loops_and_jumps.proofs.PlanLemmas.{plan_fits, loop_above, turn_ends}
 use Rattle.ir_builder_statements.proofs.PartLemmas.{open_kept, open_tested, still_open}
 use Rattle.ir_builder_statements.proofs.branch.end_loop.Goals as goal
 
@@ -24,7 +22,7 @@ returns-clause-ends c = record {
   passed = c.in_ok-pass_on.ensures;
   tested = c.patch.new.self;
   set = c.patch.ensures.set;
-  patching = c.patch_all.ensures.patching;
+  jumps = c.patch_all.ensures.jumps;
 }
 
 pub returns-clause-shaped : goal.returns-clause-shaped
@@ -39,7 +37,7 @@ returns-clause-shaped c = λ n m low up s.
     let turns = c.in_ok-push.ensures.pushed in
     let closes = c.in_ok-close.ensures.closed in
     let same = c.patch.ensures.len in
-    let patching = c.patch_all.ensures.patching in
+    let all : length c.patch_all.new.b.blocks ≡ length c.patch.new.self.blocks = ap (λ (v : Building). length v.blocks) c.patch_all.ensures.jumps ∙ jumping_blocks (planned (looping_to exit c.args.next)) c.args.inner.now c.patch.new.self in
     let s2 = c.in_ok-push.ensures.shaped n m (search) s in
     let s3 = c.in_ok-close.ensures.shaped n m (inr (first, turn_ends c.args.b.now c.push.new.self c.args.line (rw c.in_ok-push.ensures.is refl)), omega arith) s2 in
     let s4 = c.patch.ensures.shaped n m ((omega arith, omega arith), (omega arith, omega arith)) s3 in

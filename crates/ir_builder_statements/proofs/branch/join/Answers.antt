@@ -1,6 +1,5 @@
-use Rattle.std.proofs.Common.{arith, le_refl}
-use Rattle.ir_builder_loops_and_jumps.specs.Ways.{planned}
-use Rattle.ir_builder_loops_and_jumps.proofs.PlanLemmas.{plan_fits, join_above}
+use Rattle.ir_builder_statements.proofs.Common.{◌≡◌, ◌∙◌, ap, length, arith, le_refl, Building, planned, jumping_blocks, plan_fits, join_above}
+use Rattle.ir_builder_loops_and_jumps.specs.Around.{joining}
 use Rattle.ir_builder_statements.proofs.PartLemmas.{open_kept}
 use Rattle.ir_builder_statements.proofs.branch.join.Goals as goal
 
@@ -12,7 +11,7 @@ returns-clause-shaped c = λ n m low up s.
     let end = c.in_ok-end.end in
     let is = c.in_ok-end.ensures.number in
     let one = c.in_ok-end.ensures.closed.blocks in
-    let all = c.patch_all.ensures.patching.blocks in
+    let all : length c.patch_all.new.b.blocks ≡ length c.step_on.new.self.blocks = ap (λ (v : Building). length v.blocks) c.patch_all.ensures.jumps ∙ jumping_blocks (planned (joining end)) c.args.inner.now c.step_on.new.self in
     c.patch_all.ensures.shaped n m
     (plan_fits _ _ _ m (planned _) c.args.inner.now c.requires.opens.1 (join_above _ m end (omega arith, omega arith)))
     (c.in_ok-end.ensures.shaped n m low (omega arith) s)

@@ -1,5 +1,4 @@
-use Rattle.std.proofs.Common.{◌≡◌, ◌++◌, drop}
-use Rattle.ir_builder_loops_and_jumps.specs.Ways.{left, planned}
+use Rattle.ir_builder_statements.proofs.Common.{◌≡◌, ◌++◌, drop, left, planned}
 use Rattle.ir_builder_statements.proofs.exits.pass_on.Given as goal
 
 abbrev pub invariant-loop-exit : goal.invariant-loop-exit

@@ -1,8 +1,4 @@
-use Rattle.py_typed.specs.Sorts.{sort}
-use Rattle.py_typed.specs.Expressions.{typed_expr}
-use Rattle.ir_core.specs.declared.code.Reg.{Reg}
-use Rattle.ir_builder_frames.specs.Settings.{Setting, setting}
-use Rattle.ir_builder_frames.proofs.HeldLemmas.{ok_map}
+use Rattle.ir_builder_statements.proofs.Common.{sort, typed_expr, Reg, Setting, setting, ok_map}
 use Rattle.ir_builder_statements.proofs.AssignLemmas.{result_turned}
 use Rattle.ir_builder_statements.proofs.simple.emit_changed.Goals as goal
 

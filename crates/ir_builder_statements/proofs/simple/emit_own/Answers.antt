@@ -1,4 +1,4 @@
-use Rattle.py_typed.specs.Sorts.{sort}
+use Rattle.ir_builder_statements.proofs.Common.{sort}
 use Rattle.ir_builder_statements.proofs.AssignLemmas.{text_stays}
 use Rattle.ir_builder_statements.proofs.simple.emit_own.Goals as goal
 

@@ -1,5 +1,4 @@
-use Rattle.py_typed.specs.Statements.{maybe_typed}
-use Rattle.ir_builder_frames.specs.Settings.{Setting, setting}
+use Rattle.ir_builder_statements.proofs.Common.{maybe_typed, Setting, setting}
 use Rattle.ir_builder_statements.proofs.ReturnLemmas.{return_code}
 use Rattle.ir_builder_statements.proofs.simple.emit_return.Goals as goal
 

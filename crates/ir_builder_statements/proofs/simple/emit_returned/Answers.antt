@@ -1,6 +1,4 @@
-use Rattle.ir_core.specs.declared.code.Reg.{Reg}
-use Rattle.ir_builder_frames.specs.Settings.{Setting, setting}
-use Rattle.ir_builder_frames.proofs.HeldLemmas.{ok_map}
+use Rattle.ir_builder_statements.proofs.Common.{Reg, Setting, setting, ok_map}
 use Rattle.ir_builder_statements.proofs.ReturnLemmas.{none_returned, value_returned}
 use Rattle.ir_builder_statements.proofs.simple.emit_returned.Goals as goal
 

@@ -1,14 +1,4 @@
-use Rattle.std.proofs.Common.{subst, sym}
-use Rattle.py_typed.specs.Sorts.{sort}
-use Rattle.py_typed.specs.Expressions.{type_of, typed_expr}
-use Rattle.py_typed.specs.Statements.{typed_target}
-use Rattle.ir_builder_frames.specs.Settings.{Setting, setting}
-use Rattle.ir_builder_frames.proofs.HeldLemmas.{extends_trans, on_ok_map}
-use Rattle.ir_builder_expressions.specs.declared.applying.Binary.{Binary}
-use Rattle.ir_builder_expressions.specs.Applying.{BinarySuits}
-use Rattle.ir_builder_expressions.specs.Suiting.{Suits}
-use Rattle.py_typed.proofs.ExpressionLemmas.{type_at}
-use Rattle.ir_builder_statements.specs.Parts.{ComputesAs, update_binary}
+use Rattle.ir_builder_statements.proofs.Common.{subst, sym, sort, type_of, typed_expr, typed_target, Setting, setting, extends_trans, on_ok_map, Binary, BinarySuits, Suits, type_at, ComputesAs, update_binary}
 use Rattle.ir_builder_statements.proofs.AssignLemmas.{own_suits, reading_suits, updated_simple, update_turns, update_fits, update_code, update_takes}
 use Rattle.ir_builder_statements.proofs.simple.emit_update.Goals as goal
 

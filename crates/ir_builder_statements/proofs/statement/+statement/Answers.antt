@@ -1,21 +1,8 @@
-use Rattle.std.specs.Option.{option_map, option_copied}
-use Rattle.py_typed.specs.Sorts.{sort}
-use Rattle.std.proofs.Common.{rules, map, true, le_refl}
-use Rattle.py_typed.specs.declared.statement.TStmt.{the_lemmas}
-use Rattle.py_typed.specs.Expressions.{typed_expr}
-use Rattle.py_typed.specs.Statements.{typed_module, maybe_typed, typed_stmt, typed_suite, typed_arm, arms_of}
+use Rattle.ir_builder_statements.proofs.Common.{option_map, option_copied, sort, rules, map, true, le_refl, the_lemmas, typed_expr, typed_module, maybe_typed, typed_stmt, typed_suite, typed_arm, arms_of, Setting, setting, HasRoom, extends_refl, extends_trans, type_kept, on_ok_map, either_way, room_on, means_loop, means_statement, means_suite, nothing_emitted, next_emitted, alone_emitted, assignment_emitted, update_emitted, loop_open, loop_emitted, nothing_tested, next_tested, if_emitted, pass_emitted, break_emitted, continue_emitted, join_open, SuiteSuits, ArmsSuit, LoopSuits, keeps_both}
 use Rattle.ir_core.specs.declared.code.RType.TheVariants.{Bool}
-use Rattle.ir_builder_frames.specs.Settings.{Setting, setting}
-use Rattle.ir_builder_frames.specs.Matching.{HasRoom}
-use Rattle.ir_builder_frames.proofs.HeldLemmas.{extends_refl, extends_trans, type_kept, on_ok_map, either_way}
-use Rattle.ir_builder_frames.proofs.MatchLemmas.{room_on}
-use Rattle.ir_builder_loops_and_jumps.specs.Means.{means_loop, means_statement, means_suite}
-use Rattle.ir_builder_loops_and_jumps.proofs.EmitLemmas.{nothing_emitted, next_emitted, alone_emitted, assignment_emitted, update_emitted, loop_open, loop_emitted, nothing_tested, next_tested, if_emitted, pass_emitted, break_emitted, continue_emitted, join_open}
-use Rattle.ir_builder_statements.specs.Suiting.{SuiteSuits, ArmsSuit, LoopSuits}
 use Rattle.ir_builder_statements.proofs.SuiteLemmas.{suite_step, arms_step, loop_suits, loop_body, loop_means, if_suits, return_suits, break_suits, continue_suits}
-use Rattle.ir_builder_statements.proofs.BodyLemmas.{on_ok_both, return_made, condition_type, four_keep, arm_blocks, loop_blocks, kinds_among, kinds_always, kinds_returned, if_kinds, loop_kinds}
+use Rattle.ir_builder_statements.proofs.BodyLemmas.{on_ok_both, return_made, condition_type, four_keep, join_keeps, arm_blocks, loop_blocks, kinds_among, kinds_always, kinds_returned, if_kinds, loop_kinds}
 use Rattle.ir_builder_statements.proofs.statement.+statement.Goals as goal
-use Rattle.ir_builder_expressions.proofs.LinkLemmas.{keeps_both}
 
 -- ---- rows
 
@@ -23,7 +10,8 @@ pub emit_block-loop-s-init : goal.emit_block-loop-s-init
 emit_block-loop-s-init t c =
     let x : Setting = setting c.args.checked.now c.args.locals.now c.args.frame in
     record {
-      so_far = nothing_emitted x (option_map sort (option_copied c.args.gives)) c.args.looping c.args.b.now c.args.exits.now.items;
+      so_far = λ end zs e. e;
+      kept = extends_refl c.args.b.now;
       suits = c.requires.suits;
       room = c.requires.room;
       shaped = λ n m low up s. s;
@@ -36,12 +24,18 @@ emit_block-loop-s-preserved t c =
     let i = c.loop-s.invariant in
     let k = c.in_ok-emit_statement.ensures in
     record {
-      so_far = next_emitted x (option_map sort (option_copied c.args.gives)) c.args.looping c.args.body.now c.loop-s.s-index c.s-item.result _ _ _ _ _ _ c.loop-s-test.true c.s-item.is i.so_far k.emitted;
+      so_far = λ end zs e. i.so_far end zs (next_emitted x (option_map sort (option_copied c.args.gives)) c.args.looping c.args.body.now c.loop-s.s-index c.s-item.result _ _ end _ _ zs c.loop-s-test.true c.s-item.is k.emitted e);
+      kept = extends_trans _ _ _ i.kept k.kept;
       suits = (suite_step x.source x.variables (option_map sort (option_copied c.args.gives)) c.args.looping c.args.body.now c.loop-s.s-index c.s-item.result c.loop-s-test.true c.s-item.is i.suits).1;
       room = room_on x _ _ k.kept i.room;
-      shaped = keeps_both c.args.b.now c.loop-s.b c.emit_statement.new.b i.so_far.works.extends.regs_grow k.kept.blocks_grow i.shaped k.shaped;
+      shaped = keeps_both c.args.b.now c.loop-s.b c.emit_statement.new.b i.kept.regs_grow k.kept.blocks_grow i.shaped k.shaped;
       kinds = λ g around h. k.kinds g around (i.kinds g around h);
     }
+
+pub emit_block-returns-clause-emitted : goal.emit_block-returns-clause-emitted
+emit_block-returns-clause-emitted t c =
+    let x : Setting = setting c.args.checked.now c.args.locals.now c.args.frame in
+    c.loop-s.invariant.so_far _ _ (nothing_emitted x (option_map sort (option_copied c.args.gives)) c.args.looping c.args.body.now c.loop-s.s-index _ _ c.loop-s-test.false)
 
 -- ---- statements
 
@@ -121,7 +115,7 @@ pub emit_arms-loop-e-init : goal.emit_arms-loop-e-init
 emit_arms-loop-e-init t c =
     let x : Setting = setting c.args.checked.now c.args.locals.now c.args.frame in
     record {
-      so_far = nothing_tested x (option_map sort (option_copied c.args.gives)) c.args.looping c.args.b.now c.args.exits.now.items c.requires.none;
+      so_far = nothing_tested x (option_map sort (option_copied c.args.gives)) c.args.looping c.args.arms.now c.args.b.now c.args.exits.now.items c.requires.none;
       suits = c.requires.suits;
       room = c.requires.room;
       shaped = λ n m low up s. s;
@@ -138,11 +132,11 @@ emit_arms-emit_block-requires t c =
 
 pub emit_arms-returns-in_err-emit_block-clause-kept : goal.emit_arms-returns-in_err-emit_block-clause-kept
 emit_arms-returns-in_err-emit_block-clause-kept t c =
-    extends_trans _ _ _ c.loop-e.invariant.so_far.works.extends (extends_trans _ _ _ c.in_ok-test.ensures.kept c.in_err-emit_block.ensures.kept)
+    extends_trans _ _ _ c.loop-e.invariant.so_far.extends (extends_trans _ _ _ c.in_ok-test.ensures.kept c.in_err-emit_block.ensures.kept)
 
 pub emit_arms-returns-in_err-end_arm-clause-kept : goal.emit_arms-returns-in_err-end_arm-clause-kept
 emit_arms-returns-in_err-end_arm-clause-kept t c =
-    extends_trans _ _ _ c.loop-e.invariant.so_far.works.extends (extends_trans _ _ _ c.in_ok-test.ensures.kept (extends_trans _ _ _ c.in_ok-emit_block.ensures.kept c.in_err-end_arm.ensures.kept))
+    extends_trans _ _ _ c.loop-e.invariant.so_far.extends (extends_trans _ _ _ c.in_ok-test.ensures.kept (extends_trans _ _ _ c.in_ok-emit_block.ensures.kept c.in_err-end_arm.ensures.kept))
 
 pub emit_arms-loop-e-preserved : goal.emit_arms-loop-e-preserved
 emit_arms-loop-e-preserved t c =
@@ -153,12 +147,12 @@ emit_arms-loop-e-preserved t c =
     let p = c.in_ok-test.ensures in
     let q = c.in_ok-emit_block.ensures in
     let e = c.in_ok-end_arm.ensures in
-    let all = next_tested x (option_map sort (option_copied c.args.gives)) c.args.looping c.args.arms.now c.loop-e.e-index a c.as_slice-body.result.now c.args.b.now c.loop-e.b c.emit_split.new.b c.emit_block.new.b c.end_arm.new.b c.in_ok-test.test _ _ _ c.loop-e-test.true c.loop-e-item.is c.as_slice-body.ensures c.requires.room step.0.0 i.so_far p.splits q.emitted e.ends in
+    let all = next_tested x (option_map sort (option_copied c.args.gives)) c.args.looping c.args.arms.now c.loop-e.e-index a c.as_slice-body.result.now c.args.b.now c.loop-e.b c.emit_split.new.b c.emit_block.new.b c.end_arm.new.b c.in_ok-test.test _ _ _ c.loop-e-test.true c.loop-e-item.is c.as_slice-body.ensures i.room step.0.0 i.so_far p.splits q.emitted e.ends in
     record {
       so_far = all;
       suits = step.2;
-      room = room_on x _ _ all.works.extends c.requires.room;
-      shaped = four_keep c.args.b.now c.loop-e.b c.emit_split.new.b c.emit_block.new.b c.end_arm.new.b i.so_far.works.extends p.kept q.kept (arm_blocks _ _ _ _ _ e.ends) i.shaped p.shaped q.shaped e.shaped;
+      room = room_on x _ _ all.extends c.requires.room;
+      shaped = four_keep c.args.b.now c.loop-e.b c.emit_split.new.b c.emit_block.new.b c.end_arm.new.b i.so_far.extends p.kept q.kept (arm_blocks _ _ _ _ _ e.ends) i.shaped p.shaped q.shaped e.shaped;
       kinds = λ g around h. e.kinds g (condition_type x (option_map sort (option_copied c.args.gives)) (typed_expr a.0) c.loop-e.b c.emit_split.new.b c.emit_block.new.b c.in_ok-test.test step.0 p.splits q.kept) (q.kinds g around (p.kinds g around.among (i.kinds g around h)));
     }
 
@@ -171,20 +165,26 @@ emit_if-emit_block-requires t c =
 pub emit_if-join-requires : goal.emit_if-join-requires
 emit_if-join-requires t c =
     let x : Setting = setting c.args.checked.now c.args.locals.now c.args.frame in
-    record { opens = join_open x (option_map sort (option_copied c.args.gives)) c.args.looping _ _ _ _ _ c.emit_block.new.b _ _ c.deref.result.now c.in_ok-emit_arms.ensures.tested c.in_ok-emit_block.ensures.emitted (extends_refl c.emit_block.new.b) c.deref.ensures.value }
+    record { opens = join_open x (option_map sort (option_copied c.args.gives)) c.args.looping c.args.arms.now c.args.other.now _ _ _ _ _ c.deref.result.now c.in_ok-emit_arms.ensures.tested c.in_ok-emit_block.ensures.emitted c.deref.ensures.value }
 
 pub emit_if-returns-clause-emitted : goal.emit_if-returns-clause-emitted
 emit_if-returns-clause-emitted t c =
     let x : Setting = setting c.args.checked.now c.args.locals.now c.args.frame in
-    on_ok_map _ _ _ (if_emitted x (option_map sort (option_copied c.args.gives)) c.args.looping c.args.s.now c.args.arms.now c.args.other.now _ _ _ _ _ _ c.deref.result.now _ _ c.requires.is c.in_ok-emit_arms.ensures.tested c.in_ok-emit_block.ensures.emitted c.deref.ensures.value) c.join.ensures.joins
+    on_ok_map _ _ _ (if_emitted x (option_map sort (option_copied c.args.gives)) c.args.looping c.args.arms.now c.args.other.now _ _ _ _ _ c.deref.result.now c.in_ok-emit_arms.ensures.tested c.in_ok-emit_block.ensures.emitted c.deref.ensures.value c.args.s.now _ _ _ c.requires.is) c.join.ensures.joins
 
 pub emit_if-returns-clause-kept : goal.emit_if-returns-clause-kept
 emit_if-returns-clause-kept t c =
     let x : Setting = setting c.args.checked.now c.args.locals.now c.args.frame in
     either_way c.join.result _ _ _
-    (λ j. (if_emitted x (option_map sort (option_copied c.args.gives)) c.args.looping c.args.s.now c.args.arms.now c.args.other.now c.args.b.now c.emit_arms.new.b c.emit_block.new.b c.join.new.b _ _ c.deref.result.now c.args.exits.now.items c.join.new.exits.items c.requires.is c.in_ok-emit_arms.ensures.tested c.in_ok-emit_block.ensures.emitted c.deref.ensures.value j).works.extends)
+    (λ j. (if_emitted x (option_map sort (option_copied c.args.gives)) c.args.looping c.args.arms.now c.args.other.now c.args.b.now c.emit_arms.new.b c.emit_block.new.b _ _ c.deref.result.now c.in_ok-emit_arms.ensures.tested c.in_ok-emit_block.ensures.emitted c.deref.ensures.value c.args.s.now c.join.new.b c.args.exits.now.items c.join.new.exits.items c.requires.is j).works.extends)
     (λ k. extends_trans _ _ _ c.in_ok-emit_arms.ensures.kept (extends_trans _ _ _ c.in_ok-emit_block.ensures.kept k))
     c.join.ensures.joins c.join.ensures.kept
+
+pub emit_if-returns-clause-shaped : goal.emit_if-returns-clause-shaped
+emit_if-returns-clause-shaped t c =
+    on_ok_both _ _ _ _
+    (join_keeps c.args.b.now c.emit_arms.new.b c.emit_block.new.b c.join.new.b _ _ _ c.in_ok-emit_arms.ensures.kept c.in_ok-emit_block.ensures.kept c.in_ok-emit_arms.ensures.shaped c.in_ok-emit_block.ensures.shaped)
+    c.join.ensures.joins c.join.ensures.shaped
 
 pub emit_if-returns-clause-kinds : goal.emit_if-returns-clause-kinds
 emit_if-returns-clause-kinds t c =

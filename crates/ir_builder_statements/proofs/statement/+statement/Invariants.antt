@@ -1,18 +1,6 @@
-use Rattle.std.specs.Option.{option_map, option_copied}
-use Rattle.py_typed.specs.Sorts.{sort}
-use Rattle.std.proofs.Common.{◌+◌, ◌*◌, max, map, take, drop}
+use Rattle.ir_builder_statements.proofs.Common.{option_map, option_copied, sort, ◌+◌, ◌*◌, max, List, map, drop, size-TStmt, typed_module, typed_suite, typed_arm, arms_of, variable, Building, Extends, Exit, setting, HasRoom, Keeps, KeepsKindsIf, means_suite, Emitted, SuiteSuits, ArmsSuit, IsAround}
 use denote.Param.Weighed.{most}
-use Rattle.py_typed.specs.declared.statement.TStmt.{size-TStmt}
-use Rattle.py_typed.specs.Statements.{typed_module, typed_suite, typed_arm, arms_of, variable}
-use Rattle.ir_builder_frames.specs.Settings.{setting}
-use Rattle.ir_builder_frames.specs.Matching.{HasRoom}
-use Rattle.ir_builder_frames.specs.Shaped.{Keeps}
-use Rattle.ir_builder_frames.specs.Kinds.{KeepsKindsIf}
-use Rattle.ir_builder_loops_and_jumps.specs.Means.{means_suite}
-use Rattle.ir_builder_loops_and_jumps.specs.Runs.{Emitted}
-use Rattle.ir_builder_loops_and_jumps.specs.Tested.{means_arms, Tested}
-use Rattle.ir_builder_statements.specs.Suiting.{SuiteSuits, ArmsSuit}
-use Rattle.ir_builder_statements.specs.Kinds.{IsAround}
+use Rattle.ir_builder_loops_and_jumps.specs.Tested.{Tested}
 use Rattle.ir_builder_statements.proofs.SizeLemmas.{arm_size}
 use Rattle.ir_builder_statements.proofs.statement.+statement.Given as goal
 
@@ -33,7 +21,8 @@ decreases-emit_if l = max (most arm_size l.arms.now) (most size-TStmt l.other.no
 
 abbrev pub invariant-emit_block-loop-s : goal.invariant-emit_block-loop-s
 invariant-emit_block-loop-s l = record {
-  so_far : Emitted (setting l.checked l.locals l.frame) (option_map sort (option_copied l.gives)) l.looping (means_suite (setting l.checked l.locals l.frame) (typed_suite (take l.s-index l.body))) l.fn.b l.b l.fn.exits.items l.exits.items;
+  so_far : (end : Building) (zs : List Exit) → Emitted (setting l.checked l.locals l.frame) (option_map sort (option_copied l.gives)) l.looping (means_suite (setting l.checked l.locals l.frame) (typed_suite (drop l.s-index l.body))) l.b end l.exits.items zs → Emitted (setting l.checked l.locals l.frame) (option_map sort (option_copied l.gives)) l.looping (means_suite (setting l.checked l.locals l.frame) (typed_suite l.body)) l.fn.b end l.fn.exits.items zs;
+  kept : Extends l.fn.b l.b;
   suits : SuiteSuits (typed_module l.checked) (map variable l.locals) (option_map sort (option_copied l.gives)) l.looping (typed_suite (drop l.s-index l.body));
   room : HasRoom (setting l.checked l.locals l.frame) l.b;
   shaped : Keeps l.fn.b l.b;
@@ -42,7 +31,7 @@ invariant-emit_block-loop-s l = record {
 
 abbrev pub invariant-emit_arms-loop-e : goal.invariant-emit_arms-loop-e
 invariant-emit_arms-loop-e l = record {
-  so_far : Tested (setting l.checked l.locals l.frame) (option_map sort (option_copied l.gives)) l.looping (means_arms (setting l.checked l.locals l.frame) (take l.e-index l.arms)) l.fn.b l.b l.exits.items;
+  so_far : Tested (setting l.checked l.locals l.frame) (option_map sort (option_copied l.gives)) l.looping (drop l.e-index l.arms) l.arms l.fn.b l.b l.exits.items;
   suits : ArmsSuit (typed_module l.checked) (map variable l.locals) (option_map sort (option_copied l.gives)) l.looping (arms_of (map typed_arm (drop l.e-index l.arms)));
   room : HasRoom (setting l.checked l.locals l.frame) l.b;
   shaped : Keeps l.fn.b l.b;

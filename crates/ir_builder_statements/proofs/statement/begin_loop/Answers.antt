@@ -1,6 +1,4 @@
-use Rattle.ir_builder_frames.specs.Settings.{Setting, setting}
-use Rattle.ir_builder_frames.proofs.MatchLemmas.{room_on}
-use Rattle.ir_builder_loops_and_jumps.specs.declared.ways.LoopStart.{LoopStart}
+use Rattle.ir_builder_statements.proofs.Common.{Setting, setting, room_on, LoopStart}
 use Rattle.ir_builder_statements.proofs.BodyLemmas.{while_begun}
 use Rattle.ir_builder_statements.proofs.SuiteLemmas.{while_suits}
 use Rattle.ir_builder_statements.proofs.statement.begin_loop.Goals as goal

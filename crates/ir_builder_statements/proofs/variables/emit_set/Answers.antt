@@ -1,5 +1,4 @@
-use Rattle.py_typed.specs.Statements.{typed_module}
-use Rattle.ir_builder_frames.proofs.HeldLemmas.{on_ok_map}
+use Rattle.ir_builder_statements.proofs.Common.{typed_module, on_ok_map}
 use Rattle.ir_builder_statements.proofs.VariableLemmas.{local_flag, local_alike, local_set, global_takes, global_put}
 use Rattle.ir_builder_statements.proofs.variables.emit_set.Goals as goal
 

@@ -1,9 +1,5 @@
-use Rattle.std.proofs.Common.{◌≡◌, rules, ap, ◌∙◌, List, [], ◌∷◌, ◌++◌, get_or, refl, inr}
-use Rattle.py_typed.specs.declared.checked.Var.{Var}
-use Rattle.py_typed.specs.Statements.{typed_module}
-use Rattle.ir_core.specs.declared.code.PArg.{PArg}
+use Rattle.ir_builder_statements.proofs.Common.{◌≡◌, rules, ap, ◌∙◌, List, [], ◌∷◌, ◌++◌, get_or, refl, inr, Var, typed_module, PArg, on_ok_map}
 use Rattle.ir_core.specs.declared.code.PArg.TheVariants as arg
-use Rattle.ir_builder_frames.proofs.HeldLemmas.{on_ok_map}
 use Rattle.ir_builder_statements.proofs.VariableLemmas.{stored, global_sets, global_fits}
 use Rattle.ir_builder_statements.proofs.variables.set_global.Goals as goal
 use Rattle.ir_builder_statements.proofs.variables.set_global.Goals.{After-push-3}

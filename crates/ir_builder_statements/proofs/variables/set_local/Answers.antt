@@ -1,4 +1,4 @@
-use Rattle.ir_builder_frames.proofs.HeldLemmas.{on_ok_map}
+use Rattle.ir_builder_statements.proofs.Common.{on_ok_map}
 use Rattle.ir_builder_statements.proofs.VariableLemmas.{parameter_sets, variable_sets, flag_kinds}
 use Rattle.ir_builder_statements.proofs.variables.set_local.Goals as goal
 

@@ -1,6 +1,4 @@
-use Rattle.std.proofs.Common.{◌≡◌, map, drop}
-use Rattle.py_typed.specs.Sorts.{sort}
-use Rattle.py_typed.specs.Expressions.{comparisons_of, typed_comparison}
+use Rattle.ir_builder_supported.proofs.Common.{◌≡◌, map, drop, sort, comparisons_of, typed_comparison}
 use Rattle.ir_builder_supported.specs.Expressions as form
 use Rattle.ir_builder_supported.proofs.forms.are_pairs.Given as goal
 

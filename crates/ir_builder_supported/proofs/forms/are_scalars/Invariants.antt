@@ -1,5 +1,4 @@
-use Rattle.std.proofs.Common.{◌≡◌, map, drop}
-use Rattle.py_typed.specs.Statements.{variable}
+use Rattle.ir_builder_supported.proofs.Common.{◌≡◌, map, drop, variable}
 use Rattle.ir_builder_supported.specs.Statements as statement
 use Rattle.ir_builder_supported.proofs.forms.are_scalars.Given as goal
 

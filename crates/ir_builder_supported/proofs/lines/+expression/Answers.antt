@@ -1,6 +1,4 @@
-use Rattle.std.proofs.Common.{rules, ◌≡◌}
-use Rattle.py_typed.specs.Expressions.{typed_expr}
-use Rattle.ir_builder_supported.specs.Least.{expression_least}
+use Rattle.ir_builder_supported.proofs.Common.{rules, ◌≡◌, typed_expr, expression_least}
 use Rattle.ir_builder_supported.proofs.CodeLemmas.{comparison_found}
 use Rattle.ir_builder_supported.proofs.lines.+expression.Goals as goal
 

@@ -1,6 +1,4 @@
-use Rattle.std.proofs.Common.{◌≡◌, map, drop}
-use Rattle.py_typed.specs.Expressions.{typed_expr, exprs_of, comparisons_of, typed_comparison}
-use Rattle.ir_builder_supported.specs.Least.{row_least, chain_least}
+use Rattle.ir_builder_supported.proofs.Common.{◌≡◌, map, drop, typed_expr, exprs_of, comparisons_of, typed_comparison, row_least, chain_least}
 use Rattle.ir_builder_supported.proofs.lines.+expression.Given as goal
 
 abbrev pub invariant-in_row-loop-item : goal.invariant-in_row-loop-item

@@ -1,5 +1,4 @@
-use Rattle.std.proofs.Common.{map}
-use Rattle.py_typed.specs.Statements.{variable}
+use Rattle.ir_builder_supported.proofs.Common.{map, variable}
 use Rattle.ir_builder_supported.proofs.CodeLemmas.{if_found}
 use Rattle.ir_builder_supported.proofs.lines.+statement.Goals as goal
 

@@ -1,8 +1,5 @@
-use Rattle.std.proofs.Common.{◌≡◌, ◌+◌, ◌*◌, map, drop}
+use Rattle.ir_builder_supported.proofs.Common.{◌≡◌, ◌+◌, ◌*◌, map, drop, size-TStmt, variable, typed_suite, typed_arm, arms_of, suite_least, arms_least}
 use denote.Param.Weighed.{most}
-use Rattle.py_typed.specs.declared.statement.TStmt.{size-TStmt}
-use Rattle.py_typed.specs.Statements.{variable, typed_suite, typed_arm, arms_of}
-use Rattle.ir_builder_supported.specs.Least.{suite_least, arms_least}
 use Rattle.ir_builder_supported.proofs.CodeLemmas.{arm_size}
 use Rattle.ir_builder_supported.proofs.lines.+statement.Given as goal
 

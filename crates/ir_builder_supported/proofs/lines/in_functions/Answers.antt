@@ -1,6 +1,4 @@
-use Rattle.std.proofs.Common.{map}
-use Rattle.py_typed.specs.Statements.{variable}
-use Rattle.py_check_names.specs.Walked.{trees}
+use Rattle.ir_builder_supported.proofs.Common.{map, variable, trees}
 use Rattle.ir_builder_supported.proofs.CodeLemmas.{function_found}
 use Rattle.ir_builder_supported.proofs.lines.in_functions.Goals as goal
 

@@ -1,7 +1,4 @@
-use Rattle.std.proofs.Common.{◌≡◌, map, drop}
-use Rattle.py_typed.specs.Statements.{variable, typed_func}
-use Rattle.py_check_names.specs.Walked.{trees}
-use Rattle.ir_builder_supported.specs.Least.{functions_least}
+use Rattle.ir_builder_supported.proofs.Common.{◌≡◌, map, drop, variable, typed_func, trees, functions_least}
 use Rattle.ir_builder_supported.proofs.lines.in_functions.Given as goal
 
 abbrev pub invariant-loop-n : goal.invariant-loop-n

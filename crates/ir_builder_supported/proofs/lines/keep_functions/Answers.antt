@@ -1,4 +1,4 @@
-use Rattle.std.proofs.Common.{rules}
+use Rattle.ir_builder_supported.proofs.Common.{rules}
 use Rattle.std.proofs.lemmas.Fn.{filter_same}
 use Rattle.ir_builder_supported.proofs.CodeLemmas.{functions_kept}
 use Rattle.ir_builder_supported.proofs.lines.keep_functions.Goals as goal

@@ -1,5 +1,4 @@
-use Rattle.std.proofs.Common.{◌∙◌, ap, sym, Some}
-use Rattle.std.proofs.lemmas.Option.{slice_get-get_or}
+use Rattle.ir_builder_supported.proofs.Common.{◌∙◌, ap, sym, Some, slice_get-get_or}
 use Rattle.ir_builder_supported.proofs.CodeLemmas.{line_found}
 use Rattle.ir_builder_supported.proofs.lines.line_of.Goals as goal
 

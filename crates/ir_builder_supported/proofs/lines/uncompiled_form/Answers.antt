@@ -1,10 +1,4 @@
-use Rattle.std.proofs.Common.{◌∙◌, ap, map}
-use Rattle.std.specs.List.{filter}
-use Rattle.py_syntax.specs.Statements.{module_tree, body_tree}
-use Rattle.py_check_names.specs.Walked.{trees}
-use Rattle.py_check_names.specs.Outline.{suite_definitions}
-use Rattle.py_typed.specs.Statements.{variable, typed_suite, typed_func, typed_module}
-use Rattle.ir_builder_supported.specs.Statements.{is_def}
+use Rattle.ir_builder_supported.proofs.Common.{◌∙◌, ap, map, filter, module_tree, body_tree, trees, suite_definitions, variable, typed_suite, typed_func, typed_module, is_def}
 use Rattle.ir_builder_supported.proofs.CodeLemmas.{module_found}
 use Rattle.ir_builder_supported.proofs.lines.uncompiled_form.Goals as goal
 

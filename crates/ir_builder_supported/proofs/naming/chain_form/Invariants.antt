@@ -1,5 +1,4 @@
-use Rattle.std.proofs.Common.{◌≡◌, map, drop}
-use Rattle.py_typed.specs.Expressions.{comparisons_of, typed_comparison}
+use Rattle.ir_builder_supported.proofs.Common.{◌≡◌, map, drop, comparisons_of, typed_comparison}
 use Rattle.ir_builder_supported.specs.Forms as spec
 use Rattle.ir_builder_supported.proofs.naming.chain_form.Given as goal
 

@@ -1,6 +1,4 @@
-use Rattle.std.proofs.Common.{rules, ◌≡◌}
-use Rattle.py_typed.specs.Sorts.{sort}
-use Rattle.ir_builder_supported.specs.Forms.{kind}
+use Rattle.ir_builder_supported.proofs.Common.{rules, ◌≡◌, sort, kind}
 use Rattle.ir_builder_supported.proofs.CodeLemmas.{comparison_named}
 use Rattle.ir_builder_supported.proofs.naming.node_form.Goals as goal
 

@@ -1,5 +1,4 @@
-use Rattle.std.proofs.Common.{◌≡◌, map, drop}
-use Rattle.py_typed.specs.Statements.{variable}
+use Rattle.ir_builder_supported.proofs.Common.{◌≡◌, map, drop, variable}
 use Rattle.ir_builder_supported.specs.Forms as spec
 use Rattle.ir_builder_supported.proofs.naming.variables_form.Given as goal
 
