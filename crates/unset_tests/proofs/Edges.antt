@@ -18,8 +18,11 @@ use Rattle.ir_core.specs.Rows.{Declared, type_of_reg, error_kind, kind_by_result
 use Rattle.ir_core.specs.Meaning.{declared_of, registers_of, item_at, handler_at, question, is_answered, is_second_test, is_tested, is_asked, is_edge}
 use Rattle.liveness.specs.Paths.{is_target, write_of}
 use Rattle.unset_tests.specs.Unset.{sets, is_passed, passes, UnsetAt, written}
-use Rattle.unset_tests.specs.Without.{AreWithout}
-use Rattle.unset_tests.proofs.Items.{IsFree, ItemWithout, same, less, item_without, handler_same, Pair, neither, both, each_at}
+use Rattle.unset_tests.specs.Alike.{AreEach}
+use Rattle.unset_tests.specs.Without.{IsWithout}
+use Rattle.unset_tests.proofs.Each.{Pair, neither, both, each_at}
+use Rattle.unset_tests.proofs.Items.{IsFree, ItemWithout, same, less, item_without, handler_same}
+use Rattle.unset_tests.proofs.Stepping.{with_funcs, SameEdge}
 
 -- ---- an operation whose edge tests a register writes it, and need not set it
 abbrev IsTestOf : ℕ → Edge → Type 0
@@ -73,21 +76,14 @@ leaves regs (Inc a) r h = absurd h
 leaves regs (Dec a) r h = absurd h
 leaves regs (XDec a) r h = absurd h
 
-module _ (p : Program) (gs : List Func) (all : AreWithout p.funcs gs) where
-  abbrev pub q : Program
-  q = record p { funcs = gs }
-
-  pub registers : (fn : ℕ) → registers_of q fn ≡ registers_of p fn
-  registers fn = by (each_at p.funcs gs all fn)
-    where
-      by : {a b : Option Func} → Pair p.funcs gs fn a b → declared_of b ≡ declared_of a
-      by neither = refl
-      by (both f g e) = e.regs
+module _ (p : Program) (gs : List Func) (all : AreEach IsWithout p.funcs gs) where
+  abbrev q : Program
+  q = with_funcs p gs
 
   pub handlers : (fn k : ℕ) → handler_at q fn k ≡ handler_at p fn k
-  handlers fn k = by (each_at p.funcs gs all fn)
+  handlers fn k = by (each_at IsWithout p.funcs gs all fn)
     where
-      by : {a b : Option Func} → Pair p.funcs gs fn a b → handler_in (blocks_of b) k ≡ handler_in (blocks_of a) k
+      by : {a b : Option Func} → Pair IsWithout a b → handler_in (blocks_of b) k ≡ handler_in (blocks_of a) k
       by neither = refl
       by (both f g e) = handler_same f g e k
 
@@ -97,13 +93,13 @@ module _ (p : Program) (gs : List Func) (all : AreWithout p.funcs gs) where
     fewer : (f : Func) (r : Reg) (e n line : ℕ) → slice_get p.funcs fn ≡ Some f → (UnsetAt f.regs f.blocks r.0 k i → ⊥) → IsFree f.regs f.blocks k i → Beside fn k i (Some (End (IfError r e n line))) (Some (End (Goto n)))
 
   pub beside : (fn k i : ℕ) → Beside fn k i (item_at p fn k i) (item_at q fn k i)
-  beside fn k i = by (slice_get p.funcs fn) (slice_get gs fn) refl (each_at p.funcs gs all fn)
+  beside fn k i = by (slice_get p.funcs fn) (slice_get gs fn) refl (each_at IsWithout p.funcs gs all fn)
     where
       on : (f : Func) → slice_get p.funcs fn ≡ Some f → {x y : Option Item} → ItemWithout f.regs f.blocks k i x y → Beside fn k i x y
       on f at (same x) = alike x
       on f at (less r e n line set free) = fewer f r e n line at set free
 
-      by : (a b : Option Func) → slice_get p.funcs fn ≡ a → Pair p.funcs gs fn a b → Beside fn k i (item_in (blocks_of a) k i) (item_in (blocks_of b) k i)
+      by : (a b : Option Func) → slice_get p.funcs fn ≡ a → Pair IsWithout a b → Beside fn k i (item_in (blocks_of a) k i) (item_in (blocks_of b) k i)
       by a b at neither = alike None
       by a b at (both f g e) = on f at (item_without f g e k i)
 
@@ -137,10 +133,6 @@ module _ (p : Program) (gs : List Func) (all : AreWithout p.funcs gs) where
   asked_same fn (Some (End Unreachable)) = refl
 
   -- ---- edges behind an operation
-  abbrev pub SameEdge : Edge → ℕ → ℕ → ℕ → Type 0
-  SameEdge e fn k i =
-      is_edge (item_at q fn) e (item_at q fn k i) ≡ is_edge (item_at p fn) e (item_at p fn k i)
-
   module _ (fn k i : ℕ) (o : Op) {line : ℕ} (here : item_at p fn k i ≡ Some (Do o line)) where
     -- a test of the operation's target stays
     untested : (f : Func) (e : Edge) (r s : Reg) → slice_get p.funcs fn ≡ Some f → e ≡ edge_of_op f.regs o → IsTestOf r.0 e → (UnsetAt f.regs f.blocks s.0 k (suc i) → ⊥) → nat_eq r.0 s.0 ≡ false
@@ -168,7 +160,7 @@ module _ (p : Program) (gs : List Func) (all : AreWithout p.funcs gs) where
         let edge : edge_of_op f.regs o ≡ Jumps = sym (is ∙ ap (λ z. edge_of_op (declared_of z) o) at) in
         absurd (free i line o refl item edge)
 
-    pub edge_same : (e : Edge) → e ≡ edge_of_op (registers_of p fn) o → SameEdge e fn k (i + 1)
+    pub edge_same : (e : Edge) → e ≡ edge_of_op (registers_of p fn) o → SameEdge p gs e fn k (i + 1)
     edge_same e is =
         let more : i + 1 ≡ suc i = omega arith in
         ap (λ n. is_edge (item_at q fn) e (item_at q fn k n)) more

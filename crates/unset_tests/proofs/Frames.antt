@@ -1,6 +1,6 @@
--- What holds in every run: each register that holds the error value of its type may be unset where its frame stands.
-use Rattle.std.proofs.Common.{◌≡◌, refl, sym, ◌∙◌, ap, subst, ℕ, suc, ◌+◌, arith, Bool, true, false, cond, List, [], ◌∷◌, Option, Some, None, ◌⊎◌, inl, inr}
-use Rattle.std.specs.Prelude.{slice_get, nat_eq, ◌||◌, ◌%◌, ◌/◌, ◌==◌, ℤ, pos, negsuc, zero}
+-- What holds of the frames of every run, where it holds at the start of a function and goes on over each step inside it.
+use Rattle.std.proofs.Common.{◌≡◌, refl, sym, ◌∙◌, ap, subst, ℕ, suc, ◌+◌, arith, Bool, true, false, not, cond, List, [], ◌∷◌, Option, Some, None, ◌⊎◌, inl, inr}
+use Rattle.std.specs.Prelude.{nat_eq, ◌||◌, ◌%◌, ◌/◌, ◌==◌, ℤ, pos, negsuc, zero}
 use Rattle.std.specs.Ordering.{int_eq}
 use Rattle.std.proofs.lemmas.Bool.{eq-eqb, eqb-true}
 use Rattle.value_core.specs.Exceptions.{Thrown}
@@ -11,19 +11,19 @@ use Rattle.ir_core.specs.declared.code.RType.TheVariants.{Int, I64, Bool as Bool
 use Rattle.ir_core.specs.declared.code.Lit.{Lit as Literal}
 use Rattle.ir_core.specs.declared.code.Lit.TheVariants.{Number, Null, PyNone, PyTrue, PyFalse}
 use Rattle.ir_core.specs.declared.code.Op.{Op}
-use Rattle.ir_core.specs.declared.code.Op.TheVariants.{Prim}
-use Rattle.ir_core.specs.declared.code.Func.{Func}
+use Rattle.ir_core.specs.declared.code.Last.{Last}
+use Rattle.ir_core.specs.declared.code.Last.TheVariants.{Goto, If, IfError}
 use Rattle.ir_core.specs.declared.code.Program.{Program}
 use Rattle.ir_core.specs.declared.kind.Edge.{Edge}
 use Rattle.ir_core.specs.declared.kind.Edge.TheVariants.{NoEdge, Tests, TestsTwice, Jumps}
-use Rattle.ir_core.specs.Items.{Item, Do, item_in, handler_in, blocks_of}
+use Rattle.ir_core.specs.Items.{Item, Do, End}
 use Rattle.ir_core.specs.Rows.{Declared, type_of_reg, kind_by_result, edge_of_kind, edge_of_call, edge_of_op}
 use Rattle.ir_core.specs.Registers.{Held, Unset, Holds, is_error, halved, truth, literal_of, Regs, put}
 use Rattle.ir_core.specs.Effects.{World}
-use Rattle.ir_core.specs.Meaning.{Frame, Waiting, Config, Runs, Leaves, Ended, Stuck, Mode, Plain, Strict, Fitting, if_some, if_calm, next, goes, is_jump, is_edge, is_clear, unfit, away, declared_of, registers_of, item_at, handler_at, failed, succeeds}
+use Rattle.ir_core.specs.Meaning.{Frame, Waiting, Config, Runs, Leaves, Ended, Stuck, Mode, Plain, Strict, Fitting, if_some, if_calm, next, goes, is_jump, is_edge, is_clear, unfit, away, registers_of, item_at, handler_at, failed, succeeds}
 use Rattle.ir_core.specs.Missing.{is_some_edge}
-use Rattle.liveness.specs.Paths.{is_among, is_target, write_of}
-use Rattle.unset_tests.specs.Unset.{is_error_literal, sets, is_passed, Goes, passes, fails, UnsetAt, entry, written, kept}
+use Rattle.liveness.specs.Paths.{is_among, is_target, write_of, is_caught}
+use Rattle.unset_tests.specs.Unset.{is_error_literal, sets, is_passed}
 
 -- ---- literals
 halved_error : (n : ℤ) (h : Held) → halved n ≡ Some h → is_error Int h ≡ true → int_eq n (pos 1) ≡ true
@@ -97,60 +97,16 @@ call_passed ds r behind = by (type_of_reg ds r)
     by (Some BoolType) = refl
     by (Some Ref) = refl
 
+-- ---- frames
+-- a call whose result goes into a register
+pub record IsCallInto (ds : Declared) (o : Op) (into : Reg) : Type 0 where
+  pub writes : write_of o ≡ Some into.0
+  pub unsure : sets ds o ≡ false
+  pub edge : edge_of_op ds o ≡ edge_of_call ds into
+
 module _ (p : Program) where
-  -- ---- frames
-  abbrev pub GoodFrame : Frame → Type 0
-  GoodFrame f =
-      (g : Func) → slice_get p.funcs f.fn ≡ Some g → (r : ℕ) (t : RType) → type_of_reg g.regs (record { 0 = r }) ≡ Some t → is_error t (f.regs r) ≡ true → UnsetAt g.regs g.blocks r f.block f.place
-
-  -- a call whose result goes into a register
-  pub record IsCallInto (ds : Declared) (o : Op) (into : Reg) : Type 0 where
-    pub writes : write_of o ≡ Some into.0
-    pub unsure : sets ds o ≡ false
-    pub edge : edge_of_op ds o ≡ edge_of_call ds into
-
-  pub record GoodWaiting (c : Waiting) : Type 0 where
-    pub frame : GoodFrame c.frame
-    pub o : Op
-    pub line : ℕ
-    pub here : item_at p c.frame.fn c.frame.block c.frame.place ≡ Some (Do o line)
-    pub into : IsCallInto (registers_of p c.frame.fn) o c.into
-
-  abbrev pub AllGood : List Waiting → Type 0
-  AllGood [] = Unit {0}
-  AllGood (c ∷ cs) = GoodWaiting c × AllGood cs
-
-  abbrev pub Good : Config → Type 0
-  Good (Runs f below w) = GoodFrame f × AllGood below
-  Good (Leaves fn below w) = AllGood below
-  Good (Ended e w) = Unit {0}
-  Good Stuck = Unit {0}
-
-  pub good_some : {A : Type 0} (o : Option A) (go : A → Config) → ((a : A) → o ≡ Some a → Good (go a)) → Good (if_some o go)
-  good_some None go h = tt
-  good_some (Some a) go h = h a refl
-
-  pub good_cond : (b : Bool) (x y : Config) → (b ≡ true → Good x) → (b ≡ false → Good y) → Good (cond b x y)
-  good_cond true x y h k = h refl
-  good_cond false x y h k = k refl
-
-  pub good_calm : (e : Option Thrown) (x : Config) → Good x → Good (if_calm e x)
-  good_calm None x h = h
-  good_calm (Some e) x h = tt
-
-  -- the registers that are there when a function begins count as unset
-  pub begins_good : (fn : ℕ) (regs : Regs) → GoodFrame (record { fn = fn; block = 0; place = 0; regs = regs })
-  begins_good fn regs g at r t type error = entry
-
-  -- ---- one operation
-  module _ (f : Frame) (o : Op) {line : ℕ} (here : item_at p f.fn f.block f.place ≡ Some (Do o line)) (good : GoodFrame f) where
-    item : (g : Func) → slice_get p.funcs f.fn ≡ Some g → item_in g.blocks f.block f.place ≡ Some (Do o line)
-    item g at = sym (ap (λ x. item_in (blocks_of x) f.block f.place) at) ∙ here
-
-    declared : (g : Func) → slice_get p.funcs f.fn ≡ Some g → registers_of p f.fn ≡ g.regs
-    declared g at = ap declared_of at
-
-    -- what it leaves in registers: each error value is one that it may write, or was there before
+  -- what an operation leaves in registers: each error value is one that it may write, or was there before
+  module _ (f : Frame) (o : Op) where
     abbrev pub Puts : Regs → Type 0
     Puts regs =
         (ds : Declared) → registers_of p f.fn ≡ ds → (r : ℕ) (t : RType) → type_of_reg ds (record { 0 = r }) ≡ Some t → is_error t (regs r) ≡ true → ((is_target (write_of o) r ≡ true) × (sets ds o ≡ false)) ⊎ ((is_target (write_of o) r ≡ false) × (is_error t (f.regs r) ≡ true))
@@ -175,67 +131,109 @@ module _ (p : Program) where
                 let g : true ≡ false = sym (eq-eqb r s.0 (sym same)) ∙ e in
                 absurd (cc)
 
-    -- so a frame is good where the operation goes to
-    moved_good : (regs : Regs) → Puts regs → (c k : ℕ) → ((g : Func) → slice_get p.funcs f.fn ≡ Some g → Goes g.regs g.blocks f.block f.place c k) → GoodFrame (record { fn = f.fn; block = c; place = k; regs = regs })
-    moved_good regs left c k goes_to g at r t type error = by (left g.regs (declared g at) r t type error)
-      where
-        by : ((is_target (write_of o) r ≡ true) × (sets g.regs o ≡ false)) ⊎ ((is_target (write_of o) r ≡ false) × (is_error t (f.regs r) ≡ true)) → UnsetAt g.regs g.blocks r c k
-        by (inl h) = written f.block f.place c k o (item g at) h.0 h.1 (goes_to g at)
-        by (inr h) = kept f.block f.place c k o (good g at r t type h.1) (item g at) h.0 (goes_to g at)
+  -- where an end goes from a frame: a test of a register on to its second block only where the register is set
+  pub data Takes (f : Frame) : Last → ℕ → Type 0 where
+    jumps_to : (t : ℕ) → Takes f (Goto t) t
+    holds_to : (r : Reg) (a b : ℕ) → Takes f (If r a b) a
+    fails_to : (r : Reg) (a b : ℕ) → Takes f (If r a b) b
+    unset_to : (r : Reg) (e n line : ℕ) → Takes f (IfError r e n line) e
+    set_to : (r : Reg) (e n line : ℕ) (t : RType) → type_of_reg (registers_of p f.fn) r ≡ Some t → is_error t (f.regs r.0) ≡ false → Takes f (IfError r e n line) n
 
-    -- behind the operation
-    pub next_good : (regs : Regs) → Puts regs → is_passed (edge_of_op (registers_of p f.fn) o) (item_at p f.fn f.block (suc f.place)) ≡ true → GoodFrame (next f regs)
-    next_good regs left passed =
-        let more : suc f.place ≡ f.place + 1 = omega arith in
-        subst (λ n. GoodFrame (record { fn = f.fn; block = f.block; place = n; regs = regs })) more
-        (moved_good regs left f.block (suc f.place) (λ g at.
-        passes f.block f.place o (item g at) (sym (ap (λ z. is_passed (edge_of_op (declared_of z) o) (item_in (blocks_of z) f.block (suc f.place))) at) ∙ passed)))
+  -- it holds where a function begins; from an operation it goes on to the next place, and where one fails to the handler; and from an
+  -- end to where that goes
+  pub record GoesOn (Stands : Frame → Type 0) : Type 0 where
+    pub begins : (fn : ℕ) (regs : Regs) → Stands (record { fn = fn; block = 0; place = 0; regs = regs })
+    pub passed : (f : Frame) (o : Op) (line : ℕ) → item_at p f.fn f.block f.place ≡ Some (Do o line) → Stands f → (regs : Regs) → Puts f o regs → is_passed (edge_of_op (registers_of p f.fn) o) (item_at p f.fn f.block (suc f.place)) ≡ true → Stands (record { fn = f.fn; block = f.block; place = suc f.place; regs = regs })
+    pub caught : (f : Frame) (o : Op) (line : ℕ) → item_at p f.fn f.block f.place ≡ Some (Do o line) → Stands f → (regs : Regs) → Puts f o regs → is_caught (item_at p f.fn) (edge_of_op (registers_of p f.fn) o) (item_at p f.fn f.block (suc f.place)) ≡ true → (h : ℕ) → handler_at p f.fn f.block ≡ Some h → Stands (record { fn = f.fn; block = h; place = 0; regs = regs })
+    pub taken : (f : Frame) (l : Last) → item_at p f.fn f.block f.place ≡ Some (End l) → Stands f → (t : ℕ) → Takes f l t → Stands (record { fn = f.fn; block = t; place = 0; regs = f.regs })
 
-    clear_passed : (e : Edge) (x : Option Thrown) (behind : Option Item) → is_clear e x ≡ true → is_passed e behind ≡ true
-    clear_passed NoEdge x behind h = refl
-    clear_passed (Tests r) x behind h = refl
-    clear_passed (TestsTwice r) x behind h = refl
-    clear_passed Jumps x behind h = absurd (cc)
+  module _ (Stands : Frame → Type 0) where
+    pub record GoodWaiting (c : Waiting) : Type 0 where
+      pub frame : Stands c.frame
+      pub o : Op
+      pub line : ℕ
+      pub here : item_at p c.frame.fn c.frame.block c.frame.place ≡ Some (Do o line)
+      pub into : IsCallInto (registers_of p c.frame.fn) o c.into
 
-    pub succeeds_good : (e : Edge) → e ≡ edge_of_op (registers_of p f.fn) o → (regs : Regs) → Puts regs → (below : List Waiting) (w : World) (m : Mode) → AllGood below → Good (succeeds m p e f below regs w)
-    succeeds_good e is regs left below w m rest =
-        good_cond (is_clear e w.pending) (goes f below regs w) Stuck
-        (λ clear. (next_good regs left (subst (λ z. is_passed z (item_at p f.fn f.block (suc f.place)) ≡ true) is (clear_passed e w.pending (item_at p f.fn f.block (suc f.place)) clear)), rest))
-        (λ n. tt)
+    abbrev pub AllGood : List Waiting → Type 0
+    AllGood [] = Unit {0}
+    AllGood (c ∷ cs) = GoodWaiting c × AllGood cs
 
-    -- where it fails
-    edge_passed : (e : Edge) → is_edge (item_at p f.fn) e (item_at p f.fn f.block (f.place + 1)) ≡ true → is_passed e (item_at p f.fn f.block (suc f.place)) ≡ true
-    edge_passed NoEdge h = absurd (cc)
-    edge_passed (Tests r) h = refl
-    edge_passed (TestsTwice r) h = refl
-    edge_passed Jumps h =
-        let more : suc f.place ≡ f.place + 1 = omega arith in
-        ap (λ n. is_jump (item_at p f.fn f.block n)) more ∙ h
+    abbrev pub Good : Config → Type 0
+    Good (Runs f below w) = Stands f × AllGood below
+    Good (Leaves fn below w) = AllGood below
+    Good (Ended e w) = Unit {0}
+    Good Stuck = Unit {0}
 
-    away_good : (regs : Regs) → Puts regs → (below : List Waiting) (w : World) → AllGood below → is_some_edge (edge_of_op (registers_of p f.fn) o) ≡ true → (h : Option ℕ) → handler_at p f.fn f.block ≡ h → Good (away h (next f regs) below w)
-    away_good regs left below w rest some None is = rest
-    away_good regs left below w rest some (Some h) is = (
-      moved_good regs left h 0 (λ g at.
-          fails f.block f.place h o (item g at) (ap (λ z. is_some_edge (edge_of_op (declared_of z) o)) (sym at) ∙ some) (ap (λ z. handler_in (blocks_of z) f.block) (sym at) ∙ is)),
-      rest,
-    )
+    pub good_some : {A : Type 0} (o : Option A) (go : A → Config) → ((a : A) → o ≡ Some a → Good (go a)) → Good (if_some o go)
+    good_some None go h = tt
+    good_some (Some a) go h = h a refl
 
-    unfit_good : (m : Mode) (x : Config) → Good x → Good (unfit m x)
-    unfit_good Plain x h = h
-    unfit_good Strict x h = h
-    unfit_good Fitting x h = tt
+    pub good_cond : (b : Bool) (x y : Config) → (b ≡ true → Good x) → (b ≡ false → Good y) → Good (cond b x y)
+    good_cond true x y h k = h refl
+    good_cond false x y h k = k refl
 
-    pub failed_good : (m : Mode) (e : Edge) → e ≡ edge_of_op (registers_of p f.fn) o → (regs : Regs) → Puts regs → (below : List Waiting) (w : World) → AllGood below → Good (failed m p e (next f regs) below w)
-    failed_good m e is regs left below w rest = by e is refl
-      where
-        some_way : (e : Edge) → e ≡ edge_of_op (registers_of p f.fn) o → is_some_edge e ≡ true → Good (cond (is_edge (item_at p f.fn) e (item_at p f.fn f.block (f.place + 1))) (Runs (next f regs) below w) (unfit m (away (handler_at p f.fn f.block) (next f regs) below w)))
-        some_way e is some =
-            good_cond (is_edge (item_at p f.fn) e (item_at p f.fn f.block (f.place + 1))) (Runs (next f regs) below w) (unfit m (away (handler_at p f.fn f.block) (next f regs) below w))
-            (λ h. (next_good regs left (subst (λ z. is_passed z (item_at p f.fn f.block (suc f.place)) ≡ true) is (edge_passed e h)), rest))
-            (λ h. unfit_good m (away (handler_at p f.fn f.block) (next f regs) below w) (away_good regs left below w rest (ap is_some_edge (sym is) ∙ some) (handler_at p f.fn f.block) refl))
+    pub good_calm : (e : Option Thrown) (x : Config) → Good x → Good (if_calm e x)
+    good_calm None x h = h
+    good_calm (Some e) x h = tt
 
-        by : (e : Edge) → e ≡ edge_of_op (registers_of p f.fn) o → e ≡ e → Good (failed m p e (next f regs) below w)
-        by NoEdge is same = tt
-        by (Tests r) is same = some_way (Tests r) is refl
-        by (TestsTwice r) is same = some_way (TestsTwice r) is refl
-        by Jumps is same = some_way Jumps is refl
+    -- ---- one operation
+    module _ (on : GoesOn Stands) (f : Frame) (o : Op) {line : ℕ} (here : item_at p f.fn f.block f.place ≡ Some (Do o line)) (good : Stands f) where
+      behind : item_at p f.fn f.block (suc f.place) ≡ item_at p f.fn f.block (f.place + 1)
+      behind = let more : suc f.place ≡ f.place + 1 = omega arith in ap (item_at p f.fn f.block) more
+
+      -- behind the operation
+      pub next_good : (regs : Regs) → Puts f o regs → is_passed (edge_of_op (registers_of p f.fn) o) (item_at p f.fn f.block (suc f.place)) ≡ true → Stands (next f regs)
+      next_good regs left passed =
+          let more : suc f.place ≡ f.place + 1 = omega arith in
+          subst (λ n. Stands (record { fn = f.fn; block = f.block; place = n; regs = regs })) more (on.passed f o line here good regs left passed)
+
+      clear_passed : (e : Edge) (x : Option Thrown) (item : Option Item) → is_clear e x ≡ true → is_passed e item ≡ true
+      clear_passed NoEdge x item h = refl
+      clear_passed (Tests r) x item h = refl
+      clear_passed (TestsTwice r) x item h = refl
+      clear_passed Jumps x item h = absurd (cc)
+
+      pub succeeds_good : (e : Edge) → e ≡ edge_of_op (registers_of p f.fn) o → (regs : Regs) → Puts f o regs → (below : List Waiting) (w : World) (m : Mode) → AllGood below → Good (succeeds m p e f below regs w)
+      succeeds_good e is regs left below w m rest =
+          good_cond (is_clear e w.pending) (goes f below regs w) Stuck
+          (λ clear. (next_good regs left (subst (λ z. is_passed z (item_at p f.fn f.block (suc f.place)) ≡ true) is (clear_passed e w.pending (item_at p f.fn f.block (suc f.place)) clear)), rest))
+          (λ n. tt)
+
+      -- where it fails
+      edge_passed : (e : Edge) → is_edge (item_at p f.fn) e (item_at p f.fn f.block (f.place + 1)) ≡ true → is_passed e (item_at p f.fn f.block (suc f.place)) ≡ true
+      edge_passed NoEdge h = absurd (cc)
+      edge_passed (Tests r) h = refl
+      edge_passed (TestsTwice r) h = refl
+      edge_passed Jumps h = ap is_jump behind ∙ h
+
+      edge_caught : (e : Edge) → is_some_edge e ≡ true → is_edge (item_at p f.fn) e (item_at p f.fn f.block (f.place + 1)) ≡ false → is_caught (item_at p f.fn) e (item_at p f.fn f.block (suc f.place)) ≡ true
+      edge_caught NoEdge some h = absurd (cc)
+      edge_caught (Tests r) some h = ap (λ x. not (is_edge (item_at p f.fn) (Tests r) x)) behind ∙ ap not h
+      edge_caught (TestsTwice r) some h = ap (λ x. not (is_edge (item_at p f.fn) (TestsTwice r) x)) behind ∙ ap not h
+      edge_caught Jumps some h = ap (λ x. not (is_edge (item_at p f.fn) Jumps x)) behind ∙ ap not h
+
+      away_good : (regs : Regs) → Puts f o regs → (below : List Waiting) (w : World) → AllGood below → is_caught (item_at p f.fn) (edge_of_op (registers_of p f.fn) o) (item_at p f.fn f.block (suc f.place)) ≡ true → (h : Option ℕ) → handler_at p f.fn f.block ≡ h → Good (away h (next f regs) below w)
+      away_good regs left below w rest caught None is = rest
+      away_good regs left below w rest caught (Some h) is = (on.caught f o line here good regs left caught h is, rest)
+
+      unfit_good : (m : Mode) (x : Config) → Good x → Good (unfit m x)
+      unfit_good Plain x h = h
+      unfit_good Strict x h = h
+      unfit_good Fitting x h = tt
+
+      pub failed_good : (m : Mode) (e : Edge) → e ≡ edge_of_op (registers_of p f.fn) o → (regs : Regs) → Puts f o regs → (below : List Waiting) (w : World) → AllGood below → Good (failed m p e (next f regs) below w)
+      failed_good m e is regs left below w rest = by e is
+        where
+          some_way : (e : Edge) → e ≡ edge_of_op (registers_of p f.fn) o → is_some_edge e ≡ true → Good (cond (is_edge (item_at p f.fn) e (item_at p f.fn f.block (f.place + 1))) (Runs (next f regs) below w) (unfit m (away (handler_at p f.fn f.block) (next f regs) below w)))
+          some_way e is some =
+              good_cond (is_edge (item_at p f.fn) e (item_at p f.fn f.block (f.place + 1))) (Runs (next f regs) below w) (unfit m (away (handler_at p f.fn f.block) (next f regs) below w))
+              (λ h. (next_good regs left (subst (λ z. is_passed z (item_at p f.fn f.block (suc f.place)) ≡ true) is (edge_passed e h)), rest))
+              (λ h. unfit_good m (away (handler_at p f.fn f.block) (next f regs) below w)
+              (away_good regs left below w rest (subst (λ z. is_caught (item_at p f.fn) z (item_at p f.fn f.block (suc f.place)) ≡ true) is (edge_caught e some h)) (handler_at p f.fn f.block) refl))
+
+          by : (e : Edge) → e ≡ edge_of_op (registers_of p f.fn) o → Good (failed m p e (next f regs) below w)
+          by NoEdge is = tt
+          by (Tests r) is = some_way (Tests r) is refl
+          by (TestsTwice r) is = some_way (TestsTwice r) is refl
+          by Jumps is = some_way Jumps is refl

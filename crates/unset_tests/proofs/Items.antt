@@ -1,5 +1,5 @@
 -- The items of a function, and those of the function without tests: the same, but for tests that became jumps.
-use Rattle.std.proofs.Common.{◌≡◌, refl, sym, ◌∙◌, ap, subst, ℕ, zero, suc, ◌+◌, arith, true, List, [], ◌∷◌, ◌++◌, length, Option, Some, None, ◌⊎◌, inl, inr}
+use Rattle.std.proofs.Common.{◌≡◌, refl, sym, ◌∙◌, ap, subst, ℕ, zero, suc, ◌+◌, arith, true, List, [], ◌∷◌, length, Option, Some, None, ◌⊎◌, inl, inr}
 use Rattle.std.specs.Prelude.{slice_get}
 use Rattle.ir_core.specs.declared.code.Op.{Op}
 use Rattle.ir_core.specs.declared.code.Last.{Last}
@@ -12,7 +12,7 @@ use Rattle.ir_core.specs.Items.{Item, Do, End, in_block, item_of, item_in, handl
 use Rattle.ir_core.specs.Rows.{Declared, edge_of_op}
 use Rattle.ir_core.proofs.ItemLemmas.{end_item}
 use Rattle.unset_tests.specs.Unset.{ends_in_failure, UnsetAt}
-use Rattle.unset_tests.specs.Without.{IsEndWithout, IsBlockWithout, AreBlocksWithout, IsWithout, AreWithout}
+use Rattle.unset_tests.specs.Without.{IsEndWithout, IsBlockWithout, AreBlocksWithout, IsWithout}
 
 -- ---- one block
 
@@ -108,12 +108,6 @@ module _ (regs : Declared) (blocks : List Block) where
   handlers_from k (b ∷ bs) (c ∷ cs) h zero = h.0.handler
   handlers_from k (b ∷ bs) (c ∷ cs) h (suc j) = handlers_from (suc k) bs cs h.1 j
 
-  pub count_from : (k : ℕ) (bs cs : List Block) → AreBlocksWithout regs blocks k bs cs → length cs ≡ length bs
-  count_from k [] [] h = refl
-  count_from k [] (c ∷ cs) h = absurd h
-  count_from k (b ∷ bs) [] h = absurd h
-  count_from k (b ∷ bs) (c ∷ cs) h = ap suc (count_from (suc k) bs cs h.1)
-
 -- ---- a function
 module _ (f g : Func) (h : IsWithout f g) where
   pub item_without : (k i : ℕ) → ItemWithout f.regs f.blocks k i (item_in f.blocks k i) (item_in g.blocks k i)
@@ -124,32 +118,3 @@ module _ (f g : Func) (h : IsWithout f g) where
 
   pub handler_same : (k : ℕ) → handler_in g.blocks k ≡ handler_in f.blocks k
   handler_same k = handlers_from f.regs f.blocks 0 f.blocks g.blocks h.blocks k
-
--- ---- the functions of a program
-pub each_more : (fs gs : List Func) (f g : Func) → AreWithout fs gs → IsWithout f g → AreWithout (fs ++ f ∷ []) (gs ++ g ∷ [])
-each_more [] [] f g all e = (e, tt)
-each_more [] (y ∷ gs) f g all e = absurd all
-each_more (x ∷ fs) [] f g all e = absurd all
-each_more (x ∷ fs) (y ∷ gs) f g all e = (all.0, each_more fs gs f g all.1 e)
-
-pub each_count : (fs gs : List Func) → AreWithout fs gs → length gs ≡ length fs
-each_count [] [] all = refl
-each_count [] (y ∷ gs) all = absurd all
-each_count (x ∷ fs) [] all = absurd all
-each_count (x ∷ fs) (y ∷ gs) all = ap suc (each_count fs gs all.1)
-
--- at each number stand two functions, or none
-pub data Pair (fs gs : List Func) (n : ℕ) : Option Func → Option Func → Type 0 where
-  neither : Pair fs gs n None None
-  both : (f g : Func) → IsWithout f g → Pair fs gs n (Some f) (Some g)
-
-pub each_at : (fs gs : List Func) → AreWithout fs gs → (n : ℕ) → Pair fs gs n (slice_get fs n) (slice_get gs n)
-each_at [] [] all n = neither
-each_at [] (y ∷ gs) all n = absurd all
-each_at (x ∷ fs) [] all n = absurd all
-each_at (x ∷ fs) (y ∷ gs) all zero = both x y all.0
-each_at (x ∷ fs) (y ∷ gs) all (suc n) = on (each_at fs gs all.1 n)
-  where
-    on : {a b : Option Func} → Pair fs gs n a b → Pair (x ∷ fs) (y ∷ gs) (suc n) a b
-    on neither = neither
-    on (both f g e) = both f g e

@@ -1,10 +1,11 @@
--- Worked rows: a variable that one arm of an `if` sets is still tested behind both, and one that both arms set is not.
+-- Worked rows: a variable that one arm of an `if` sets is still tested behind both, and one that both arms set is not; then no path comes
+-- to the block that would raise.
 --
 --     def f(b: bool) -> bool:
 --         if b:
 --             x = True
 --         return x
-use Rattle.std.proofs.Common.{◌≡◌, refl, ℕ, true, false, pos, List, [], ◌∷◌, None}
+use Rattle.std.proofs.Common.{◌≡◌, refl, ℕ, true, false, pos, List, [], ◌∷◌, map, Some, None}
 use Rattle.std.specs.Prelude.{codes}
 use Rattle.c_core.specs.declared.primitive.Primitive.TheVariants as prim
 use Rattle.c_core.specs.declared.primitive.ErrPrim.TheVariants as err
@@ -19,7 +20,9 @@ use Rattle.ir_core.specs.declared.code.Last.TheVariants.{Goto, If, IfError, Retu
 use Rattle.ir_core.specs.declared.code.Block.{Block}
 use Rattle.ir_core.specs.Rows.{Declared}
 use Rattle.unset_tests.specs.Unset.{passes, UnsetAt, entry, kept, jumped}
+use Rattle.unset_tests.specs.Emptied.{empty_block}
 use Rattle.unset_tests.specs.Walk.{onward, may_go, left_out}
+use Rattle.unset_tests.specs.Ways.{ways, blocks_emptied}
 
 abbrev r : ℕ → Reg
 r n = record { 0 = n }
@@ -83,3 +86,24 @@ stays = refl
 -- where it comes unset from no arm, the test becomes a jump
 goes : left_out (may_go regs 2 test false) test.last ≡ Goto 5
 goes = refl
+
+-- behind two arms that both set it only the jump is left, so nothing leads to the exception
+abbrev jump : Block
+jump = block [] (Goto 5)
+
+abbrev both_arms : List Block
+both_arms = first ∷ arm ∷ arm ∷ jump ∷ raises ∷ last ∷ []
+
+leads : map (ways regs both_arms) both_arms ≡ (1 ∷ 2 ∷ []) ∷ (3 ∷ []) ∷ (3 ∷ []) ∷ (5 ∷ []) ∷ (5 ∷ []) ∷ [] ∷ []
+leads = refl
+
+-- which is emptied
+emptied : blocks_emptied (true ∷ true ∷ true ∷ true ∷ false ∷ true ∷ []) 0 both_arms ≡ first ∷ arm ∷ arm ∷ jump ∷ empty_block ∷ last ∷ []
+emptied = refl
+
+-- the exception of a block with a handler leads there, and a path goes on behind it too
+abbrev guarded : Block
+guarded = record raises { handler = Some 6 }
+
+handled : ways regs (first ∷ guarded ∷ []) guarded ≡ 6 ∷ 5 ∷ []
+handled = refl

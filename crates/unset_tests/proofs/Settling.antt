@@ -1,5 +1,5 @@
 -- Which tests may go, and what stands behind a failure.
-use Rattle.std.proofs.Common.{◌≡◌, refl, sym, ◌∙◌, ap, subst, ℕ, zero, suc, ◌+◌, ◌-◌, ◌<◌, ◌≤◌, arith, Bool, true, false, cond, List, [], ◌∷◌, length, Some, None, ◌⊎◌, inl, inr, get_or}
+use Rattle.std.proofs.Common.{◌≡◌, refl, sym, ◌∙◌, ap, subst, ℕ, suc, ◌+◌, ◌-◌, ◌<◌, ◌≤◌, arith, Bool, true, false, cond, List, [], ◌∷◌, length, Some, None, ◌⊎◌, inl, inr, get_or}
 use Rattle.std.specs.Prelude.{slice_get, slice_set, replicate, not, ◌||◌, ◌==◌}
 use Rattle.std.proofs.lemmas.Bool.{eq-eqb, eqb-true, ne_eqb}
 use Rattle.ir_core.specs.declared.code.Op.{Op}
@@ -16,7 +16,7 @@ use Rattle.unset_tests.specs.Unset.{is_jumps, is_passed, ends_in_failure, UnsetA
 use Rattle.unset_tests.specs.Without.{Stays, IsEndWithout, AreBlocksWithout}
 use Rattle.unset_tests.specs.Walk.{end_unset, AreUnset, is_tested_by, is_test_of, may_go, settled, left_out, blocks_without, AreSure}
 use Rattle.unset_tests.proofs.Walking.{end_is, state_sound, onward_sound, AreClosed, complete, there_within}
-use Rattle.unset_tests.proofs.Marking.{no_mark, same_or, set_there, set_other}
+use Rattle.unset_tests.proofs.Marking.{no_mark, same_or, below_or, set_there, set_other}
 
 -- ---- the last operation
 pub last_is : (regs : Declared) (ops : List (Op × ℕ)) (o : Op × ℕ) → slice_get ops (length ops - 1) ≡ Some o → is_jumps (edge_of_op regs o.0) ≡ ends_in_failure regs ops
@@ -65,15 +65,6 @@ some_block : (x b : Block) → Some x ≡ Some b → x ≡ b
 some_block x b e = cc
 
 -- ---- which tests may go
-below_or : (a c : ℕ) → (a < c) ⊎ (c ≤ a)
-below_or a zero = inr (omega arith)
-below_or zero (suc c) = inl (omega arith)
-below_or (suc a) (suc c) = on (below_or a c)
-  where
-    on : (a < c) ⊎ (c ≤ a) → (suc a < suc c) ⊎ (suc c ≤ suc a)
-    on (inl x) = inl (omega (arith, x))
-    on (inr x) = inr (omega (arith, x))
-
 below_not : (a c : ℕ) → (a ≡ c → ⊥) → a < c + 1 → a < c
 below_not a c ne lt = on (below_or a c)
   where

@@ -1,10 +1,10 @@
--- The program without tests has the shape of the program.
-use Rattle.std.proofs.Common.{◌≡◌, refl, sym, ◌∙◌, ap, subst, ℕ, zero, suc, ◌+◌, ◌-◌, ◌<◌, arith, true, false, not, cond, List, [], ◌∷◌, ◌++◌, length, map, Option, Some, None, inl, inr}
+-- A program that is less has the shape of the program.
+use Rattle.std.proofs.Common.{◌≡◌, refl, sym, ◌∙◌, ap, subst, ℕ, zero, suc, ◌+◌, ◌-◌, ◌<◌, ◌≤◌, ◌^◌, arith, true, false, not, cond, List, [], ◌∷◌, ◌++◌, length, map, Option, Some, None, inl}
 use Rattle.std.specs.Prelude.{slice_get, ◌&&◌, ◌||◌, nat_lt, nat_le, nat_eq, ◌==◌, codes}
 use Rattle.std.specs.List.{list_all, position_or_len}
 use Rattle.std.specs.Option.{option_map_or, option_and_then}
 use Rattle.std.specs.Str.{bytes_eq}
-use Rattle.std.proofs.lemmas.Bool.{and_from, and_parts}
+use Rattle.std.proofs.lemmas.Bool.{and_from, and_parts, lt-ltb}
 use Rattle.c_core.specs.declared.code.Kind.{Kind}
 use Rattle.c_core.specs.declared.code.Line.{Line}
 use Rattle.c_core.specs.declared.code.CFunc.{CFunc}
@@ -18,57 +18,64 @@ use Rattle.ir_core.specs.declared.code.Last.TheVariants.{Goto, If, IfError, Retu
 use Rattle.ir_core.specs.declared.code.Block.{Block}
 use Rattle.ir_core.specs.declared.code.Func.{Func}
 use Rattle.ir_core.specs.declared.code.Program.{Program}
-use Rattle.ir_core.specs.Items.{Item, Do}
-use Rattle.ir_core.specs.Rows.{Declared}
+use Rattle.ir_core.specs.Items.{Do, in_block, item_in}
 use Rattle.ir_core.specs.Names.{function_id}
 use Rattle.ir_core.specs.Lower.{kind_of_type, variable_of, call_name, called_as, line_of, op_lines, label_before, label_of, end_lines, block_lines, lines_from, lowered_as, name_in, lowered_from, lower}
-use Rattle.ir_core.specs.Shape.{OpsFit, LastFits, HandlerFits, BlocksFit, FuncFits, FuncsFit, BeginsInTurn, Shape}
+use Rattle.ir_core.specs.Shape.{OpsFit, LastFits, HandlerFits, BlockFits, BlocksFit, FuncFits, FuncsFit, BeginsInTurn, Shape}
 use Rattle.ir_core.proofs.JumpLemmas.{jumps_go, last_leaves}
 use Rattle.ir_core.proofs.TextLemmas.{LineIs, LinesAre, lines_from_all, all_spelled, all_fit, lines_append, lines_parts, line_same}
 use Rattle.ir_core.proofs.ClassLemmas.{classes_same}
-use Rattle.unset_tests.specs.Without.{IsEndWithout, AreBlocksWithout, IsWithout, AreWithout}
-use Rattle.unset_tests.proofs.Items.{ItemWithout, same, less, item_without, count_from, each_count}
+use Rattle.unset_tests.specs.Alike.{AreEach}
+use Rattle.unset_tests.proofs.Each.{each_count}
+use Rattle.unset_tests.proofs.Lessening.{EndLess, same_end, no_test, BlockLess, stays, is_empty, AreBlocksLess, IsLess, count_less}
 use Rattle.unset_tests.proofs.Lines.{EachSame, no_function, functions, fits_same}
 
 -- ---- blocks
-module _ (regs : Declared) (all : List Block) where
-  last_fits : (n k : ℕ) (ops : List (Op × ℕ)) (l m : Last) → LastFits n k ops l → IsEndWithout regs all k ops l m → LastFits n k ops m
-  last_fits n k ops (Goto t) m fits h = subst (LastFits n k ops) (sym h) fits
-  last_fits n k ops (If r a b) m fits h = subst (LastFits n k ops) (sym h) fits
-  last_fits n k ops (IfError r e t line) m fits (inl h) = subst (LastFits n k ops) (sym h.1) fits
-  last_fits n k ops (IfError r e t line) m fits (inr h) =
-      subst (LastFits n k ops) (sym h.1) (omega (arith, fits.1.0), fits.1.1, inl fits.1.0)
-  last_fits n k ops (Return r) m fits h = subst (LastFits n k ops) (sym h) fits
-  last_fits n k ops Unreachable m fits h = subst (LastFits n k ops) (sym h) fits
+last_fits : (n k : ℕ) (ops : List (Op × ℕ)) {l m : Last} → EndLess l m → LastFits n k ops l → LastFits n k ops m
+last_fits n k ops (same_end l) fits = fits
+last_fits n k ops (no_test r e t line) fits = (omega (arith, fits.1.0), fits.1.1, inl fits.1.0)
 
-  blocks_fit : (n k : ℕ) (bs cs : List Block) → AreBlocksWithout regs all k bs cs → BlocksFit n k bs → BlocksFit n k cs
-  blocks_fit n k [] [] h fits = tt
-  blocks_fit n k [] (c ∷ cs) h fits = absurd h
-  blocks_fit n k (b ∷ bs) [] h fits = absurd h
-  blocks_fit n k (b ∷ bs) (c ∷ cs) h fits = (
-    record {
-      ops = subst OpsFit (sym h.0.ops) fits.0.ops;
-      last = subst (λ ops. LastFits n k ops c.last) (sym h.0.ops) (last_fits n k b.ops b.last c.last fits.0.last h.0.last);
-      handler = subst (HandlerFits n k) (sym h.0.handler) fits.0.handler;
-    },
-    blocks_fit n (suc k) bs cs h.1 fits.1,
-  )
+block_fits : (n k : ℕ) (b c : Block) → BlockLess k b c → BlockFits n k b → BlockFits n k c
+block_fits n k b c (stays ops handler end) fits = record {
+  ops = subst OpsFit (sym ops) fits.ops;
+  last = subst (λ os. LastFits n k os c.last) (sym ops) (last_fits n k b.ops end fits.last);
+  handler = subst (HandlerFits n k) (sym handler) fits.handler;
+}
+block_fits n k b c (is_empty some is) fits =
+    subst (BlockFits n k) (sym is) (record { ops = tt; last = (some, refl); handler = tt })
 
-func_fits : (f g : Func) → IsWithout f g → FuncFits f → FuncFits g
+blocks_fit : (n k : ℕ) (bs cs : List Block) → AreBlocksLess k bs cs → BlocksFit n k bs → BlocksFit n k cs
+blocks_fit n k [] [] h fits = tt
+blocks_fit n k [] (c ∷ cs) h fits = absurd h
+blocks_fit n k (b ∷ bs) [] h fits = absurd h
+blocks_fit n k (b ∷ bs) (c ∷ cs) h fits = (block_fits n k b c h.0 fits.0, blocks_fit n (suc k) bs cs h.1 fits.1)
+
+func_fits : (f g : Func) → IsLess f g → FuncFits f → FuncFits g
 func_fits f g h fits =
-    subst (λ n. BlocksFit n 0 g.blocks) (sym (count_from f.regs f.blocks 0 f.blocks g.blocks h.blocks)) (blocks_fit f.regs f.blocks (length f.blocks) 0 f.blocks g.blocks h.blocks fits)
+    subst (λ n. BlocksFit n 0 g.blocks) (sym (count_less 0 f.blocks g.blocks h.blocks)) (blocks_fit (length f.blocks) 0 f.blocks g.blocks h.blocks fits)
 
-funcs_fit : (fs gs : List Func) → AreWithout fs gs → FuncsFit fs → FuncsFit gs
+funcs_fit : (fs gs : List Func) → AreEach IsLess fs gs → FuncsFit fs → FuncsFit gs
 funcs_fit [] [] all fits = tt
 funcs_fit [] (g ∷ gs) all fits = absurd all
 funcs_fit (f ∷ fs) [] all fits = absurd all
 funcs_fit (f ∷ fs) (g ∷ gs) all fits = (func_fits f g all.0 fits.0, funcs_fit fs gs all.1 fits.1)
 
-do_same : (regs : Declared) (blocks : List Block) (k i : ℕ) {x y : Option Item} → ItemWithout regs blocks k i x y → (o : Op) (line : ℕ) → x ≡ Some (Do o line) → y ≡ Some (Do o line)
-do_same regs blocks k i (same x) o line e = e
-do_same regs blocks k i (less r e n source set free) o line is = absurd (cc)
+-- an operation at the beginning stays there
+do_first : (bs cs : List Block) → AreBlocksLess 0 bs cs → (o : Op) (line : ℕ) → item_in bs 0 0 ≡ Some (Do o line) → item_in cs 0 0 ≡ Some (Do o line)
+do_first [] [] h o line e = e
+do_first [] (c ∷ cs) h o line e = absurd h
+do_first (b ∷ bs) [] h o line e = absurd h
+do_first (b ∷ bs) (c ∷ cs) h o line e = by h.0
+  where
+    on : (ops : List (Op × ℕ)) → in_block ops b.last 0 ≡ Some (Do o line) → in_block ops c.last 0 ≡ Some (Do o line)
+    on [] is = absurd (cc)
+    on (x ∷ os) is = is
 
-turns_begin : (fs gs : List Func) → AreWithout fs gs → BeginsInTurn fs → BeginsInTurn gs
+    by : BlockLess 0 b c → in_block c.ops c.last 0 ≡ Some (Do o line)
+    by (stays ops handler end) = ap (λ os. in_block os c.last 0) ops ∙ on b.ops e
+    by (is_empty some is) = absurd (omega (arith, some))
+
+turns_begin : (fs gs : List Func) → AreEach IsLess fs gs → BeginsInTurn fs → BeginsInTurn gs
 turns_begin [] [] all turns = tt
 turns_begin [] (g ∷ gs) all turns = absurd all
 turns_begin (f ∷ fs) [] all turns = absurd all
@@ -76,26 +83,26 @@ turns_begin (f ∷ []) (g ∷ []) all turns = tt
 turns_begin (f ∷ []) (g ∷ h ∷ gs) all turns = absurd all.1
 turns_begin (f ∷ d ∷ fs) (g ∷ []) all turns = absurd all.1
 turns_begin (f ∷ d ∷ fs) (g ∷ h ∷ gs) all turns =
-    ((turns.0.0, do_same f.regs f.blocks 0 0 (item_without f g all.0 0 0) Turn turns.0.0 turns.0.1), turns_begin (d ∷ fs) (h ∷ gs) all.1 turns.1)
+    ((turns.0.0, do_first f.blocks g.blocks all.0.blocks Turn turns.0.0 turns.0.1), turns_begin (d ∷ fs) (h ∷ gs) all.1 turns.1)
 
 -- ---- the C text
-module _ (p : Program) (gs : List Func) (all : AreWithout p.funcs gs) where
+module _ (p : Program) (gs : List Func) (all : AreEach IsLess p.funcs gs) where
   abbrev q : Program
   q = record p { funcs = gs }
 
   count : length gs ≡ length p.funcs
-  count = each_count p.funcs gs all
+  count = each_count IsLess p.funcs gs all
 
   calls_same : (n : ℕ) → called_as q n ≡ called_as p n
   calls_same n =
       ap (λ m. cond (nat_eq (suc n) m) [] (option_map_or call_name (slice_get gs n) [])) count
       ∙ ap (λ name. cond (nat_eq (suc n) (length p.funcs)) [] name) (by p.funcs gs n all)
     where
-      by : (fs hs : List Func) (n : ℕ) → AreWithout fs hs → option_map_or call_name (slice_get hs n) [] ≡ option_map_or call_name (slice_get fs n) []
+      by : (fs hs : List Func) (n : ℕ) → AreEach IsLess fs hs → option_map_or call_name (slice_get hs n) [] ≡ option_map_or call_name (slice_get fs n) []
       by [] [] n h = refl
       by [] (g ∷ hs) n h = absurd h
       by (f ∷ fs) [] n h = absurd h
-      by (f ∷ fs) (g ∷ hs) zero h = ap (λ name. codes "CPyDef_" ++ function_id name) h.0.name
+      by (f ∷ fs) (g ∷ hs) zero h = ap (λ name. codes "CPyDef_" ++ function_id name) h.0.alike.name
       by (f ∷ fs) (g ∷ hs) (suc n) h = by fs hs n h.1
 
   -- a function in the C text: the old one with other lines
@@ -110,15 +117,15 @@ module _ (p : Program) (gs : List Func) (all : AreWithout p.funcs gs) where
   news n (f ∷ fs) [] = []
   news n (f ∷ fs) (g ∷ hs) = new n f g ∷ news (suc n) fs hs
 
-  is_new : (n : ℕ) (f g : Func) → IsWithout f g → lowered_as q (name_in q n g) g ≡ new n f g
+  is_new : (n : ℕ) (f g : Func) → IsLess f g → lowered_as q (name_in q n g) g ≡ new n f g
   is_new n f g h =
       ap (λ m. lowered_as q (cond (nat_eq (suc n) m) [] (function_id g.name)) g) count
-      ∙ (ap (λ name. lowered_as q (cond (nat_eq (suc n) (length p.funcs)) [] (function_id name)) g) h.name
-      ∙ (ap (λ t. record (lowered_as q (name_in p n f) g) { ret = kind_of_type t }) h.ret
-      ∙ (ap (λ m. record (lowered_as q (name_in p n f) g) { ret = kind_of_type f.ret; params = m }) h.params
-      ∙ ap (λ ds. record (lowered_as q (name_in p n f) g) { ret = kind_of_type f.ret; params = f.params; vars = map variable_of ds }) h.regs)))
+      ∙ (ap (λ name. lowered_as q (cond (nat_eq (suc n) (length p.funcs)) [] (function_id name)) g) h.alike.name
+      ∙ (ap (λ t. record (lowered_as q (name_in p n f) g) { ret = kind_of_type t }) h.alike.ret
+      ∙ (ap (λ m. record (lowered_as q (name_in p n f) g) { ret = kind_of_type f.ret; params = m }) h.alike.params
+      ∙ ap (λ ds. record (lowered_as q (name_in p n f) g) { ret = kind_of_type f.ret; params = f.params; vars = map variable_of ds }) h.alike.regs)))
 
-  are_new : (n : ℕ) (fs hs : List Func) → AreWithout fs hs → lowered_from q n hs ≡ news n fs hs
+  are_new : (n : ℕ) (fs hs : List Func) → AreEach IsLess fs hs → lowered_from q n hs ≡ news n fs hs
   are_new n [] [] h = refl
   are_new n [] (g ∷ hs) h = absurd h
   are_new n (f ∷ fs) [] h = absurd h
@@ -132,19 +139,19 @@ module _ (p : Program) (gs : List Func) (all : AreWithout p.funcs gs) where
   code = record old { funcs = news 0 p.funcs gs }
 
   -- ---- names, and what functions take and give
-  names_same : (n : ℕ) (fs hs : List Func) → AreWithout fs hs → map (λ (c : CFunc). c.name) (news n fs hs) ≡ map (λ (c : CFunc). c.name) (lowered_from p n fs)
+  names_same : (n : ℕ) (fs hs : List Func) → AreEach IsLess fs hs → map (λ (c : CFunc). c.name) (news n fs hs) ≡ map (λ (c : CFunc). c.name) (lowered_from p n fs)
   names_same n [] [] h = refl
   names_same n [] (g ∷ hs) h = absurd h
   names_same n (f ∷ fs) [] h = absurd h
   names_same n (f ∷ fs) (g ∷ hs) h = ap (λ l. name_in p n f ∷ l) (names_same (suc n) fs hs h.1)
 
-  place_same : (name : List ℕ) (n : ℕ) (fs hs : List Func) → AreWithout fs hs → position_or_len (λ (c : CFunc). bytes_eq name c.name) (news n fs hs) ≡ position_or_len (λ (c : CFunc). bytes_eq name c.name) (lowered_from p n fs)
+  place_same : (name : List ℕ) (n : ℕ) (fs hs : List Func) → AreEach IsLess fs hs → position_or_len (λ (c : CFunc). bytes_eq name c.name) (news n fs hs) ≡ position_or_len (λ (c : CFunc). bytes_eq name c.name) (lowered_from p n fs)
   place_same name n [] [] h = refl
   place_same name n [] (g ∷ hs) h = absurd h
   place_same name n (f ∷ fs) [] h = absurd h
   place_same name n (f ∷ fs) (g ∷ hs) h = ap (λ m. cond (not (bytes_eq name (name_in p n f))) (1 + m) 0) (place_same name (suc n) fs hs h.1)
 
-  size_same : (n : ℕ) (fs hs : List Func) → AreWithout fs hs → length (news n fs hs) ≡ length (lowered_from p n fs)
+  size_same : (n : ℕ) (fs hs : List Func) → AreEach IsLess fs hs → length (news n fs hs) ≡ length (lowered_from p n fs)
   size_same n [] [] h = refl
   size_same n [] (g ∷ hs) h = absurd h
   size_same n (f ∷ fs) [] h = absurd h
@@ -163,7 +170,7 @@ module _ (p : Program) (gs : List Func) (all : AreWithout p.funcs gs) where
       by None = refl
       by (Some x) = number_same x
 
-  each_same : (n : ℕ) (fs hs : List Func) → AreWithout fs hs → (i : ℕ) → EachSame (slice_get (lowered_from p n fs) i) (slice_get (news n fs hs) i)
+  each_same : (n : ℕ) (fs hs : List Func) → AreEach IsLess fs hs → (i : ℕ) → EachSame (slice_get (lowered_from p n fs) i) (slice_get (news n fs hs) i)
   each_same n [] [] h i = no_function
   each_same n [] (g ∷ hs) h i = absurd h
   each_same n (f ∷ fs) [] h i = absurd h
@@ -190,61 +197,72 @@ module _ (p : Program) (gs : List Func) (all : AreWithout p.funcs gs) where
     ops_kept [] h = tt
     ops_kept (o ∷ os) h = (subst (LineIs code vars ret) (sym (line_same p q refl calls_same o.0)) (line_kept (line_of p o.0) h.0), ops_kept os h.1)
 
-    end_kept : (regs : Declared) (bs : List Block) (k : ℕ) (ops : List (Op × ℕ)) (l m : Last) → IsEndWithout regs bs k ops l m → Was (end_lines label_of k l) → Is (end_lines label_of k m)
-    end_kept regs bs k ops (Goto t) m h was = subst (λ z. Is (end_lines label_of k z)) (sym h) (lines_kept (end_lines label_of k (Goto t)) was)
-    end_kept regs bs k ops (If r a b) m h was = subst (λ z. Is (end_lines label_of k z)) (sym h) (lines_kept (end_lines label_of k (If r a b)) was)
-    end_kept regs bs k ops (IfError r e n source) m (inl h) was = subst (λ z. Is (end_lines label_of k z)) (sym h.1) (lines_kept (end_lines label_of k (IfError r e n source)) was)
-    end_kept regs bs k ops (IfError r e n source) m (inr h) was =
+    end_kept : (k : ℕ) {l m : Last} → EndLess l m → Was (end_lines label_of k l) → Is (end_lines label_of k m)
+    end_kept k (same_end l) was = lines_kept (end_lines label_of k l) was
+    end_kept k (no_test r e n source) was =
         let one = and_parts (is_declared vars r.0) (spelled_label (label_of e) && spelled_label (label_of n)) was.0.0 in
         let two = and_parts (spelled_label (label_of e)) (spelled_label (label_of n)) one.1 in
-        subst (λ z. Is (end_lines label_of k z)) (sym h.1) ((two.1, refl), tt)
-    end_kept regs bs k ops (Return r) m h was = subst (λ z. Is (end_lines label_of k z)) (sym h) (lines_kept (end_lines label_of k (Return r)) was)
-    end_kept regs bs k ops Unreachable m h was = subst (λ z. Is (end_lines label_of k z)) (sym h) (lines_kept (end_lines label_of k Unreachable) was)
+        ((two.1, refl), tt)
 
-    blocks_kept : (regs : Declared) (every : List Block) (k : ℕ) (bs cs : List Block) → AreBlocksWithout regs every k bs cs → Was (lines_from p k bs) → Is (lines_from q k cs)
-    blocks_kept regs every k [] [] h was = tt
-    blocks_kept regs every k [] (c ∷ cs) h was = absurd h
-    blocks_kept regs every k (b ∷ bs) [] h was = absurd h
-    blocks_kept regs every k (b ∷ bs) (c ∷ cs) h was =
-        let both = lines_parts old vars ret (block_lines p k b) (lines_from p (suc k) bs) was in
-        let outer = lines_parts old vars ret (label_before k) (op_lines p b.ops ++ end_lines label_of k b.last) both.0 in
+    block_kept : (k : ℕ) (b c : Block) → BlockLess k b c → k < 2 ^ 64 → Was (block_lines p k b) → Is (block_lines q k c)
+    block_kept k b c h lt was =
+        let outer = lines_parts old vars ret (label_before k) (op_lines p b.ops ++ end_lines label_of k b.last) was in
         let inner = lines_parts old vars ret (op_lines p b.ops) (end_lines label_of k b.last) outer.1 in
-        let ops : Is (op_lines q c.ops) = subst (λ z. Is (op_lines q z)) (sym h.0.ops) (ops_kept b.ops inner.0) in
-        let end : Is (end_lines label_of k c.last) = end_kept regs every k b.ops b.last c.last h.0.last inner.1 in
-        lines_append code vars ret (block_lines q k c) (lines_from q (suc k) cs)
-        (lines_append code vars ret (label_before k) (op_lines q c.ops ++ end_lines label_of k c.last) (lines_kept (label_before k) outer.0) (lines_append code vars ret (op_lines q c.ops) (end_lines label_of k c.last) ops end))
-        (blocks_kept regs every (suc k) bs cs h.1 both.1)
+        by h outer.0 inner.0 inner.1
+      where
+        -- an empty block only jumps to its own label
+        halts : Is (end_lines label_of k Unreachable)
+        halts = ((refl, refl), ((lt-ltb (label_of k) (2 ^ 64) (omega (arith, lt)), refl), tt))
+
+        by : BlockLess k b c → Was (label_before k) → Was (op_lines p b.ops) → Was (end_lines label_of k b.last) → Is (block_lines q k c)
+        by (stays same handler end) label ops last =
+            let new_ops : Is (op_lines q c.ops) = subst (λ z. Is (op_lines q z)) (sym same) (ops_kept b.ops ops) in
+            lines_append code vars ret (label_before k) (op_lines q c.ops ++ end_lines label_of k c.last) (lines_kept (label_before k) label) (lines_append code vars ret (op_lines q c.ops) (end_lines label_of k c.last) new_ops (end_kept k end last))
+        by (is_empty some is) label ops last =
+            subst (λ z. Is (block_lines q k z)) (sym is) (lines_append code vars ret (label_before k) (end_lines label_of k Unreachable) (lines_kept (label_before k) label) halts)
+
+    blocks_kept : (k : ℕ) (bs cs : List Block) → AreBlocksLess k bs cs → k + length cs ≤ 2 ^ 64 → Was (lines_from p k bs) → Is (lines_from q k cs)
+    blocks_kept k [] [] h few was = tt
+    blocks_kept k [] (c ∷ cs) h few was = absurd h
+    blocks_kept k (b ∷ bs) [] h few was = absurd h
+    blocks_kept k (b ∷ bs) (c ∷ cs) h few was =
+        let both = lines_parts old vars ret (block_lines p k b) (lines_from p (suc k) bs) was in
+        lines_append code vars ret (block_lines q k c) (lines_from q (suc k) cs) (block_kept k b c h.0 (omega (arith, few)) both.0) (blocks_kept (suc k) bs cs h.1 (omega (arith, few)) both.1)
 
   -- whether the first line is a turn
-  end_turn : (regs : Declared) (bs : List Block) (k : ℕ) (ops : List (Op × ℕ)) (l m : Last) (xs ys : List Line) → IsEndWithout regs bs k ops l m → is_turn_at (slice_get (end_lines label_of 0 m ++ xs) 0) ≡ is_turn_at (slice_get (end_lines label_of 0 l ++ ys) 0)
-  end_turn regs bs k ops (Goto t) m xs ys h = ap (λ z. is_turn_at (slice_get (end_lines label_of 0 z ++ xs) 0)) h
-  end_turn regs bs k ops (If r a b) m xs ys h = ap (λ z. is_turn_at (slice_get (end_lines label_of 0 z ++ xs) 0)) h
-  end_turn regs bs k ops (IfError r e n source) m xs ys (inl h) = ap (λ z. is_turn_at (slice_get (end_lines label_of 0 z ++ xs) 0)) h.1
-  end_turn regs bs k ops (IfError r e n source) m xs ys (inr h) = ap (λ z. is_turn_at (slice_get (end_lines label_of 0 z ++ xs) 0)) h.1
-  end_turn regs bs k ops (Return r) m xs ys h = ap (λ z. is_turn_at (slice_get (end_lines label_of 0 z ++ xs) 0)) h
-  end_turn regs bs k ops Unreachable m xs ys h = ap (λ z. is_turn_at (slice_get (end_lines label_of 0 z ++ xs) 0)) h
+  end_turn : {l m : Last} → EndLess l m → (xs ys : List Line) → is_turn_at (slice_get (end_lines label_of 0 m ++ xs) 0) ≡ is_turn_at (slice_get (end_lines label_of 0 l ++ ys) 0)
+  end_turn (same_end (Goto t)) xs ys = refl
+  end_turn (same_end (If r a b)) xs ys = refl
+  end_turn (same_end (IfError r e n source)) xs ys = refl
+  end_turn (same_end (Return r)) xs ys = refl
+  end_turn (same_end Unreachable) xs ys = refl
+  end_turn (no_test r e n source) xs ys = refl
 
-  first_turn : (regs : Declared) (every bs cs : List Block) → AreBlocksWithout regs every 0 bs cs → is_turn_at (slice_get (lines_from q 0 cs) 0) ≡ is_turn_at (slice_get (lines_from p 0 bs) 0)
-  first_turn regs every [] [] h = refl
-  first_turn regs every [] (c ∷ cs) h = absurd h
-  first_turn regs every (b ∷ bs) [] h = absurd h
-  first_turn regs every (b ∷ bs) (c ∷ cs) h =
-      ap (λ ops. is_turn_at (slice_get ((op_lines q ops ++ end_lines label_of 0 c.last) ++ lines_from q 1 cs) 0)) h.0.ops ∙ by b.ops refl
+  first_turn : (bs cs : List Block) → AreBlocksLess 0 bs cs → is_turn_at (slice_get (lines_from q 0 cs) 0) ≡ is_turn_at (slice_get (lines_from p 0 bs) 0)
+  first_turn [] [] h = refl
+  first_turn [] (c ∷ cs) h = absurd h
+  first_turn (b ∷ bs) [] h = absurd h
+  first_turn (b ∷ bs) (c ∷ cs) h = of h.0
     where
-      by : (ops : List (Op × ℕ)) → b.ops ≡ ops → is_turn_at (slice_get ((op_lines q ops ++ end_lines label_of 0 c.last) ++ lines_from q 1 cs) 0) ≡ is_turn_at (slice_get ((op_lines p b.ops ++ end_lines label_of 0 b.last) ++ lines_from p 1 bs) 0)
-      by [] is =
-          end_turn regs every 0 b.ops b.last c.last (lines_from q 1 cs) (lines_from p 1 bs) h.0.last
-          ∙ sym (ap (λ z. is_turn_at (slice_get ((op_lines p z ++ end_lines label_of 0 b.last) ++ lines_from p 1 bs) 0)) is)
-      by (o ∷ os) is =
-          ap (λ l. is_turn_at (Some l)) (line_same p q refl calls_same o.0)
-          ∙ sym (ap (λ z. is_turn_at (slice_get ((op_lines p z ++ end_lines label_of 0 b.last) ++ lines_from p 1 bs) 0)) is)
+      of : BlockLess 0 b c → is_turn_at (slice_get ((op_lines q c.ops ++ end_lines label_of 0 c.last) ++ lines_from q 1 cs) 0) ≡ is_turn_at (slice_get ((op_lines p b.ops ++ end_lines label_of 0 b.last) ++ lines_from p 1 bs) 0)
+      of (is_empty some is) = absurd (omega (arith, some))
+      of (stays same handler end) =
+          ap (λ ops. is_turn_at (slice_get ((op_lines q ops ++ end_lines label_of 0 c.last) ++ lines_from q 1 cs) 0)) same ∙ by b.ops refl
+        where
+          by : (ops : List (Op × ℕ)) → b.ops ≡ ops → is_turn_at (slice_get ((op_lines q ops ++ end_lines label_of 0 c.last) ++ lines_from q 1 cs) 0) ≡ is_turn_at (slice_get ((op_lines p b.ops ++ end_lines label_of 0 b.last) ++ lines_from p 1 bs) 0)
+          by [] is =
+              end_turn end (lines_from q 1 cs) (lines_from p 1 bs)
+              ∙ sym (ap (λ z. is_turn_at (slice_get ((op_lines p z ++ end_lines label_of 0 b.last) ++ lines_from p 1 bs) 0)) is)
+          by (o ∷ os) is =
+              ap (λ l. is_turn_at (Some l)) (line_same p q refl calls_same o.0)
+              ∙ sym (ap (λ z. is_turn_at (slice_get ((op_lines p z ++ end_lines label_of 0 b.last) ++ lines_from p 1 bs) 0)) is)
 
   has_blocks : (bs : List Block) → is_leaving (slice_get (lines_from p 0 bs) (length (lines_from p 0 bs) - 1)) ≡ true → 0 < length bs
   has_blocks [] e = absurd (cc)
   has_blocks (b ∷ bs) e = omega arith
 
   -- ---- one function
-  module _ (n : ℕ) (f g : Func) (h : IsWithout f g) (fits : FuncFits f) (body : spelled_body (text n f) ≡ true) (good : function_fits old (text n f) ≡ true) where
+  module _ (n : ℕ) (f g : Func) (h : IsLess f g) (fits : FuncFits f) (body : spelled_body (text n f) ≡ true) (good : function_fits old (text n f) ≡ true) where
     abbrev c : CFunc
     c = text n f
 
@@ -265,7 +283,7 @@ module _ (p : Program) (gs : List Func) (all : AreWithout p.funcs gs) where
 
     lines : LinesAre code c.vars c.ret d.lines
     lines =
-        blocks_kept c.vars c.ret f.regs f.blocks 0 f.blocks g.blocks h.blocks (lines_from_all old c.vars c.ret c.lines names.1 two.0)
+        blocks_kept c.vars c.ret 0 f.blocks g.blocks h.blocks (omega (arith, h.few)) (lines_from_all old c.vars c.ret c.lines names.1 two.0)
 
     pub new_body : spelled_body d ≡ true
     new_body =
@@ -275,12 +293,12 @@ module _ (p : Program) (gs : List Func) (all : AreWithout p.funcs gs) where
     lead =
         let leaving = and_parts (jumps_fit (label_places c.lines) 0 false c.lines) (is_leaving (slice_get c.lines (length c.lines - 1))) three.0 in
         let some = has_blocks f.blocks leaving.1 in
-        let same_count = count_from f.regs f.blocks 0 f.blocks g.blocks h.blocks in
+        let same_count = count_less 0 f.blocks g.blocks h.blocks in
         and_from (jumps_fit (label_places d.lines) 0 false d.lines) (is_leaving (slice_get d.lines (length d.lines - 1)))
         (jumps_go q g.blocks (func_fits f g h fits)) (last_leaves q g.blocks (omega (arith, some, same_count)))
 
     begins : begins_right d ≡ true
-    begins = ap (λ b. bytes_eq c.name [] || b) (first_turn f.regs f.blocks f.blocks g.blocks h.blocks) ∙ three.1
+    begins = ap (λ b. bytes_eq c.name [] || b) (first_turn f.blocks g.blocks h.blocks) ∙ three.1
 
     pub new_fits : function_fits code d ≡ true
     new_fits =
@@ -318,7 +336,7 @@ module _ (p : Program) (gs : List Func) (all : AreWithout p.funcs gs) where
     pub spelled : spelled_functions (news n fs hs) ≡ true
     pub fits : list_all (function_fits code) (news n fs hs) ≡ true
 
-  known : (n : ℕ) (fs hs : List Func) → AreWithout fs hs → FuncsFit fs → spelled_functions (lowered_from p n fs) ≡ true → list_all (function_fits old) (lowered_from p n fs) ≡ true → Known n fs hs
+  known : (n : ℕ) (fs hs : List Func) → AreEach IsLess fs hs → FuncsFit fs → spelled_functions (lowered_from p n fs) ≡ true → list_all (function_fits old) (lowered_from p n fs) ≡ true → Known n fs hs
   known n [] [] h fits spelled good = record { spelled = spelled; fits = refl }
   known n [] (g ∷ hs) h fits spelled good = absurd h
   known n (f ∷ fs) [] h fits spelled good = absurd h

@@ -5,26 +5,28 @@ use Rattle.std.specs.Option.{option_to_list, option_and_then}
 use Rattle.std.proofs.lemmas.Bool.{and_parts, and_from, eq-eqb, eqb-true}
 use Rattle.std.proofs.lemmas.List.Folds.{list_any-append}
 use Rattle.ir_core.specs.declared.code.Op.{Op}
+use Rattle.ir_core.specs.declared.code.Reg.{Reg}
 use Rattle.ir_core.specs.declared.code.Last.{Last}
+use Rattle.ir_core.specs.declared.code.Last.TheVariants.{Goto, If, IfError, Return, Unreachable}
 use Rattle.ir_core.specs.declared.code.Block.{Block}
 use Rattle.ir_core.specs.Items.{Item, Do, End, in_block, item_of, item_in, handler_of}
 use Rattle.ir_core.specs.Rows.{Declared, edge_of_op}
 use Rattle.ir_core.specs.Missing.{is_some_edge}
 use Rattle.ir_core.proofs.ItemLemmas.{end_item}
-use Rattle.liveness.specs.Paths.{is_among, is_target, write_of}
+use Rattle.liveness.specs.Paths.{is_among, is_target, write_of, targets}
 use Rattle.unset_tests.specs.Unset.{sets, is_passed, Goes, passes, fails, goes_unset, UnsetAt, undeclared, entry, written, kept, jumped}
 use Rattle.unset_tests.specs.Walk.{left_unset, passed_unset, end_unset, caught_unset, onward}
 
 -- ---- small facts
-or_parts : (a b : Bool) → (a || b) ≡ true → (a ≡ true) ⊎ (b ≡ true)
+pub or_parts : (a b : Bool) → (a || b) ≡ true → (a ≡ true) ⊎ (b ≡ true)
 or_parts true b e = inl refl
 or_parts false b e = inr e
 
-or_first : (a b : Bool) → a ≡ true → (a || b) ≡ true
+pub or_first : (a b : Bool) → a ≡ true → (a || b) ≡ true
 or_first true b e = refl
 or_first false b e = absurd (cc)
 
-or_second : (a b : Bool) → b ≡ true → (a || b) ≡ true
+pub or_second : (a b : Bool) → b ≡ true → (a || b) ≡ true
 or_second true b e = refl
 or_second false b e = e
 
@@ -43,22 +45,30 @@ among_one n m e = ⊎_elim (λ a. eqb-true n m a) (λ a. absurd (cc)) (or_parts 
 pub one_among : (n : ℕ) → is_among (n ∷ []) n ≡ true
 one_among n = or_first (nat_eq n n) false (eq-eqb n n refl)
 
+-- an end that tests no register goes to all its targets
+pub other_targets : (r : ℕ) (l : Last) → ((s : Reg) (e n line : ℕ) → l ≡ IfError s e n line → ⊥) → targets l ≡ goes_unset r l
+other_targets r (Goto t) ne = refl
+other_targets r (If s a b) ne = refl
+other_targets r (IfError s e n line) ne = absurd (ne s e n line refl)
+other_targets r (Return s) ne = refl
+other_targets r Unreachable ne = refl
+
 -- an end stands behind all operations
-end_place : (ops : List (Op × ℕ)) (last : Last) (p : ℕ) (l : Last) → in_block ops last p ≡ Some (End l) → (p ≡ length ops) × (last ≡ l)
+pub end_place : (ops : List (Op × ℕ)) (last : Last) (p : ℕ) (l : Last) → in_block ops last p ≡ Some (End l) → (p ≡ length ops) × (last ≡ l)
 end_place [] last zero l e = (refl, cc)
 end_place [] last (suc p) l e = absurd (cc)
 end_place (o ∷ ops) last zero l e = absurd (cc)
 end_place (o ∷ ops) last (suc p) l e = let h = end_place ops last p l e in (ap suc h.0, h.1)
 
 -- the block of an item
-block_of_item : (blocks : List Block) (b p : ℕ) (i : Item) → item_in blocks b p ≡ Some i → (k : Block) × (slice_get blocks b ≡ Some k) × (in_block k.ops k.last p ≡ Some i)
+pub block_of_item : (blocks : List Block) (b p : ℕ) (i : Item) → item_in blocks b p ≡ Some i → (k : Block) × (slice_get blocks b ≡ Some k) × (in_block k.ops k.last p ≡ Some i)
 block_of_item blocks b p i e = by (slice_get blocks b) refl
   where
     by : (o : Option Block) → slice_get blocks b ≡ o → (k : Block) × (slice_get blocks b ≡ Some k) × (in_block k.ops k.last p ≡ Some i)
     by None is = let f : None ≡ Some i = sym (ap (λ o. item_of o p) is) ∙ e in absurd (cc)
     by (Some k) is = (k, is, sym (ap (λ o. item_of o p) is) ∙ e)
 
-abbrev handled : Option Block → Option ℕ
+abbrev pub handled : Option Block → Option ℕ
 handled o = option_and_then handler_of o
 
 item_op : (x o : Op) {line source : ℕ} → Some (Do x line) ≡ Some (Do o source) → x ≡ o

@@ -1,12 +1,12 @@
--- When one program is another one without the tests that are of no use.
+-- When one function is another one without the tests that are of no use.
 use Rattle.std.specs.Prelude.{◌≡◌, ◌⊎◌, ℕ, suc, true, List, [], ◌∷◌, length}
 use Rattle.ir_core.specs.declared.code.Op.{Op}
 use Rattle.ir_core.specs.declared.code.Last.{Last}
 use Rattle.ir_core.specs.declared.code.Last.TheVariants.{Goto, IfError}
 use Rattle.ir_core.specs.declared.code.Block.{Block}
 use Rattle.ir_core.specs.declared.code.Func.{Func}
-use Rattle.ir_core.specs.declared.code.Program.{Program}
 use Rattle.ir_core.specs.Rows.{Declared}
+use Rattle.unset_tests.specs.Alike.{IsAlike}
 use Rattle.unset_tests.specs.Unset.{UnsetAt, ends_in_failure}
 
 module _ (regs : Declared) (blocks : List Block) where
@@ -34,18 +34,5 @@ module _ (regs : Declared) (blocks : List Block) where
   AreBlocksWithout k _ _ = ⊥
 
 pub record IsWithout (f g : Func) : Type 0 where
-  pub name : g.name ≡ f.name
-  pub params : g.params ≡ f.params
-  pub regs : g.regs ≡ f.regs
-  pub ret : g.ret ≡ f.ret
+  pub alike : IsAlike f g
   pub blocks : AreBlocksWithout f.regs f.blocks 0 f.blocks g.blocks
-
-abbrev pub AreWithout : List Func → List Func → Type 0
-AreWithout [] [] = Unit {0}
-AreWithout (f ∷ fs) (g ∷ gs) = IsWithout f g × AreWithout fs gs
-AreWithout _ _ = ⊥
-
-pub record IsProgramWithout (p q : Program) : Type 0 where
-  pub globals : q.globals ≡ p.globals
-  pub classes : q.classes ≡ p.classes
-  pub funcs : AreWithout p.funcs q.funcs

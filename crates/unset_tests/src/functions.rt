@@ -2,17 +2,19 @@
 ghost use Rattle.std.specs.Prelude.{◌≡◌, IfOk};
 ghost use Rattle.unset_tests.specs.Walk as spec;
 ghost use Rattle.unset_tests.specs.Walk.{left_out};
-ghost use Rattle.unset_tests.specs.Without.{IsWithout, IsProgramWithout};
+ghost use Rattle.unset_tests.specs.Without.{IsWithout};
+ghost use Rattle.unset_tests.specs.Cleared.{IsCleared, IsProgramCleared};
 
+use crate::emptied::emptied;
 use crate::marks::is_marked;
 use crate::sure::sure_tests;
 use ir_core::{Block, Func, Last, Program};
 use std::alloc::Global;
 use value_core::{Many, Memory};
 
-/// A program without tests of registers that are surely set.
-pub(crate) fn program_without(alloc: Global, p: Program) -> Result<Program, Memory>
-    ensures { IfOk result (λ q. IsProgramWithout p q) }
+/// A program without tests of registers that are surely set, and without what no path reaches then.
+pub(crate) fn program_cleared(alloc: Global, p: Program) -> Result<Program, Memory>
+    ensures { IfOk result (λ q. IsProgramCleared p q) }
 {
     let Program {
         globals,
@@ -21,14 +23,21 @@ pub(crate) fn program_without(alloc: Global, p: Program) -> Result<Program, Memo
     } = p;
     let mut done = Vec::new(alloc);
     for func in funcs.into_vec() {
-        let without = function_without(alloc, func)?;
-        done.push(without)?;
+        let cleared = function_cleared(alloc, func)?;
+        done.push(cleared)?;
     }
     Ok(Program {
         globals,
         classes,
         funcs: Many::from_vec(done),
     })
+}
+
+fn function_cleared(alloc: Global, f: Func) -> Result<Func, Memory>
+    ensures { IfOk result (λ g. IsCleared f g) }
+{
+    let tested = function_without(alloc, f)?;
+    emptied(alloc, tested)
 }
 
 fn function_without(alloc: Global, f: Func) -> Result<Func, Memory>

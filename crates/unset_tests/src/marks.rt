@@ -1,9 +1,11 @@
-//! Marks of the blocks at whose start a register may be unset.
-ghost use Rattle.std.specs.Prelude.{◌≡◌, ◌<◌, ◌∷◌, false, length, replicate, get_or, IfOk};
+//! Marks of blocks: those at whose start a register may be unset, and those that paths reach.
+ghost use Rattle.std.specs.Prelude.{◌≡◌, ◌<◌, ◌∷◌, ◌++◌, false, length, replicate, get_or, IfOk, OnOk};
 ghost use Rattle.std.specs.List.{flat_map};
 ghost use Rattle.unset_tests.specs.Walk.{onward, IsSureOf, AreUnset};
+ghost use Rattle.unset_tests.specs.Ways.{leads_to, AreSpread};
 
 use crate::walk::push_onward;
+use crate::ways::push_ways;
 use ir_core::{Block, RType};
 use std::alloc::Global;
 use value_core::{Memory, Name};
@@ -65,6 +67,52 @@ fn work_of(
     Ok(work)
 }
 
+/// What is followed from block to block.
+#[derive(Clone, Copy)]
+pub(crate) enum Followed {
+    /// A register that is unset.
+    Register(usize),
+    /// Any path.
+    Paths,
+}
+
+/// Puts behind others the blocks to which a block leads.
+fn push_led(
+    alloc: Global,
+    work: &mut Vec<usize>,
+    regs: &[(Name, RType)],
+    blocks: &[Block],
+    followed: Followed,
+    block: &Block,
+) -> Result<(), Memory>
+    ensures { OnOk result (work.new.items ≡ work.old.items ++ leads_to regs.now blocks.now followed block.now) }
+{
+    match followed {
+        Followed::Register(r) => push_onward(work, regs, r, block, true),
+        Followed::Paths => push_ways(alloc, work, regs, blocks, block),
+    }
+}
+
+/// Marks of the blocks to which one comes from those in `work`.
+pub(crate) fn spread(
+    alloc: Global,
+    regs: &[(Name, RType)],
+    blocks: &[Block],
+    followed: Followed,
+    mut work: Vec<usize>,
+) -> Result<Vec<bool>, Memory>
+    ensures { IfOk result (λ marks. AreSpread regs.now blocks.now followed work.items marks.items) }
+{
+    let mut marks = no_marks(alloc, blocks.len())?;
+    while let Some(t) = work.pop() {
+        if t < blocks.len() && !is_marked(marks.as_slice(), t) {
+            marks[t] = true;
+            push_led(alloc, &mut work, regs, blocks, followed, &blocks[t])?;
+        }
+    }
+    Ok(marks)
+}
+
 /// Of each block whether a register may be unset at its start.
 pub(crate) fn unset_starts(
     alloc: Global,
@@ -77,13 +125,6 @@ pub(crate) fn unset_starts(
     requires sure { IsSureOf regs.now blocks.now r is_unsure }
     ensures { IfOk result (λ marks. AreUnset regs.now blocks.now r marks.items) }
 {
-    let mut marks = no_marks(alloc, blocks.len())?;
-    let mut work = work_of(alloc, regs, blocks, r, is_unsure)?;
-    while let Some(t) = work.pop() {
-        if t < blocks.len() && !is_marked(marks.as_slice(), t) {
-            marks[t] = true;
-            push_onward(&mut work, regs, r, &blocks[t], true)?;
-        }
-    }
-    Ok(marks)
+    let work = work_of(alloc, regs, blocks, r, is_unsure)?;
+    spread(alloc, regs, blocks, Followed::Register(r), work)
 }

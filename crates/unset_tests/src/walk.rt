@@ -4,6 +4,7 @@ ghost use Rattle.std.specs.Option.{option_to_list};
 ghost use Rattle.ir_core.specs.Missing.{is_some_edge};
 ghost use Rattle.ir_core.specs.Items.{in_block};
 ghost use Rattle.ir_core.specs.Rows.{type_of_reg};
+ghost use Rattle.liveness.specs.Paths as paths;
 ghost use Rattle.unset_tests.specs.Unset as spec;
 ghost use Rattle.unset_tests.specs.Unset.{is_error_literal, is_value, of_test, goes_unset, is_jumps};
 ghost use Rattle.unset_tests.specs.Walk.{left_unset, end_unset, caught_unset, onward, may_go};
@@ -147,14 +148,23 @@ fn push_test(work: &mut Vec<usize>, is_own: bool, e: usize, n: usize) -> Result<
     push_both(work, e, n)
 }
 
-fn push_targets(work: &mut Vec<usize>, r: usize, last: Last) -> Result<(), Memory>
-    ensures { OnOk result (work.new.items ≡ work.old.items ++ goes_unset r last) }
+/// Puts behind others the blocks that an end goes to.
+pub(crate) fn push_targets(work: &mut Vec<usize>, last: Last) -> Result<(), Memory>
+    ensures { OnOk result (work.new.items ≡ work.old.items ++ paths.targets last) }
 {
     match last {
         Last::Goto(t) => Ok(work.push(t)?),
-        Last::If(_, a, b) => push_both(work, a, b),
-        Last::IfError(s, e, n, _) => push_test(work, s.0 == r, e, n),
+        Last::If(_, a, b) | Last::IfError(_, a, b, _) => push_both(work, a, b),
         Last::Return(_) | Last::Unreachable => Ok(()),
+    }
+}
+
+fn push_unset_targets(work: &mut Vec<usize>, r: usize, last: Last) -> Result<(), Memory>
+    ensures { OnOk result (work.new.items ≡ work.old.items ++ goes_unset r last) }
+{
+    match last {
+        Last::IfError(s, e, n, _) => push_test(work, s.0 == r, e, n),
+        other => push_targets(work, other),
     }
 }
 
@@ -171,7 +181,7 @@ pub(crate) fn push_onward(
     let walked = walk(regs, r, block, before);
     push_handler(work, walked.caught, block.handler)?;
     if walked.at_end {
-        push_targets(work, r, block.last)?;
+        push_unset_targets(work, r, block.last)?;
     }
     Ok(())
 }

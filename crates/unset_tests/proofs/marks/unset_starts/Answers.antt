@@ -1,56 +1,16 @@
-use Rattle.std.proofs.Common.{◌≡◌, ◌<◌, ◌+◌, [], ◌∷◌, true, false, length, length-append, sym, ap, subst, arith, vec_len}
-use Rattle.std.specs.List.{flat_map}
-use Rattle.std.specs.Prelude.{slice_set}
-use Rattle.unset_tests.specs.Walk.{onward}
-use Rattle.unset_tests.proofs.Marking.{Marking, weight, weight_set, onward_few, marking_start, marking_past, marking_more, marking_done, block_there, mark_false, mark_true, empty_work}
+use Rattle.std.proofs.Common.{subst}
+use Rattle.unset_tests.specs.declared.marks.Followed.TheVariants.{Register}
+use Rattle.unset_tests.specs.Walk.{AreUnset}
+use Rattle.unset_tests.specs.Ways.{AreSpread}
+use Rattle.unset_tests.proofs.Values.{if_ok}
+use Rattle.unset_tests.proofs.Marking.{spread_unset}
 use Rattle.unset_tests.proofs.marks.unset_starts.Goals as goal
-use Rattle.unset_tests.proofs.marks.unset_starts.Goals.{else-t-blocks-via-then-t-blocks+else-not-is_marked, else-t-blocks-via-else-t-blocks}
-
-pub loop-t-init : goal.loop-t-init
-loop-t-init c =
-    let regs = c.args.regs.now in
-    let blocks = c.args.blocks.now in
-    subst (λ w. Marking regs blocks c.args.r c.in_ok-marks.marks.items w) (sym c.in_ok-work.ensures)
-    (subst (λ m. Marking regs blocks c.args.r m (0 ∷ flat_map (λ b. onward regs c.args.r b false) blocks)) (sym c.in_ok-marks.ensures) (marking_start regs blocks c.args.r))
-
-pub loop-t-smaller-then-not-is_marked : goal.loop-t-smaller-then-not-is_marked
-loop-t-smaller-then-not-is_marked c =
-    let marks = c.loop-t.marks.items in
-    let unmarked = mark_false marks c.as_slice.result.now c.in-Some.t c.is_marked.result c.as_slice.ensures.value c.is_marked.ensures c.if-not-is_marked.true in
-    let falls = weight_set marks c.in-Some.t (omega (arith, c.if-t-blocks.true, c.loop-t.invariant.size)) unmarked in
-    let few = onward_few c.args.regs.now c.args.r c.index-blocks-t.result true in
-    let more = ap length c.in_ok-push_onward.ensures in
-    let both = length-append c.pop.new.self.items (onward c.args.regs.now c.args.r c.index-blocks-t.result true) in
-    let was = ap length c.in-Some.ensures.items in
-    let one = length-append c.pop.new.self.items (c.in-Some.t ∷ []) in
-    let less : weight (slice_set marks c.in-Some.t true) + length c.push_onward.new.work.items < weight marks + length c.loop-t.work.items = omega (arith, falls, few, more, both, was, one) in
-    less
-
-pub loop-t-preserved-then-not-is_marked : goal.loop-t-preserved-then-not-is_marked
-loop-t-preserved-then-not-is_marked c =
-    let regs = c.args.regs.now in
-    let blocks = c.args.blocks.now in
-    let before = subst (Marking regs blocks c.args.r c.loop-t.marks.items) c.in-Some.ensures.items c.loop-t.invariant in
-    let there = block_there blocks c.in-Some.t c.index-blocks-t.result c.if-t-blocks.true c.index-blocks-t.is in
-    subst (Marking regs blocks c.args.r (slice_set c.loop-t.marks.items c.in-Some.t true)) (sym c.in_ok-push_onward.ensures)
-    (marking_more regs blocks c.args.r c.loop-t.marks.items c.pop.new.self.items c.in-Some.t before c.index-blocks-t.result there)
-
-pub loop-t-preserved : goal.loop-t-preserved
-loop-t-preserved c =
-    let regs = c.args.regs.now in
-    let blocks = c.args.blocks.now in
-    let before = subst (Marking regs blocks c.args.r c.loop-t.marks.items) c.in-Some.ensures.items c.loop-t.invariant in
-    let past = marking_past regs blocks c.args.r c.loop-t.marks.items c.pop.new.self.items c.in-Some.t before in
-    elim c.else-t-blocks.branch [
-      | else-t-blocks-via-then-t-blocks+else-not-is_marked w ↦
-          past (λ lt. mark_true c.loop-t.marks.items w.as_slice.result.now c.in-Some.t w.is_marked.result w.as_slice.ensures.value w.is_marked.ensures w.if-not-is_marked.false)
-      | else-t-blocks-via-else-t-blocks w ↦
-          past (λ lt. absurd (omega (arith, lt, w.if-t-blocks.false, c.loop-t.invariant.size)))
-    ]
 
 pub returns : goal.returns
 returns c =
     let regs = c.args.regs.now in
     let blocks = c.args.blocks.now in
-    let none : c.loop-t.work.items ≡ [] = empty_work c.loop-t.work.items c.pop.new.self.items (vec_len c.loop-t.work) c.in_default.ensures.items c.in_default.ensures.rest c.in_default.ensures.cases.0 in
-    marking_done regs blocks c.args.r c.requires.declared c.loop-t.marks.items (subst (Marking regs blocks c.args.r c.loop-t.marks.items) none c.loop-t.invariant)
+    let r = c.args.r in
+    let work = c.in_ok-work.work.items in
+    if_ok c.spread.result (λ m. AreSpread regs blocks (Register r) work m.items) (λ m. AreUnset regs blocks r m.items)
+    (λ m h. spread_unset regs blocks r c.requires.declared m.items (subst (λ w. AreSpread regs blocks (Register r) w m.items) c.in_ok-work.ensures h)) c.spread.ensures
