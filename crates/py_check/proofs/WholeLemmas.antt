@@ -1,12 +1,12 @@
 -- The parts of a module, put together.
 use Rattle.std.proofs.Common.{◌≡◌, ◌∙◌, ℕ, List, [], ◌∷◌, ◌++◌, map, length, Option, Result, Ok, Err, refl, ap, sym, Bor}
 use Rattle.std.proofs.Math.Path.{fun_ext}
-use Rattle.std.proofs.lemmas.List.{append_assoc, length-map}
+use Rattle.std.proofs.lemmas.List.{append_assoc, append-nil, length-map}
 use Rattle.std.specs.List.{flat_map}
 use Rattle.std.specs.Str.{bytes_eq}
 use Rattle.indexmap.specs.IndexMap.{get}
 use Rattle.py_syntax.specs.declared.statement.Func.{Func}
-use Rattle.py_syntax.specs.Statements.{Suite, StmtTree, FuncTree, func_tree}
+use Rattle.py_syntax.specs.Statements.{Suite, FuncTree, func_tree}
 use Rattle.py_syntax_diagnostics.specs.declared.diagnostic.Diag.{Diag}
 use Rattle.py_binder.specs.declared.scope.Scope.{Scope}
 use Rattle.py_binder.specs.declared.scope.Scopes.{Scopes}
@@ -19,20 +19,19 @@ use Rattle.py_typed.specs.Statements.{TypedModule}
 use Rattle.py_check_context.specs.declared.scope.Meaning.{Meaning}
 use Rattle.py_check_names.specs.declared.meanings.ModuleNames.{ModuleNames}
 use Rattle.py_check_names.specs.Walked.{func_trees}
-use Rattle.py_check_names.specs.Outline.{suite_definitions}
+use Rattle.py_check_names.specs.Outline.{held_by, suite_definitions}
 use Rattle.py_check_names.specs.Meanings.{variables, meaning_in, said_in, module_meaning}
-use Rattle.py_check_signatures.specs.Headers.{header, header_said, signature_of}
+use Rattle.py_check_signatures.specs.Headers.{header, signature_of}
 use Rattle.py_check.specs.declared.checking.CheckError.{CheckError}
 use Rattle.py_check.specs.declared.checking.CheckError.TheVariants as reason
-use Rattle.py_check_definitions.specs.Definitions.{Headed, headed, headed_functions, inner_definitions_said, headers_said}
-use Rattle.py_check_definitions.specs.Views.{headed_all, said_along}
-use Rattle.py_check.specs.Module.{Environment, environment, context_by, context_in, statements_said, typed_parts, said, diagnostics, typed}
-use Rattle.py_check_definitions.specs.Views.{meanings_by, headers_said_by}
-use Rattle.py_check.specs.Parts.{environment_by}
+use Rattle.py_check_definitions.specs.Definitions.{Headed, headed, headed_functions, inner_definitions_said, or_refused}
+use Rattle.py_check_definitions.specs.Views.{headed_all, meanings_by}
+use Rattle.py_check.specs.Module.{Environment, environment, context_by, context_in, module_start, bodies_said, global_sorts, statements_said, typed_parts, walked, diagnostics, typed}
+use Rattle.py_check.specs.Parts.{environment_by, statements_along}
 use Rattle.py_check.specs.Outcome.{IsBound, Outcome, Decided}
 use Rattle.py_check_definitions.proofs.HeldLemmas.{functions_defined}
-use Rattle.py_check_definitions.proofs.DefinitionLemmas.{walk_says}
 use Rattle.py_check_definitions.proofs.FunctionLemmas.{all_headed}
+use Rattle.py_check.proofs.WalkLemmas.{walk_whole}
 
 -- ---- contexts
 
@@ -90,17 +89,6 @@ module _ (m : Suite) (s : Scopes) (bound : IsBound m s) (k : ModuleNames) (found
       ∙ ap (headed_all (module_meaning m) (functions m)) bound.funcs
       ∙ all_headed (module_meaning m) (module_role m) (functions m)
 
-  -- what is said of headers
-  pub same_headers : (trees : List FuncTree) → trees ≡ functions m → (fs : List Headed) → fs ≡ headed_functions m → (ds : List StmtTree) → ds ≡ suite_definitions m → headers_said_by (meanings_by k s.top) trees fs ds ≡ headers_said m
-  same_headers trees held fs whole ds defined =
-      ap (λ (w : List ℕ → Meaning). headers_said_by w trees fs ds) same_meanings
-      ∙ ap (λ (l : List FuncTree). headers_said_by (module_meaning m) l fs ds) held
-      ∙ ap (λ (l : List Headed). headers_said_by (module_meaning m) (functions m) l ds) whole
-      ∙ ap (λ (l : List StmtTree). headers_said_by (module_meaning m) (functions m) (headed_functions m) l) defined
-      ∙ ap (λ (l : List Diag). (flat_map (header_said (module_meaning m)) (functions m) ++ l) ++ flat_map inner_definitions_said (functions m))
-      (ap (λ (l : List FuncTree). said_along [] (map (headed (module_role m) (module_meaning m)) l) (suite_definitions m)) (functions_defined m)
-      ∙ walk_says (module_role m) (module_meaning m) [] (suite_definitions m))
-
   -- what all scopes share
   pub same_environment : (fs : List Headed) → fs ≡ headed_functions m → environment_by k fs ≡ environment m
   same_environment fs whole =
@@ -110,11 +98,16 @@ module _ (m : Suite) (s : Scopes) (bound : IsBound m s) (k : ModuleNames) (found
       ∙ ap (environment_with (said_in m) (variables (module_scope m))) (signatures_with (module_role m) (module_meaning m) (functions m))
 
   -- what is said of statements
-  pub same_statements : (fs : List Headed) → fs ≡ headed_functions m → statements_said (environment_by k fs) s.top fs m ≡ statements_said (environment m) (module_scope m) (headed_functions m) m
+  pub same_statements : (fs : List Headed) → fs ≡ headed_functions m → statements_along (environment_by k fs) s.top s.funcs fs m ≡ statements_said (environment m) (module_scope m) (headed_functions m) m (module_role m)
   same_statements fs whole =
-      ap (λ (e : Environment). statements_said e s.top fs m) (same_environment fs whole)
-      ∙ ap (λ (t : Scope). statements_said (environment m) t fs m) bound.top
-      ∙ ap (λ (l : List Headed). statements_said (environment m) (module_scope m) l m) whole
+      let roles = module_role m in
+      let c = context_in (environment m) (module_scope m) in
+      ap (λ (e : Environment). statements_along e s.top s.funcs fs m) (same_environment fs whole)
+      ∙ ap (λ (t : Scope). statements_along (environment m) t s.funcs fs m) bound.top
+      ∙ ap (λ (l : List Headed). statements_along (environment m) (module_scope m) s.funcs l m) whole
+      ∙ ap (λ (l : List Diag). l ++ bodies_said (environment m) (global_sorts (environment m) (module_scope m) (headed_functions m) m) (headed_functions m))
+      (walk_whole roles c (module_start c (environment m).variables m) [] [] (λ q. refl) m [] s.funcs
+      (bound.funcs ∙ ap (map (function_scope roles)) (functions_defined m) ∙ sym (append-nil (map (function_scope roles) (flat_map held_by (suite_definitions m))))))
 
   -- the typed tree
   pub same_tree : (fs : List Headed) → fs ≡ headed_functions m → typed_parts (environment_by k fs) s.top fs m ≡ typed m
@@ -123,12 +116,11 @@ module _ (m : Suite) (s : Scopes) (bound : IsBound m s) (k : ModuleNames) (found
       ∙ ap (λ (t : Scope). typed_parts (environment m) t fs m) bound.top
       ∙ ap (λ (l : List Headed). typed_parts (environment m) (module_scope m) l m) whole
 
-  -- ALL THAT IS SAID
-  pub all_told : (trees : List FuncTree) → trees ≡ functions m → (fs : List Headed) → fs ≡ headed_all (meanings_by k s.top) trees s.funcs → (ds : List StmtTree) → ds ≡ suite_definitions m → (d0 d1 d2 d3 : List Diag) → d1 ≡ d0 ++ headers_said_by (meanings_by k s.top) trees fs ds → d2 ≡ d1 ++ statements_said (environment_by k fs) s.top fs m → d3 ≡ d2 ++ s.faults → d3 ≡ d0 ++ said m
-  all_told trees held fs with_headers ds defined d0 d1 d2 d3 first second third =
-      let whole : fs ≡ headed_functions m = same_functions trees held fs with_headers in
-      three_told d0 d1 d2 d3 _ _ _ (headers_said m) (statements_said (environment m) (module_scope m) (headed_functions m) m) (faults m) first second third
-      (same_headers trees held fs whole ds defined) (same_statements fs whole) bound.faults
+  -- ALL THAT IS TOLD
+  pub all_told : (trees : List FuncTree) → trees ≡ functions m → (fs : List Headed) → fs ≡ headed_all (meanings_by k s.top) trees s.funcs → (d0 d1 d2 d3 : List Diag) → d1 ≡ d0 ++ statements_along (environment_by k fs) s.top s.funcs fs m → d2 ≡ d1 ++ flat_map inner_definitions_said trees → d3 ≡ d2 ++ s.faults → d3 ≡ d0 ++ walked m
+  all_told trees held fs with_headers d0 d1 d2 d3 first second third =
+      three_told d0 d1 d2 d3 _ _ _ (statements_said (environment m) (module_scope m) (headed_functions m) m (module_role m)) (flat_map inner_definitions_said (functions m)) (faults m) first second third
+      (same_statements fs (same_functions trees held fs with_headers)) (ap (flat_map inner_definitions_said) held) bound.faults
 
 -- as many scopes as functions
 pub one_to_one : (m : Suite) (s : Scopes) → IsBound m s → (found : List (Bor Func)) → func_trees found ≡ functions m → length found ≡ length s.funcs
@@ -145,5 +137,6 @@ answer_at m all tree same made (Ok c) h = (sym same ∙ h.0, h.1 ∙ made)
 answer_at m all tree same made (Err (reason.Diags ds)) h = (h.0 ∙ same, λ none. h.1 (same ∙ none))
 answer_at m all tree same made (Err reason.Memory) h = tt
 
-pub answer : (m m2 : Suite) → m2 ≡ m → (all : List Diag) → all ≡ [] ++ said m2 → (tree : TypedModule) → tree ≡ typed m2 → (r : Result Checked CheckError) → Decided (by_place all) tree r → Outcome m r
-answer m m2 same all told tree made r h = answer_at m (by_place all) tree (ap by_place told ∙ ap diagnostics same) (made ∙ ap typed same) r h
+pub answer : (m m2 : Suite) → m2 ≡ m → (all told : List Diag) → told ≡ walked m2 → all ≡ or_refused told (suite_definitions m2) → (tree : TypedModule) → tree ≡ typed m2 → (r : Result Checked CheckError) → Decided (by_place all) tree r → Outcome m r
+answer m m2 same all told is refused tree made r h =
+    answer_at m (by_place all) tree (ap by_place (refused ∙ ap (λ (l : List Diag). or_refused l (suite_definitions m2)) is) ∙ ap diagnostics same) (made ∙ ap typed same) r h

@@ -1,16 +1,17 @@
 -- THE TYPING OF A MODULE: its diagnostics, and its typed tree (Python Language Reference, "Top-level components"; PEP 484).
 --
 -- First come all signatures, so that functions are called from anywhere; then the module's own statements, which fix the types of
--- its variables; and then the bodies of functions by their numbers, which know these. Functions and variables are known by their
--- numbers.
+-- its variables, and among them its definitions, each with what is known where it stands; and then the bodies of functions by their
+-- numbers, each of which knows these, whatever the others do. Functions and variables are known by their numbers.
 --
 -- The typed tree has every function and variable at its number. Where something is wrong there is no answer with a tree, and what
 -- has no type stands in it as what says nothing: a body without statements, a signature without parameters, a variable that is None.
-use Rattle.std.specs.Prelude.{ℕ, false, List, [], ◌∷◌, ◌++◌, map, length, Option, Some, None, unwrap_or}
-use Rattle.py_syntax.specs.Statements.{Suite}
+use Rattle.std.specs.Prelude.{ℕ, false, List, [], ◌++◌, map, length, Option, Some, None, unwrap_or}
+use Rattle.std.specs.List.{flat_map}
+use Rattle.py_syntax.specs.Statements.{Suite, no_stmts, stmt_then}
 use Rattle.py_syntax_diagnostics.specs.declared.diagnostic.Diag.{Diag}
 use Rattle.py_binder.specs.declared.scope.Scope.{Scope}
-use Rattle.py_binder.specs.Scope.{param_names, module_scope}
+use Rattle.py_binder.specs.Scope.{Roles, param_names, module_scope, module_role, functions}
 use Rattle.py_binder.specs.Faults.{faults}
 use Rattle.py_syntax_diagnostics.specs.Order.{by_place}
 use Rattle.py_typed.specs.Sorts as sort
@@ -22,12 +23,13 @@ use Rattle.py_check_context.specs.Context.{Context, VarSort}
 use Rattle.py_check_flow.specs.Bindings.{suite_bindings}
 use Rattle.py_check_messages.specs.Seen.{Seen}
 use Rattle.py_check_signatures.specs.Headers.{signature_of}
+use Rattle.py_check_names.specs.Outline.{stmt_definitions, suite_definitions}
 use Rattle.py_check_names.specs.Meanings.{variables, own_names, number, meaning_in, said_in}
 use Rattle.py_check_values.specs.Returns as ret
 use Rattle.py_check_values.specs.Returns.{ReturnSort}
 use Rattle.py_check_places.specs.Places.{Known}
-use Rattle.py_check_statements.specs.Bodies.{block, block_after}
-use Rattle.py_check_definitions.specs.Definitions.{Headed, headed_functions, signatures, headers_said}
+use Rattle.py_check_statements.specs.Bodies.{after, block, block_after}
+use Rattle.py_check_definitions.specs.Definitions.{Headed, headed_functions, signatures, names_given, definitions_said, inner_definitions_said, or_refused}
 use Rattle.py_check_definitions.specs.Starts.{start_sort, own_sort}
 use Rattle.py_check_definitions.specs.Variables.{typed_variables, numbers_from}
 
@@ -94,6 +96,17 @@ module _ (c : Context) (names : List (List ℕ)) (m : Suite) where
   abbrev pub fixed_sorts : List VarSort
   fixed_sorts = (block_after c module_start m).types.globals
 
+-- ---- what is said along them
+
+-- OF EACH STATEMENT, behind definitions of these names: of the definitions in it, with what is known where it begins, and of itself.
+-- In every text a definition is a whole statement of the module
+module _ (roles : Roles) (c : Context) where
+  abbrev pub walk_said : Known → List (List ℕ) → Suite → List Diag
+  walk_said k earlier no_stmts = []
+  walk_said k earlier (stmt_then s more) =
+      definitions_said roles c k earlier (stmt_definitions s) ++ (block c ret.outside false k (stmt_then s no_stmts)).said
+      ++ walk_said (after c k s) (earlier ++ flat_map names_given (stmt_definitions s)) more
+
 -- ---- a function's body
 
 abbrev pub return_of : Option Sort → ReturnSort
@@ -125,21 +138,13 @@ module _ (c : Context) (names : List (List ℕ)) (sorts : List VarSort) (f : Hea
 
 -- ---- all bodies, by the numbers of functions
 
-module _ (e : Environment) where
-  abbrev pub sorts_behind : List VarSort → Headed → List VarSort
-  sorts_behind sorts f = (body_after (context_in e f.inside) e.variables sorts f).types.globals
+-- where the module's variables have these types: what a body gives to one that has none yet it gives for itself alone
+module _ (e : Environment) (sorts : List VarSort) where
+  abbrev pub bodies_said : List Headed → List Diag
+  bodies_said fs = flat_map (λ f. (body (context_in e f.inside) e.variables sorts f).said) fs
 
-  abbrev pub bodies_said : List VarSort → List Headed → List Diag
-  bodies_said sorts [] = []
-  bodies_said sorts (f ∷ more) = (body (context_in e f.inside) e.variables sorts f).said ++ bodies_said (sorts_behind sorts f) more
-
-  abbrev pub typed_functions : List VarSort → List Headed → List TypedFunc
-  typed_functions sorts [] = []
-  typed_functions sorts (f ∷ more) = typed_function (context_in e f.inside) e.variables sorts f ∷ typed_functions (sorts_behind sorts f) more
-
-  abbrev pub sorts_behind_all : List VarSort → List Headed → List VarSort
-  sorts_behind_all sorts [] = sorts
-  sorts_behind_all sorts (f ∷ more) = sorts_behind_all (sorts_behind sorts f) more
+  abbrev pub typed_functions : List Headed → List TypedFunc
+  typed_functions fs = map (λ f. typed_function (context_in e f.inside) e.variables sorts f) fs
 
 -- ---- the whole
 
@@ -149,22 +154,28 @@ module _ (e : Environment) (top : Scope) (fs : List Headed) (m : Suite) where
   abbrev pub global_sorts : List VarSort
   global_sorts = fixed_sorts (context_in e top) e.variables m
 
-  abbrev pub statements_said : List Diag
-  statements_said = (own_statements (context_in e top) e.variables m).said ++ bodies_said e global_sorts fs
+  -- where names of the module are this
+  abbrev pub statements_said : Roles → List Diag
+  statements_said roles =
+      walk_said roles (context_in e top) (module_start (context_in e top) e.variables m) [] m ++ bodies_said e global_sorts fs
 
   abbrev pub typed_parts : TypedModule
   typed_parts =
-      module_by fs e.variables (sorts_behind_all e global_sorts fs) (typed_functions e global_sorts fs)
-      (own_statements (context_in e top) e.variables m).got
+      module_by fs e.variables global_sorts (typed_functions e global_sorts fs) (own_statements (context_in e top) e.variables m).got
 
 module _ (m : Suite) where
   abbrev pub environment : Environment
   environment = record { said = said_in m; variables = variables (module_scope m); signatures = signatures m; classes = [] }
 
-  -- all that is said: what typing says, in the order of its walk, and then the faults of names, which binding finds and of which
-  -- typing says nothing
+  -- all that typing says, in the order of its walk, then what stands in bodies and may not, and then the faults of names, which
+  -- binding finds and of which typing says nothing
+  abbrev pub walked : List Diag
+  walked =
+      statements_said environment (module_scope m) (headed_functions m) m (module_role m) ++ flat_map inner_definitions_said (functions m) ++ faults m
+
+  -- ALL THAT IS SAID
   abbrev pub said : List Diag
-  said = headers_said m ++ statements_said environment (module_scope m) (headed_functions m) m ++ faults m
+  said = or_refused walked (suite_definitions m)
 
   -- THE DIAGNOSTICS of a module, by their places; at one place the fault of a name comes last, since nothing stands in a name
   abbrev pub diagnostics : List Diag

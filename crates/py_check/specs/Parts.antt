@@ -1,14 +1,23 @@
--- What the program's environments stand for.
-use Rattle.std.specs.Prelude.{List, [], map}
+-- What the program's environments stand for, and what its walk over a module's own statements says.
+use Rattle.std.specs.Prelude.{ℕ, false, List, [], ◌++◌, map}
 use Rattle.std.specs.Option.{option_map}
 use Rattle.std.specs.Str.{bytes_eq}
 use Rattle.indexmap.specs.IndexMap.{get}
+use Rattle.py_syntax.specs.Statements.{Suite, no_stmts, stmt_then}
+use Rattle.py_syntax_diagnostics.specs.declared.diagnostic.Diag.{Diag}
+use Rattle.py_binder.specs.declared.scope.Scope.{Scope}
 use Rattle.py_typed.specs.Classes.{class_entry, signature}
+use Rattle.py_check_context.specs.Context.{Context}
 use Rattle.py_check_names.specs.declared.meanings.ModuleNames.{ModuleNames}
+use Rattle.py_check_names.specs.Outline.{stmt_definitions}
 use Rattle.py_check_signatures.specs.Headers.{signature_of}
+use Rattle.py_check_values.specs.Returns.{outside}
+use Rattle.py_check_places.specs.Places.{Known}
+use Rattle.py_check_statements.specs.Bodies.{after, block}
 use Rattle.py_check_definitions.specs.declared.environments.Environment as declared
 use Rattle.py_check_definitions.specs.Definitions.{Headed}
-use Rattle.py_check.specs.Module.{Environment}
+use Rattle.py_check_definitions.specs.Views.{said_along, names_behind, scopes_behind}
+use Rattle.py_check.specs.Module.{Environment, context_in, module_start, global_sorts, bodies_said}
 
 abbrev pub environment_of : declared.Environment → Environment
 environment_of e = record {
@@ -26,3 +35,19 @@ environment_by k fs = record {
   signatures = map (λ f. signature_of f.header) fs;
   classes = [];
 }
+
+-- along a module's own statements, whose functions have these scopes
+module _ (c : Context) where
+  abbrev pub walk_along : Known → List (List ℕ) → List Scope → Suite → List Diag
+  walk_along k earlier insides no_stmts = []
+  walk_along k earlier insides (stmt_then s more) =
+      said_along c k earlier insides (stmt_definitions s) ++ (block c outside false k (stmt_then s no_stmts)).said
+      ++ walk_along (after c k s) (names_behind earlier (stmt_definitions s)) (scopes_behind insides (stmt_definitions s)) more
+
+-- from where the module begins
+abbrev pub own_along : Context → List (List ℕ) → List Scope → Suite → List Diag
+own_along c names insides m = walk_along c (module_start c names m) [] insides m
+
+-- and then of the bodies of functions
+abbrev pub statements_along : Environment → Scope → List Scope → List Headed → Suite → List Diag
+statements_along e top insides fs m = own_along (context_in e top) e.variables insides m ++ bodies_said e (global_sorts e top fs m) fs

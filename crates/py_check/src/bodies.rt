@@ -11,7 +11,9 @@ ghost use Rattle.py_check_places.specs.Views.{known_at};
 ghost use Rattle.py_check_definitions.specs.Views.{headed_of, headed_parts};
 ghost use Rattle.py_check.specs.Module as spec;
 ghost use Rattle.py_check.specs.Parts as views;
+ghost use Rattle.py_check.specs.Unfixed as fixing;
 
+use crate::unfixed::{unfixed_numbers, without_types};
 use indexmap::IndexSet;
 use py_check_context::{Context, VarType};
 use py_check_definitions::{
@@ -26,8 +28,8 @@ use py_typed::{TFunc, TStmt, Ty};
 use std::alloc::Global;
 use value_core::{Many, Memory, Name};
 
-/// The functions of a module with their bodies, in their order: each finds the types of the module's variables as the ones before
-/// it left them.
+/// The functions of a module with their bodies, in their order, where its variables have these types. A type that a body gives to
+/// a variable that has none yet is known in that body alone.
 pub(crate) fn typed_functions(
     alloc: Global,
     environment: &Environment<'_>,
@@ -37,12 +39,56 @@ pub(crate) fn typed_functions(
 ) -> Result<Many<TFunc>, Memory>
     ensures typed { IfOk result (λ fs. map typed_func fs ≡ spec.typed_functions (views.environment_of environment.now) (known_at place.old).types.globals (map headed_of functions.now)) }
     ensures told { IfOk result (λ fs. faults.new ≡ faults.old ++ spec.bodies_said (views.environment_of environment.now) (known_at place.old).types.globals (map headed_of functions.now)) }
-    ensures known { IfOk result (λ fs. (known_at place.new).types.globals ≡ spec.sorts_behind_all (views.environment_of environment.now) (known_at place.old).types.globals (map headed_of functions.now)) }
+    ensures known { IfOk result (λ fs. (known_at place.new).types.globals ≡ (known_at place.old).types.globals) }
+{
+    let numbers = unfixed_numbers(alloc, &place.types.globals)?;
+    functions_in(
+        alloc,
+        environment,
+        functions,
+        numbers.as_slice(),
+        place,
+        faults,
+    )
+}
+
+/// The same where the variables of these numbers have no type yet.
+fn functions_in(
+    alloc: Global,
+    environment: &Environment<'_>,
+    functions: &[Function<'_>],
+    unfixed: &[usize],
+    place: &mut Place,
+    faults: &mut Many<Diag>,
+) -> Result<Many<TFunc>, Memory>
+    requires { unfixed.now ≡ fixing.unfixed_from 0 (known_at place.old).types.globals }
+    ensures typed { IfOk result (λ fs. map typed_func fs ≡ spec.typed_functions (views.environment_of environment.now) (known_at place.old).types.globals (map headed_of functions.now)) }
+    ensures told { IfOk result (λ fs. faults.new ≡ faults.old ++ spec.bodies_said (views.environment_of environment.now) (known_at place.old).types.globals (map headed_of functions.now)) }
+    ensures known { IfOk result (λ fs. (known_at place.new).types.globals ≡ (known_at place.old).types.globals) }
 {
     let mut typed = Many::new(alloc);
     for f in functions {
-        typed.push(typed_function(alloc, environment, f, place, faults)?)?;
+        typed.push(function_alone(alloc, environment, f, unfixed, place, faults)?)?;
     }
+    Ok(typed)
+}
+
+/// A function with its body, behind which the variables of the module have the types that they had before.
+fn function_alone(
+    alloc: Global,
+    environment: &Environment<'_>,
+    f: &Function<'_>,
+    unfixed: &[usize],
+    place: &mut Place,
+    faults: &mut Many<Diag>,
+) -> Result<TFunc, Memory>
+    requires { unfixed.now ≡ fixing.unfixed_from 0 (known_at place.old).types.globals }
+    ensures typed { IfOk result (λ t. typed_func t ≡ spec.typed_function (spec.context_in (views.environment_of environment.now) f.now.inside.now) environment.now.known.now.variables.keys (known_at place.old).types.globals (headed_of f.now)) }
+    ensures told { IfOk result (λ t. faults.new ≡ faults.old ++ (spec.body (spec.context_in (views.environment_of environment.now) f.now.inside.now) environment.now.known.now.variables.keys (known_at place.old).types.globals (headed_of f.now)).said) }
+    ensures known { IfOk result (λ t. (known_at place.new).types.globals ≡ (known_at place.old).types.globals) }
+{
+    let typed = typed_function(alloc, environment, f, place, faults)?;
+    without_types(unfixed, &mut place.types.globals);
     Ok(typed)
 }
 
@@ -56,7 +102,7 @@ fn typed_function(
 ) -> Result<TFunc, Memory>
     ensures typed { IfOk result (λ t. typed_func t ≡ spec.typed_function (spec.context_in (views.environment_of environment.now) f.now.inside.now) environment.now.known.now.variables.keys (known_at place.old).types.globals (headed_of f.now)) }
     ensures told { IfOk result (λ t. faults.new ≡ faults.old ++ (spec.body (spec.context_in (views.environment_of environment.now) f.now.inside.now) environment.now.known.now.variables.keys (known_at place.old).types.globals (headed_of f.now)).said) }
-    ensures known { IfOk result (λ t. (known_at place.new).types.globals ≡ spec.sorts_behind (views.environment_of environment.now) (known_at place.old).types.globals (headed_of f.now)) }
+    ensures known { IfOk result (λ t. (known_at place.new).types.globals ≡ (spec.body_after (spec.context_in (views.environment_of environment.now) f.now.inside.now) environment.now.known.now.variables.keys (known_at place.old).types.globals (headed_of f.now)).types.globals) }
 {
     let names = names_in(alloc, environment.known, f.inside)?;
     let scope = Context {

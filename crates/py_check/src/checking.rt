@@ -6,6 +6,8 @@ ghost use Rattle.py_check.specs.Outcome.{IsBound, Outcome, Decided};
 
 use crate::modules::typed_module;
 use py_binder::Scopes;
+use py_check_definitions::add_refusals;
+use py_check_names::definitions_in;
 use py_syntax::Module;
 use py_syntax_diagnostics::{Diag, by_place};
 use py_typed::Checked;
@@ -41,7 +43,10 @@ pub fn check(alloc: Global, m: &Module, scopes: &Scopes) -> Result<Checked, Chec
     ensures { Outcome (module_tree m.now) result }
 {
     let mut faults = Many::new(alloc);
-    let typed = typed_module(alloc, m.body.as_slice(), scopes, &mut faults)?;
+    let body = m.body.as_slice();
+    let typed = typed_module(alloc, body, scopes, &mut faults)?;
+    let definitions = definitions_in(alloc, body)?;
+    add_refusals(alloc, definitions.as_slice(), &mut faults)?;
     by_faults(typed, faults)
 }
 

@@ -9,5 +9,7 @@ mod bodies;
 mod checking;
 mod found;
 mod modules;
+mod unfixed;
+mod walk;
 
 pub use checking::{CheckError, check};

@@ -5,7 +5,6 @@ ghost use Rattle.py_syntax.specs.Statements.{body_tree};
 ghost use Rattle.py_typed.specs.Classes.{signature};
 ghost use Rattle.py_typed.specs.Statements.{typed_func, typed_module, typed_stmt};
 ghost use Rattle.py_check_context.specs.Context.{context, var_sort};
-ghost use Rattle.py_check_messages.specs.Seen.{Tells};
 ghost use Rattle.py_check_signatures.specs.Headers as headers;
 ghost use Rattle.py_check_places.specs.Views.{known_at};
 ghost use Rattle.py_check_definitions.specs.Views.{headed_of};
@@ -15,18 +14,17 @@ ghost use Rattle.py_check.specs.Parts as views;
 
 use crate::bodies::{statements_or_none, typed_functions};
 use crate::found::add_found;
+use crate::walk::walk;
 use indexmap::IndexSet;
 use py_binder::{Scope, Scopes};
 use py_check_context::{VarType, Variables};
 use py_check_definitions::{
-    Environment, Function, add_header_faults, definitions_of, no_classes, signatures_of,
-    start_types, typed_variables,
+    Environment, Function, add_inner_faults, definitions_of, headed_functions, no_classes,
+    signatures_of, start_types, typed_variables,
 };
 use py_check_names::{ModuleNames, names_in};
 use py_check_places::Place;
 use py_check_signatures::signature_of;
-use py_check_statements::block;
-use py_check_values::Returns;
 use py_syntax::Stmt;
 use py_syntax_diagnostics::Diag;
 use py_typed::{Checked, ClassList, Classes, Sig, TFunc, TStmt, Ty};
@@ -40,7 +38,7 @@ struct Own {
     place: Place,
 }
 
-/// The typed tree of a module of these scopes; and adds all that is wrong with it, in the order of the walk, and then what binding
+/// The typed tree of a module of these scopes; and adds what is wrong with it, in the order of the walk, and then what binding
 /// found. The tree is of use only where nothing is.
 pub(crate) fn typed_module(
     alloc: Global,
@@ -50,23 +48,25 @@ pub(crate) fn typed_module(
 ) -> Result<Checked, Memory>
     requires { IsBound (body_tree body.now) scopes.now }
     ensures typed { IfOk result (λ c. typed_module c ≡ spec.typed (body_tree body.now)) }
-    ensures told { IfOk result (λ c. faults.new ≡ faults.old ++ spec.said (body_tree body.now)) }
+    ensures told { IfOk result (λ c. faults.new ≡ faults.old ++ spec.walked (body_tree body.now)) }
 {
     let found = definitions_of(alloc, body, &scopes.top)?;
-    let functions = add_header_faults(alloc, &found, scopes, faults)?;
-    typed_with(
+    let functions = headed_functions(alloc, &found, scopes)?;
+    let typed = typed_parts(
         alloc,
         &found.known,
         functions.as_slice(),
         scopes,
         body,
         faults,
-    )
+    )?;
+    add_inner_faults(alloc, found.functions.as_slice(), faults)?;
+    add_found(scopes.faults.as_slice(), faults)?;
+    Ok(typed)
 }
 
-/// The same where this is known of its names and these are its functions with their headers, of which all that is wrong is told
-/// before.
-fn typed_with(
+/// The typed tree of a module of these functions and statements, where this is known of its names and these are its scopes.
+fn typed_parts(
     alloc: Global,
     known: &ModuleNames,
     functions: &[Function<'_>],
@@ -75,24 +75,7 @@ fn typed_with(
     faults: &mut Many<Diag>,
 ) -> Result<Checked, Memory>
     ensures typed { IfOk result (λ c. typed_module c ≡ spec.typed_parts (views.environment_by known.now (map headed_of functions.now)) scopes.now.top (map headed_of functions.now) (body_tree body.now)) }
-    ensures told { IfOk result (λ c. faults.new ≡ faults.old ++ spec.statements_said (views.environment_by known.now (map headed_of functions.now)) scopes.now.top (map headed_of functions.now) (body_tree body.now) ++ scopes.now.faults) }
-{
-    let typed = typed_parts(alloc, known, functions, &scopes.top, body, faults)?;
-    add_found(scopes.faults.as_slice(), faults)?;
-    Ok(typed)
-}
-
-/// The typed tree of a module of these functions and statements, where these names are seen in it.
-fn typed_parts(
-    alloc: Global,
-    known: &ModuleNames,
-    functions: &[Function<'_>],
-    top: &Scope,
-    body: &[Stmt],
-    faults: &mut Many<Diag>,
-) -> Result<Checked, Memory>
-    ensures typed { IfOk result (λ c. typed_module c ≡ spec.typed_parts (views.environment_by known.now (map headed_of functions.now)) top.now (map headed_of functions.now) (body_tree body.now)) }
-    ensures told { IfOk result (λ c. faults.new ≡ faults.old ++ spec.statements_said (views.environment_by known.now (map headed_of functions.now)) top.now (map headed_of functions.now) (body_tree body.now)) }
+    ensures told { IfOk result (λ c. faults.new ≡ faults.old ++ views.statements_along (views.environment_by known.now (map headed_of functions.now)) scopes.now.top scopes.now.funcs (map headed_of functions.now) (body_tree body.now)) }
 {
     let signatures = signatures_of(alloc, functions)?;
     let classes = no_classes(alloc);
@@ -101,7 +84,7 @@ fn typed_parts(
         signatures: signatures.as_slice(),
         classes: &classes,
     };
-    typed_in(alloc, &environment, functions, top, body, faults)
+    typed_in(alloc, &environment, functions, scopes, body, faults)
 }
 
 /// The same in its environment: the module's own statements first, then the bodies of functions.
@@ -109,14 +92,14 @@ fn typed_in(
     alloc: Global,
     environment: &Environment<'_>,
     functions: &[Function<'_>],
-    top: &Scope,
+    scopes: &Scopes,
     body: &[Stmt],
     faults: &mut Many<Diag>,
 ) -> Result<Checked, Memory>
-    ensures typed { IfOk result (λ c. typed_module c ≡ spec.typed_parts (views.environment_of environment.now) top.now (map headed_of functions.now) (body_tree body.now)) }
-    ensures told { IfOk result (λ c. faults.new ≡ faults.old ++ spec.statements_said (views.environment_of environment.now) top.now (map headed_of functions.now) (body_tree body.now)) }
+    ensures typed { IfOk result (λ c. typed_module c ≡ spec.typed_parts (views.environment_of environment.now) scopes.now.top (map headed_of functions.now) (body_tree body.now)) }
+    ensures told { IfOk result (λ c. faults.new ≡ faults.old ++ views.statements_along (views.environment_of environment.now) scopes.now.top scopes.now.funcs (map headed_of functions.now) (body_tree body.now)) }
 {
-    let own = own_statements(alloc, environment, top, body, faults)?;
+    let own = own_statements(alloc, environment, scopes, body, faults)?;
     let Own { typed, mut place } = own;
     let funcs = typed_functions(alloc, environment, functions, &mut place, faults)?;
     with_functions(
@@ -129,24 +112,32 @@ fn typed_in(
     )
 }
 
-/// A module's own statements, which fix the types of its variables.
+/// A module's own statements, which fix the types of its variables, with the definitions among them.
 fn own_statements(
     alloc: Global,
     environment: &Environment<'_>,
-    top: &Scope,
+    scopes: &Scopes,
     body: &[Stmt],
     faults: &mut Many<Diag>,
 ) -> Result<Own, Memory>
-    ensures told { IfOk result (λ o. Tells (map typed_stmt) o.typed faults.old faults.new (spec.own_statements (spec.context_in (views.environment_of environment.now) top.now) environment.now.known.now.variables.keys (body_tree body.now))) }
-    ensures known { IfOk result (λ o. (known_at o.place).types.globals ≡ spec.fixed_sorts (spec.context_in (views.environment_of environment.now) top.now) environment.now.known.now.variables.keys (body_tree body.now)) }
+    ensures typed { IfOk result (λ o. option_map (map typed_stmt) o.typed ≡ (spec.own_statements (spec.context_in (views.environment_of environment.now) scopes.now.top) environment.now.known.now.variables.keys (body_tree body.now)).got) }
+    ensures told { IfOk result (λ o. faults.new ≡ faults.old ++ views.own_along (spec.context_in (views.environment_of environment.now) scopes.now.top) environment.now.known.now.variables.keys scopes.now.funcs (body_tree body.now)) }
+    ensures known { IfOk result (λ o. (known_at o.place).types.globals ≡ spec.fixed_sorts (spec.context_in (views.environment_of environment.now) scopes.now.top) environment.now.known.now.variables.keys (body_tree body.now)) }
 {
-    let names = names_in(alloc, environment.known, top)?;
+    let names = names_in(alloc, environment.known, &scopes.top)?;
     let scope = py_check_context::Context {
         names: &names,
         sigs: environment.signatures,
         classes: environment.classes,
     };
-    statements_in(alloc, &scope, &environment.known.variables, body, faults)
+    statements_in(
+        alloc,
+        &scope,
+        &environment.known.variables,
+        scopes.funcs.as_slice(),
+        body,
+        faults,
+    )
 }
 
 /// The same in their scope.
@@ -154,22 +145,16 @@ fn statements_in(
     alloc: Global,
     scope: &py_check_context::Context<'_>,
     variables: &IndexSet<Name>,
+    insides: &[Scope],
     body: &[Stmt],
     faults: &mut Many<Diag>,
 ) -> Result<Own, Memory>
-    ensures told { IfOk result (λ o. Tells (map typed_stmt) o.typed faults.old faults.new (spec.own_statements (context scope.now) variables.now.keys (body_tree body.now))) }
+    ensures typed { IfOk result (λ o. option_map (map typed_stmt) o.typed ≡ (spec.own_statements (context scope.now) variables.now.keys (body_tree body.now)).got) }
+    ensures told { IfOk result (λ o. faults.new ≡ faults.old ++ views.own_along (context scope.now) variables.now.keys insides.now (body_tree body.now)) }
     ensures known { IfOk result (λ o. (known_at o.place).types.globals ≡ spec.fixed_sorts (context scope.now) variables.now.keys (body_tree body.now)) }
 {
     let mut place = start(alloc, scope, variables, body)?;
-    let typed = block(
-        alloc,
-        scope,
-        body,
-        Returns::Outside,
-        false,
-        &mut place,
-        faults,
-    )?;
+    let typed = walk(alloc, scope, insides, body, &mut place, faults)?;
     Ok(Own { typed, place })
 }
 

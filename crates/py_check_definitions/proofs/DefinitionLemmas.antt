@@ -1,63 +1,32 @@
 -- The walk over definitions says what is to be said of them.
-use Rattle.std.proofs.Common.{◌≡◌, ◌∙◌, ℕ, zero, suc, ◌+◌, ◌<◌, not, ◌&&◌, ◌||◌, List, [], ◌∷◌, ◌++◌, length, map, drop, get_or, drop-cons, add-one, refl, ap, ap₂, sym, Bor}
-use Rattle.std.proofs.lemmas.List.{append_assoc}
+use Rattle.std.proofs.Common.{◌≡◌, ◌∙◌, ℕ, suc, ◌+◌, ◌<◌, not, ◌&&◌, ◌||◌, List, [], ◌∷◌, ◌++◌, length, map, drop, get_or, drop-cons, add-one, refl, ap, ap₂, sym, Bor}
+use Rattle.std.proofs.lemmas.List.{append_assoc, append-nil}
 use Rattle.std.proofs.lemmas.List.Folds.{list_any-append}
 use Rattle.std.specs.List.{flat_map}
 use Rattle.std.specs.Str.{bytes_eq}
 use Rattle.indexmap.specs.IndexSet.{insert_all, insert_key}
 use Rattle.py_syntax.specs.declared.token.Span.{Span}
 use Rattle.py_syntax.specs.declared.statement.Stmt.{Stmt}
+use Rattle.py_syntax.specs.declared.statement.Class.{Class, fold_out-Class}
 use Rattle.py_syntax.specs.Statements as s
-use Rattle.py_syntax.specs.Statements.{StmtTree, StmtNode, FuncTree, stmt_tree, func_tree}
+use Rattle.py_syntax.specs.Statements.{StmtTree, StmtNode, HandlerTree, FuncTree, ClassTree, node_step, class_step, func_step, handler_step, stmt_step, stmt_tree, class_tree}
 use Rattle.py_syntax_diagnostics.specs.declared.diagnostic.Diag.{Diag}
-use Rattle.py_binder.specs.Scope.{contains, Roles}
+use Rattle.py_binder.specs.declared.scope.Scope.{Scope}
+use Rattle.py_binder.specs.Scope.{contains, Roles, function_scope}
 use Rattle.py_binder.proofs.TableLemmas.{contains_all}
 use Rattle.py_check_context.specs.declared.scope.Meaning.{Meaning}
+use Rattle.py_check_context.specs.Context.{Context}
 use Rattle.py_check_names.specs.Walked.{trees}
 use Rattle.py_check_names.specs.Outline.{held_by}
 use Rattle.py_check_names.proofs.OutlineLemmas.{trees_at}
 use Rattle.py_check_signatures.specs.Definitions.{is_builtin_name}
-use Rattle.py_check_definitions.specs.Definitions.{Headed, headed, names_given, definition_said, definitions_said}
-use Rattle.py_check_definitions.specs.declared.functions.Function.{Function}
-use Rattle.py_check_definitions.specs.Views.{headed_of, first_said, said_at, said_along}
+use Rattle.py_check_places.specs.Places.{Known}
+use Rattle.py_check_definitions.specs.Definitions.{function_said, names_given, definition_said, definitions_said}
+use Rattle.py_check_definitions.specs.Views.{class_parts, said_at, said_along, names_behind, scopes_behind}
 
--- ---- names that stand earlier count as a set
-
-module _ (a b : List (List ℕ)) (same : (q : List ℕ) → contains a q ≡ contains b q) where
-  same_at_node : (fs : List Headed) (node : StmtNode) (span : Span) → said_at a fs (s.at node span) ≡ said_at b fs (s.at node span)
-  same_at_node fs (s.Def name params ret body marks) span = ap (λ c. first_said span (not c && not (is_builtin_name name)) fs) (same name)
-  same_at_node fs (s.ClassDef name bases body marks) span = refl
-  same_at_node fs (s.Import name other) span = refl
-  same_at_node fs (s.From name names) span = refl
-  same_at_node fs (s.Do e) span = refl
-  same_at_node fs (s.Assign target e) span = refl
-  same_at_node fs (s.Annot target mark e) span = refl
-  same_at_node fs (s.Aug target op e) span = refl
-  same_at_node fs (s.Del e) span = refl
-  same_at_node fs s.Pass span = refl
-  same_at_node fs s.Break span = refl
-  same_at_node fs s.Continue span = refl
-  same_at_node fs (s.Return e) span = refl
-  same_at_node fs (s.Raise e) span = refl
-  same_at_node fs (s.Global names) span = refl
-  same_at_node fs (s.Assert e message) span = refl
-  same_at_node fs (s.If arms other) span = refl
-  same_at_node fs (s.While test body) span = refl
-  same_at_node fs (s.For target e body) span = refl
-  same_at_node fs (s.Try body handlers last) span = refl
-
-  same_at : (fs : List Headed) (x : StmtTree) → said_at a fs x ≡ said_at b fs x
-  same_at fs (s.at node span) = same_at_node fs node span
-
-  same_with : (more : List (List ℕ)) (q : List ℕ) → contains (a ++ more) q ≡ contains (b ++ more) q
-  same_with more q =
-      list_any-append (bytes_eq q) a more ∙ ap (λ c. c || contains more q) (same q) ∙ sym (list_any-append (bytes_eq q) b more)
-
-pub same_said : (a b : List (List ℕ)) → ((q : List ℕ) → contains a q ≡ contains b q) → (fs : List Headed) (ds : List StmtTree) → said_along a fs ds ≡ said_along b fs ds
-same_said a b same fs [] = refl
-same_said a b same fs (x ∷ more) =
-    ap₂ (λ (p q : List Diag). p ++ q) (same_at a b same fs x)
-    (same_said (a ++ names_given x) (b ++ names_given x) (same_with a b same (names_given x)) (drop (length (held_by x)) fs) more)
+-- a class by its parts
+pub class_tree_at : (c : Class) → class_tree c ≡ class_parts c
+class_tree_at c = fold_out-Class StmtNode ClassTree FuncTree HandlerTree StmtTree node_step class_step func_step handler_step stmt_step c
 
 -- ---- the names that definitions give
 
@@ -75,62 +44,91 @@ given_step given i p h at ks ks2 all y is put before =
 
 -- ---- a step of the walk
 
-pub walk_step : (defs : List (Bor Stmt)) (i : ℕ) (x : Bor Stmt) → i < length defs → x ≡ get_or defs i x → (ks ks2 : List (List ℕ)) → ks2 ≡ insert_all bytes_eq ks (names_given (stmt_tree x.now)) → (fs fs2 : List Headed) → fs2 ≡ drop (length (held_by (stmt_tree x.now))) fs → (d1 d2 whole : List Diag) → d2 ≡ d1 ++ said_at ks fs (stmt_tree x.now) → d1 ++ said_along ks fs (trees (drop i defs)) ≡ whole → d2 ++ said_along ks2 fs2 (trees (drop (i + 1) defs)) ≡ whole
-walk_step defs i x h at ks ks2 put fs fs2 left d1 d2 whole one before =
-    let t = stmt_tree x.now in
-    let more = trees (drop (i + 1) defs) in
-    ap (λ d. d ++ said_along ks2 fs2 more) one
-    ∙ append_assoc d1 (said_at ks fs t) (said_along ks2 fs2 more)
-    ∙ ap (λ k. d1 ++ (said_at ks fs t ++ said_along k fs2 more)) put
-    ∙ ap (λ f. d1 ++ (said_at ks fs t ++ said_along (insert_all bytes_eq ks (names_given t)) f more)) left
-    ∙ ap (λ l. d1 ++ (said_at ks fs t ++ l)) (same_said (insert_all bytes_eq ks (names_given t)) (ks ++ names_given t) (contains_all ks (names_given t)) (drop (length (held_by t)) fs) more)
-    ∙ ap (λ l. d1 ++ said_along ks fs l) (sym (trees_at defs i x h at))
-    ∙ before
+module _ (defs : List (Bor Stmt)) (i : ℕ) (x : Bor Stmt) (h : i < length defs) (at : x ≡ get_or defs i x) where
+  module _ (c : Context) (k : Known) where
+    pub walk_step : (ks ks2 : List (List ℕ)) → ks2 ≡ insert_all bytes_eq ks (names_given (stmt_tree x.now)) → (rs rs2 : List Scope) → rs2 ≡ drop (length (held_by (stmt_tree x.now))) rs → (d1 d2 whole : List Diag) → d2 ≡ d1 ++ said_at c k ks rs (stmt_tree x.now) → d1 ++ said_along c k ks rs (trees (drop i defs)) ≡ whole → d2 ++ said_along c k ks2 rs2 (trees (drop (i + 1) defs)) ≡ whole
+    walk_step ks ks2 put rs rs2 left d1 d2 whole one before =
+        let t = stmt_tree x.now in
+        let more = trees (drop (i + 1) defs) in
+        ap (λ d. d ++ said_along c k ks2 rs2 more) one
+        ∙ append_assoc d1 (said_at c k ks rs t) (said_along c k ks2 rs2 more)
+        ∙ ap (λ l. d1 ++ (said_at c k ks rs t ++ said_along c k l rs2 more)) put
+        ∙ ap (λ l. d1 ++ (said_at c k ks rs t ++ said_along c k (insert_all bytes_eq ks (names_given t)) l more)) left
+        ∙ ap (λ l. d1 ++ said_along c k ks rs l) (sym (trees_at defs i x h at))
+        ∙ before
 
--- ---- the functions that are taken off the row
+  pub names_step : (ks ks2 : List (List ℕ)) → ks2 ≡ insert_all bytes_eq ks (names_given (stmt_tree x.now)) → (whole : List (List ℕ)) → names_behind ks (trees (drop i defs)) ≡ whole → names_behind ks2 (trees (drop (i + 1) defs)) ≡ whole
+  names_step ks ks2 put whole before =
+      ap (λ l. names_behind l (trees (drop (i + 1) defs))) put ∙ ap (names_behind ks) (sym (trees_at defs i x h at)) ∙ before
 
-dropped : (k : ℕ) (fs : List Function) → map headed_of (drop k fs) ≡ drop k (map headed_of fs)
-dropped zero fs = refl
-dropped (suc k) [] = refl
-dropped (suc k) (f ∷ fs) = dropped k fs
+  pub scopes_step : (rs rs2 : List Scope) → rs2 ≡ drop (length (held_by (stmt_tree x.now))) rs → (whole : List Scope) → scopes_behind rs (trees (drop i defs)) ≡ whole → scopes_behind rs2 (trees (drop (i + 1) defs)) ≡ whole
+  scopes_step rs rs2 left whole before =
+      ap (λ l. scopes_behind l (trees (drop (i + 1) defs))) left ∙ ap (scopes_behind rs) (sym (trees_at defs i x h at)) ∙ before
 
-pub taken : (fs fs2 : List Function) (n k : ℕ) → n ≡ k → fs2 ≡ drop n fs → map headed_of fs2 ≡ drop k (map headed_of fs)
-taken fs fs2 n k same left = ap (map headed_of) left ∙ dropped n fs ∙ ap (λ i. drop i (map headed_of fs)) same
+-- ---- the whole walk
 
-module _ {A B : Type 0} (f : A → B) where
-  pub behind_front : (front more : List A) → drop (length front) (map f (front ++ more)) ≡ map f more
-  behind_front [] more = refl
-  behind_front (a ∷ front) more = behind_front front more
+-- names that stand earlier count as a set
+abbrev pub Same : List (List ℕ) → List (List ℕ) → Type 0
+Same a b = (q : List ℕ) → contains a q ≡ contains b q
 
-module _ (roles : Roles) (meanings : List ℕ → Meaning) where
-  one_said : (earlier : List (List ℕ)) (more : List FuncTree) (node : StmtNode) (span : Span) → said_at earlier (map (headed roles meanings) (held_by (s.at node span) ++ more)) (s.at node span) ≡ definition_said roles meanings earlier (s.at node span)
-  one_said earlier more (s.Def name params ret body marks) span = refl
-  one_said earlier more (s.ClassDef name bases body marks) span = refl
-  one_said earlier more (s.Import name other) span = refl
-  one_said earlier more (s.From name names) span = refl
-  one_said earlier more (s.Do e) span = refl
-  one_said earlier more (s.Assign target e) span = refl
-  one_said earlier more (s.Annot target mark e) span = refl
-  one_said earlier more (s.Aug target op e) span = refl
-  one_said earlier more (s.Del e) span = refl
-  one_said earlier more s.Pass span = refl
-  one_said earlier more s.Break span = refl
-  one_said earlier more s.Continue span = refl
-  one_said earlier more (s.Return e) span = refl
-  one_said earlier more (s.Raise e) span = refl
-  one_said earlier more (s.Global names) span = refl
-  one_said earlier more (s.Assert e message) span = refl
-  one_said earlier more (s.If arms other) span = refl
-  one_said earlier more (s.While test body) span = refl
-  one_said earlier more (s.For target e body) span = refl
-  one_said earlier more (s.Try body handlers last) span = refl
+same_with : (a b : List (List ℕ)) → Same a b → (more : List (List ℕ)) → Same (insert_all bytes_eq a more) (b ++ more)
+same_with a b same more q =
+    contains_all a more q ∙ list_any-append (bytes_eq q) a more ∙ ap (λ c. c || contains more q) (same q) ∙ sym (list_any-append (bytes_eq q) b more)
 
-  one_of : (earlier : List (List ℕ)) (more : List FuncTree) (x : StmtTree) → said_at earlier (map (headed roles meanings) (held_by x ++ more)) x ≡ definition_said roles meanings earlier x
-  one_of earlier more (s.at node span) = one_said earlier more node span
+behind_front : {A B : Type 0} (f : A → B) (front more : List A) (rest : List B) → drop (length front) (map f (front ++ more) ++ rest) ≡ map f more ++ rest
+behind_front f [] more rest = refl
+behind_front f (a ∷ front) more rest = behind_front f front more rest
+
+module _ (roles : Roles) where
+  -- the scopes of the functions of definitions
+  abbrev scopes : List FuncTree → List Scope
+  scopes fs = map (function_scope roles) fs
+
+  -- behind them are the scopes that stand behind those of their functions
+  pub scopes_left : (ds : List StmtTree) (rest : List Scope) → scopes_behind (scopes (flat_map held_by ds) ++ rest) ds ≡ rest
+  scopes_left [] rest = refl
+  scopes_left (x ∷ more) rest =
+      ap (λ l. scopes_behind l more) (behind_front (function_scope roles) (held_by x) (flat_map held_by more) rest) ∙ scopes_left more rest
+
+-- and the names are those that they give
+pub names_left : (a b : List (List ℕ)) → Same a b → (ds : List StmtTree) → Same (names_behind a ds) (b ++ flat_map names_given ds)
+names_left a b same [] q = same q ∙ ap (λ l. contains l q) (sym (append-nil b))
+names_left a b same (x ∷ more) q =
+    names_left (insert_all bytes_eq a (names_given x)) (b ++ names_given x) (same_with a b same (names_given x)) more q
+    ∙ ap (λ l. contains l q) (append_assoc b (names_given x) (flat_map names_given more))
+
+module _ (roles : Roles) (c : Context) (k : Known) where
+  one_said : (a b : List (List ℕ)) → Same a b → (more : List FuncTree) (rest : List Scope) (node : StmtNode) (span : Span) → said_at c k a (map (function_scope roles) (held_by (s.at node span) ++ more) ++ rest) (s.at node span) ≡ definition_said roles c k b (s.at node span)
+  one_said a b same more rest (s.Def name params ret body marks) span =
+      let f : FuncTree = record { name = name; params = params; ret = ret; body = body; marks = marks } in
+      ap (λ known. function_said c k span (not known && not (is_builtin_name name)) (function_scope roles f) f) (same name)
+  one_said a b same more rest (s.ClassDef name bases body marks) span = refl
+  one_said a b same more rest (s.Import name other) span = refl
+  one_said a b same more rest (s.From name names) span = refl
+  one_said a b same more rest (s.Do e) span = refl
+  one_said a b same more rest (s.Assign target e) span = refl
+  one_said a b same more rest (s.Annot target mark e) span = refl
+  one_said a b same more rest (s.Aug target op e) span = refl
+  one_said a b same more rest (s.Del e) span = refl
+  one_said a b same more rest s.Pass span = refl
+  one_said a b same more rest s.Break span = refl
+  one_said a b same more rest s.Continue span = refl
+  one_said a b same more rest (s.Return e) span = refl
+  one_said a b same more rest (s.Raise e) span = refl
+  one_said a b same more rest (s.Global names) span = refl
+  one_said a b same more rest (s.Assert e message) span = refl
+  one_said a b same more rest (s.If arms other) span = refl
+  one_said a b same more rest (s.While test body) span = refl
+  one_said a b same more rest (s.For target e body) span = refl
+  one_said a b same more rest (s.Try body handlers last) span = refl
+
+  one_of : (a b : List (List ℕ)) → Same a b → (more : List FuncTree) (rest : List Scope) (x : StmtTree) → said_at c k a (map (function_scope roles) (held_by x ++ more) ++ rest) x ≡ definition_said roles c k b x
+  one_of a b same more rest (s.at node span) = one_said a b same more rest node span
 
   -- THE WALK says what is to be said
-  pub walk_says : (earlier : List (List ℕ)) (ds : List StmtTree) → said_along earlier (map (headed roles meanings) (flat_map held_by ds)) ds ≡ definitions_said roles meanings earlier ds
-  walk_says earlier [] = refl
-  walk_says earlier (x ∷ more) =
-      ap₂ (λ (p q : List Diag). p ++ q) (one_of earlier (flat_map held_by more) x)
-      (ap (λ l. said_along (earlier ++ names_given x) l more) (behind_front (headed roles meanings) (held_by x) (flat_map held_by more)) ∙ walk_says (earlier ++ names_given x) more)
+  pub walk_says : (a b : List (List ℕ)) → Same a b → (ds : List StmtTree) (rest : List Scope) → said_along c k a (map (function_scope roles) (flat_map held_by ds) ++ rest) ds ≡ definitions_said roles c k b ds
+  walk_says a b same [] rest = refl
+  walk_says a b same (x ∷ more) rest =
+      ap₂ (λ (p q : List Diag). p ++ q) (one_of a b same (flat_map held_by more) rest x)
+      (ap (λ l. said_along c k (insert_all bytes_eq a (names_given x)) l more) (behind_front (function_scope roles) (held_by x) (flat_map held_by more) rest)
+      ∙ walk_says (insert_all bytes_eq a (names_given x)) (b ++ names_given x) (same_with a b same (names_given x)) more rest)

@@ -1,25 +1,30 @@
--- What is said of a module's definitions and imports by themselves, and the signatures of its functions (Python Language
--- Reference, "Function definitions" and "The import statement"; PEP 484).
+-- What is said of a module's definitions and imports where they stand, and the signatures of its functions (Python Language
+-- Reference, "Function definitions", "Class definitions" and "The import statement"; PEP 484).
 --
--- Annotations are seen in the module's scope, and the signature of a function hangs on them alone. A name is new where no
--- definition and no import earlier in the text has it. An import is of names that may be imported, each under its own name.
--- A class and a definition with decorators are not typed yet: each is said to be outside the profile.
-use Rattle.std.specs.Prelude.{ℕ, Bool, true, false, List, [], ◌∷◌, ◌++◌, map, Option}
+-- The parts of a definition are typed where it stands, with what is known there: decorators and annotations, and of a class
+-- decorators and bases. Where each of them has a type, the definition is asked for its own rule, and where one has none nothing is
+-- said of it. Annotations are seen in the module's scope, and the signature of a function hangs on them alone. A name is new where
+-- no definition and no import earlier in the text has it. An import is of names that may be imported, each under its own name.
+-- A class is not typed yet: one whose parts have types is outside the profile.
+use Rattle.std.specs.Prelude.{ℕ, Bool, true, false, ◌&&◌, if◌then◌else◌, List, [], ◌∷◌, ◌++◌, map, Option}
 use Rattle.std.specs.List.{flat_map}
 use Rattle.py_syntax.specs.declared.token.Span.{Span}
 use Rattle.py_syntax.specs.Expressions.{ExprTree}
-use Rattle.py_syntax.specs.Statements.{StmtTree, at, Def, ClassDef, Import, From, Suite, FuncTree}
+use Rattle.py_syntax.specs.Statements.{StmtTree, at, Def, ClassDef, Import, From, Suite, FuncTree, ClassTree}
 use Rattle.py_syntax_diagnostics.specs.declared.diagnostic.Diag.{Diag}
 use Rattle.py_binder.specs.declared.scope.Scope.{Scope}
 use Rattle.py_binder.specs.Scope.{Roles, module_role, function_scope, functions}
 use Rattle.py_typed.specs.Classes.{Signature}
 use Rattle.py_check_context.specs.declared.scope.Meaning.{Meaning}
+use Rattle.py_check_context.specs.Context.{Context}
 use Rattle.py_check_messages.specs.Seen.{diag}
 use Rattle.py_check_messages.specs.Messages as message
-use Rattle.py_check_names.specs.Outline.{said_by, may_import_all, suite_definitions}
+use Rattle.py_check_names.specs.Outline.{said_by, may_import_all, methods_in, suite_definitions}
 use Rattle.py_check_names.specs.Meanings.{module_meaning}
 use Rattle.py_check_signatures.specs.Headers.{HeaderSorts, header, header_said, signature_of}
 use Rattle.py_check_signatures.specs.Definitions.{is_new, own_count, def_said}
+use Rattle.py_check_places.specs.Places.{Known}
+use Rattle.py_check_definitions.specs.Decorators.{decorators_typed, decorators_said}
 
 -- a function with its scope and what its annotations give
 pub record Headed : Type 0 where
@@ -30,16 +35,24 @@ pub record Headed : Type 0 where
 abbrev pub headed : Roles → (List ℕ → Meaning) → FuncTree → Headed
 headed roles meanings f = record { tree = f; inside = function_scope roles f; header = header meanings f }
 
--- ---- what is wrong with a definition or an import
+-- ---- what is said of one definition, where this is known
 
--- of a function, whose name is new or not
-abbrev pub marks_said : Span → List ℕ → List ExprTree → List Diag
-marks_said span name [] = []
-marks_said span name (mark ∷ more) = diag span (message.outside_profile name) ∷ []
+-- of a class whose parts have types, or not
+abbrev pub refused_class : Span → List ℕ → Bool → List Diag
+refused_class span name typed = if typed then diag span (message.outside_profile name) ∷ [] else []
 
-abbrev pub function_said : Span → Bool → Headed → List Diag
-function_said span fresh f =
-    def_said span fresh (own_count f.inside) f.tree f.header ++ marks_said span f.tree.name f.tree.marks
+module _ (c : Context) (k : Known) where
+  -- OF A FUNCTION with these names inside, whose own name is new or not: first of its parts
+  abbrev pub function_said : Span → Bool → Scope → FuncTree → List Diag
+  function_said span fresh inside f =
+      decorators_said c k f.marks ++ header_said c.meaning f
+      ++ def_said span fresh (own_count inside) (decorators_typed c k f.marks) f (header c.meaning f)
+
+  -- OF A CLASS: of its parts, and of the annotations of its methods
+  abbrev pub class_said : Span → ClassTree → List Diag
+  class_said span x =
+      decorators_said c k x.marks ++ decorators_said c k x.bases ++ flat_map (header_said c.meaning) (methods_in x.body)
+      ++ refused_class span x.name (decorators_typed c k x.marks && decorators_typed c k x.bases)
 
 abbrev pub import_said : Bool → Span → List Diag
 import_said true span = []
@@ -49,12 +62,14 @@ import_said false span = diag span message.outside_import ∷ []
 abbrev pub names_given : StmtTree → List (List ℕ)
 names_given s = map (λ p. p.0) (said_by 0 s)
 
-module _ (roles : Roles) (meanings : List ℕ → Meaning) where
+module _ (roles : Roles) (c : Context) (k : Known) where
   -- behind these names, which stand earlier in the text
   abbrev pub definition_said : List (List ℕ) → StmtTree → List Diag
   definition_said earlier (at (Def name params ret body marks) span) =
-      function_said span (is_new earlier name) (headed roles meanings (record { name = name; params = params; ret = ret; body = body; marks = marks }))
-  definition_said earlier (at (ClassDef name bases body marks) span) = diag span (message.outside_profile name) ∷ []
+      function_said c k span (is_new earlier name) (function_scope roles (record { name = name; params = params; ret = ret; body = body; marks = marks }))
+      (record { name = name; params = params; ret = ret; body = body; marks = marks })
+  definition_said earlier (at (ClassDef name bases body marks) span) =
+      class_said c k span (record { name = name; bases = bases; body = body; marks = marks })
   definition_said earlier (at (Import name other) span) = import_said false span
   definition_said earlier (at (From name names) span) = import_said (may_import_all name names) span
   definition_said earlier _ = []
@@ -76,6 +91,24 @@ inner_said _ = []
 abbrev pub inner_definitions_said : FuncTree → List Diag
 inner_definitions_said f = flat_map inner_said (suite_definitions f.body)
 
+-- ---- where nothing is said
+
+-- The parts of definitions can hang on one another: a decorator that calls its own function, which has no signature, silences it.
+-- So that no module is without a typed tree and without a diagnostic, each definition with decorators and each class is outside the
+-- profile where nothing at all is said of a module.
+abbrev pub decorated_said : Span → List ℕ → List ExprTree → List Diag
+decorated_said span name [] = []
+decorated_said span name (mark ∷ marks) = diag span (message.outside_profile name) ∷ []
+
+abbrev pub refusal : StmtTree → List Diag
+refusal (at (Def name params ret body marks) span) = decorated_said span name marks
+refusal (at (ClassDef name bases body marks) span) = diag span (message.outside_profile name) ∷ []
+refusal _ = []
+
+abbrev pub or_refused : List Diag → List StmtTree → List Diag
+or_refused [] ds = flat_map refusal ds
+or_refused (d ∷ said) ds = d ∷ said
+
 -- ---- over the module
 
 module _ (m : Suite) where
@@ -86,9 +119,3 @@ module _ (m : Suite) where
   -- THE SIGNATURES of functions by their numbers: some have none
   abbrev pub signatures : List (Option Signature)
   signatures = map (λ f. signature_of (header (module_meaning m) f)) (functions m)
-
-  -- WHAT IS SAID of annotations, and then of definitions and imports
-  abbrev pub headers_said : List Diag
-  headers_said =
-      flat_map (header_said (module_meaning m)) (functions m) ++ definitions_said (module_role m) (module_meaning m) [] (suite_definitions m)
-      ++ flat_map inner_definitions_said (functions m)

@@ -1,3 +1,4 @@
+pub mod Decorators
 pub mod Definitions
 pub mod Starts
 pub mod Variables

@@ -1,30 +1,31 @@
 -- What the program's functions and scopes stand for, and what its walk over definitions says.
 use Rattle.std.specs.Prelude.{ℕ, Bool, false, List, [], ◌∷◌, ◌++◌, length, map, drop, Option}
-use Rattle.std.specs.List.{zip, flat_map}
+use Rattle.std.specs.List.{zip}
 use Rattle.std.specs.Option.{option_map}
 use Rattle.std.specs.Str.{bytes_eq}
 use Rattle.indexmap.specs.IndexMap.{get}
+use Rattle.indexmap.specs.IndexSet.{insert_all}
 use denote.Ref.{Bor}
 use Rattle.py_syntax.specs.declared.expression.Expr.{Expr}
+use Rattle.py_syntax.specs.declared.statement.Class.{Class, out-Class}
 use Rattle.py_syntax.specs.Expressions.{ExprTree, expr_tree}
 use Rattle.py_syntax.specs.declared.token.Span.{Span}
-use Rattle.py_syntax.specs.Statements.{StmtTree, at, Def, ClassDef, Import, From, FuncTree, func_tree}
+use Rattle.py_syntax.specs.Statements.{StmtTree, at, Def, ClassDef, Import, From, FuncTree, ClassTree, func_tree, body_tree}
 use Rattle.py_syntax_diagnostics.specs.declared.diagnostic.Diag.{Diag}
 use Rattle.py_binder.specs.declared.scope.Scope.{Scope}
 use Rattle.py_typed.specs.Sorts.{Sort}
 use Rattle.py_check_context.specs.declared.scope.Meaning.{Meaning}
-use Rattle.py_check_context.specs.Context.{VarSort}
-use Rattle.py_check_messages.specs.Seen.{diag}
-use Rattle.py_check_messages.specs.Messages as message
+use Rattle.py_check_context.specs.Context.{Context, VarSort}
 use Rattle.py_check_names.specs.declared.meanings.ModuleNames.{ModuleNames}
 use Rattle.py_check_names.specs.Outline.{may_import_all, held_by}
 use Rattle.py_check_names.specs.Meanings.{meaning_in}
-use Rattle.py_check_signatures.specs.Headers.{header, header_said}
+use Rattle.py_check_signatures.specs.Headers.{header}
 use Rattle.py_check_signatures.specs.Definitions.{is_new}
 use Rattle.py_check_signatures.specs.Views.{header_sorts, parts}
+use Rattle.py_check_places.specs.Places.{Known}
 use Rattle.py_check_definitions.specs.declared.functions.Function.{Function}
 use Rattle.py_check_definitions.specs.Starts.{by_mark, or_param, param_sort}
-use Rattle.py_check_definitions.specs.Definitions.{Headed, function_said, import_said, names_given, inner_definitions_said}
+use Rattle.py_check_definitions.specs.Definitions.{Headed, function_said, class_said, import_said, names_given}
 
 abbrev pub headed_of : Function → Headed
 headed_of f = record { tree = func_tree f.tree.now; inside = f.inside.now; header = header_sorts f.header }
@@ -39,22 +40,44 @@ headed_with meanings p = record { tree = p.0; inside = p.1; header = header mean
 abbrev pub headed_all : (List ℕ → Meaning) → List FuncTree → List Scope → List Headed
 headed_all meanings fs scopes = map (headed_with meanings) (zip fs scopes)
 
--- of a definition, by the functions of which the first is the one that it holds
-abbrev pub first_said : Span → Bool → List Headed → List Diag
-first_said span fresh [] = []
-first_said span fresh (f ∷ more) = function_said span fresh f
+-- a class by its parts
+abbrev pub class_parts : Class → ClassTree
+class_parts c = record {
+  name = (out-Class c).name;
+  bases = map expr_tree (out-Class c).bases;
+  body = body_tree (out-Class c).body;
+  marks = map expr_tree (out-Class c).marks;
+}
 
-abbrev pub said_at : List (List ℕ) → List Headed → StmtTree → List Diag
-said_at earlier fs (at (Def name params ret body marks) span) = first_said span (is_new earlier name) fs
-said_at earlier fs (at (ClassDef name bases body marks) span) = diag span (message.outside_profile name) ∷ []
-said_at earlier fs (at (Import name other) span) = import_said false span
-said_at earlier fs (at (From name names) span) = import_said (may_import_all name names) span
-said_at earlier fs _ = []
+module _ (c : Context) (k : Known) where
+  -- of a function, by the scopes of which the first is its own
+  abbrev pub first_said : Span → Bool → List Scope → FuncTree → List Diag
+  first_said span fresh [] f = []
+  first_said span fresh (inside ∷ more) f = function_said c k span fresh inside f
 
--- along definitions, each of which takes its functions off the row
-abbrev pub said_along : List (List ℕ) → List Headed → List StmtTree → List Diag
-said_along earlier fs [] = []
-said_along earlier fs (s ∷ more) = said_at earlier fs s ++ said_along (earlier ++ names_given s) (drop (length (held_by s)) fs) more
+  abbrev pub said_at : List (List ℕ) → List Scope → StmtTree → List Diag
+  said_at earlier insides (at (Def name params ret body marks) span) =
+      first_said span (is_new earlier name) insides (record { name = name; params = params; ret = ret; body = body; marks = marks })
+  said_at earlier insides (at (ClassDef name bases body marks) span) =
+      class_said c k span (record { name = name; bases = bases; body = body; marks = marks })
+  said_at earlier insides (at (Import name other) span) = import_said false span
+  said_at earlier insides (at (From name names) span) = import_said (may_import_all name names) span
+  said_at earlier insides _ = []
+
+  -- along definitions, each of which takes the scopes of its functions off the row
+  abbrev pub said_along : List (List ℕ) → List Scope → List StmtTree → List Diag
+  said_along earlier insides [] = []
+  said_along earlier insides (s ∷ more) =
+      said_at earlier insides s ++ said_along (insert_all bytes_eq earlier (names_given s)) (drop (length (held_by s)) insides) more
+
+-- the names and the scopes behind them
+abbrev pub names_behind : List (List ℕ) → List StmtTree → List (List ℕ)
+names_behind earlier [] = earlier
+names_behind earlier (s ∷ more) = names_behind (insert_all bytes_eq earlier (names_given s)) more
+
+abbrev pub scopes_behind : List Scope → List StmtTree → List Scope
+scopes_behind insides [] = insides
+scopes_behind insides (s ∷ more) = scopes_behind (drop (length (held_by s)) insides) more
 
 -- an annotation, if there is one
 abbrev pub mark_tree : Option (Bor Expr) → Option ExprTree
@@ -67,8 +90,3 @@ sort_by meanings mark params sorts name = or_param (param_sort params sorts name
 -- what names mean in a scope
 abbrev pub meanings_by : ModuleNames → Scope → List ℕ → Meaning
 meanings_by k inside = meaning_in (get bytes_eq k.said) k.variables.keys inside
-
--- in the annotations of functions, of definitions and imports, and of those in the bodies of functions
-abbrev pub headers_said_by : (List ℕ → Meaning) → List FuncTree → List Headed → List StmtTree → List Diag
-headers_said_by meanings trees fs definitions =
-    flat_map (header_said meanings) trees ++ said_along [] fs definitions ++ flat_map inner_definitions_said trees

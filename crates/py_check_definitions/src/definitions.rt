@@ -1,67 +1,65 @@
-//! What is wrong with definitions and imports by themselves.
-ghost use Rattle.std.specs.Prelude.{◌≡◌, [], ◌++◌, length, map, drop, IfOk};
+//! What is said of definitions and imports where they stand.
+ghost use Rattle.std.specs.Prelude.{◌≡◌, ◌++◌, length, map, drop, IfOk};
 ghost use Rattle.std.specs.List.{flat_map};
 ghost use Rattle.std.specs.Str.{bytes_eq};
 ghost use Rattle.indexmap.specs.IndexSet.{insert_all};
-ghost use Rattle.py_syntax.specs.Statements.{stmt_tree, func_tree};
+ghost use Rattle.py_syntax.specs.Statements.{stmt_tree, func_tree, class_tree, body_tree};
+ghost use Rattle.py_check_context.specs.Context.{context};
 ghost use Rattle.py_check_names.specs.Walked.{trees, func_trees};
 ghost use Rattle.py_check_names.specs.Outline as outline;
-ghost use Rattle.py_check_signatures.specs.Views.{parts};
+ghost use Rattle.py_check_signatures.specs.Headers as headers;
+ghost use Rattle.py_check_places.specs.Views.{known_at};
+ghost use Rattle.py_check_definitions.specs.Decorators as asked;
 ghost use Rattle.py_check_definitions.specs.Definitions as spec;
 ghost use Rattle.py_check_definitions.specs.Views as views;
 
-use crate::functions::Function;
+use crate::decorators::add_decorators;
 use indexmap::IndexSet;
-use py_check_context::Meaning;
+use py_binder::Scope;
+use py_check_context::{Context, Meaning};
 use py_check_messages::{outside_import, outside_profile};
 use py_check_names::{add_name, definitions_in, may_import_all, outline_of};
-use py_check_signatures::{add_def_fault, is_new, own_count};
-use py_syntax::{Func, Span, Stmt, StmtKind};
+use py_check_places::Place;
+use py_check_signatures::{add_def_fault, header_of, is_new, own_count};
+use py_syntax::{Class, Func, Span, Stmt, StmtKind};
 use py_syntax_diagnostics::Diag;
 use std::alloc::Global;
 use value_core::{Many, Memory, Name};
 
-/// Adds what is wrong with definitions and imports, which hold these functions in their order.
-pub fn add_definition_faults(
+/// Adds what is said of definitions and imports that stand at this place, in the order of the text, behind definitions of the
+/// names in `earlier`, which theirs are put behind. The first of the scopes are those of their functions; answers the ones behind
+/// those.
+pub fn add_definitions<'a>(
     alloc: Global,
+    scope: &Context<'_>,
+    place: &Place,
     definitions: &[&Stmt],
-    functions: &[Function<'_>],
-    faults: &mut Many<Diag>,
-) -> Result<(), Memory>
-    ensures { IfOk result (λ done. faults.new ≡ faults.old ++ views.said_along [] (map views.headed_of functions.now) (trees definitions.now)) }
-{
-    let mut earlier = IndexSet::new(alloc);
-    add_along(alloc, definitions, functions, &mut earlier, faults)
-}
-
-/// The same behind definitions of these names, which those here are put behind.
-fn add_along(
-    alloc: Global,
-    definitions: &[&Stmt],
-    functions: &[Function<'_>],
+    insides: &'a [Scope],
     earlier: &mut IndexSet<Name>,
     faults: &mut Many<Diag>,
-) -> Result<(), Memory>
-    ensures { IfOk result (λ done. faults.new ≡ faults.old ++ views.said_along earlier.old.keys (map views.headed_of functions.now) (trees definitions.now)) }
+) -> Result<&'a [Scope], Memory>
+    ensures told { IfOk result (λ rest. faults.new ≡ faults.old ++ views.said_along (context scope.now) (known_at place.now) earlier.old.keys insides.now (trees definitions.now)) }
+    ensures names { IfOk result (λ rest. earlier.new.keys ≡ views.names_behind earlier.old.keys (trees definitions.now)) }
+    ensures scopes { IfOk result (λ rest. rest.now ≡ views.scopes_behind insides.now (trees definitions.now)) }
 {
-    let mut rest = functions;
+    let mut rest = insides;
     for s in definitions {
-        add_definition_fault(alloc, earlier, rest, *s, faults)?;
+        add_definition(alloc, scope, place, earlier, rest, *s, faults)?;
         let held = add_names(alloc, *s, earlier)?;
         rest = behind(rest, held);
     }
-    Ok(())
+    Ok(rest)
 }
 
-/// The functions behind so many.
-fn behind<'a, 'b>(functions: &'b [Function<'a>], held: usize) -> &'b [Function<'a>]
-    ensures { result.now ≡ drop held functions.now }
+/// The scopes behind so many.
+fn behind<'a>(insides: &'a [Scope], held: usize) -> &'a [Scope]
+    ensures { result.now ≡ drop held insides.now }
 {
-    let end = functions.len();
+    let end = insides.len();
     if held < end {
-        return &functions[held..];
+        return &insides[held..];
     }
-    &functions[end..]
+    &insides[end..]
 }
 
 /// Adds the names that a definition or an import gives, and answers how many functions it holds.
@@ -83,22 +81,24 @@ fn add_all(given: &[(Name, Meaning)], earlier: &mut IndexSet<Name>) -> Result<()
     Ok(())
 }
 
-/// Adds what is wrong with a definition or an import, where these names stand earlier in the text.
-fn add_definition_fault(
+/// Adds what is said of a definition or an import, where these names stand earlier in the text.
+fn add_definition(
     alloc: Global,
+    scope: &Context<'_>,
+    place: &Place,
     earlier: &IndexSet<Name>,
-    functions: &[Function<'_>],
+    insides: &[Scope],
     s: &Stmt,
     faults: &mut Many<Diag>,
 ) -> Result<(), Memory>
-    ensures { IfOk result (λ done. faults.new ≡ faults.old ++ views.said_at earlier.now.keys (map views.headed_of functions.now) (stmt_tree s.now)) }
+    ensures { IfOk result (λ done. faults.new ≡ faults.old ++ views.said_at (context scope.now) (known_at place.now) earlier.now.keys insides.now (stmt_tree s.now)) }
 {
     match &s.kind {
         StmtKind::Def(f) => {
             let fresh = is_new(earlier, &f.name);
-            add_first_fault(alloc, s.span, fresh, functions, faults)
+            add_first(alloc, scope, place, s.span, fresh, insides, f, faults)
         }
-        StmtKind::Class(c) => outside_profile(alloc, s.span, c.name.as_str(), faults),
+        StmtKind::Class(c) => add_class(alloc, scope, place, s.span, c, faults),
         StmtKind::Import(_, _) => outside_import(alloc, s.span, faults),
         StmtKind::From(source, names) => {
             if may_import_all(source, names.as_slice()) {
@@ -110,18 +110,131 @@ fn add_definition_fault(
     }
 }
 
-fn add_first_fault(
+fn add_first(
     alloc: Global,
+    scope: &Context<'_>,
+    place: &Place,
     span: Span,
     fresh: bool,
-    functions: &[Function<'_>],
+    insides: &[Scope],
+    f: &Func,
     faults: &mut Many<Diag>,
 ) -> Result<(), Memory>
-    ensures { IfOk result (λ done. faults.new ≡ faults.old ++ views.first_said span fresh (map views.headed_of functions.now)) }
+    ensures { IfOk result (λ done. faults.new ≡ faults.old ++ views.first_said (context scope.now) (known_at place.now) span fresh insides.now (func_tree f.now)) }
 {
-    match functions {
+    match insides {
         [] => Ok(()),
-        [f, ..] => add_function_fault(alloc, span, fresh, f, faults),
+        [inside, ..] => add_function(alloc, scope, place, span, fresh, inside, f, faults),
+    }
+}
+
+/// Adds what is said of a function of these names, whose own name is new or not: first of its decorators and annotations.
+fn add_function(
+    alloc: Global,
+    scope: &Context<'_>,
+    place: &Place,
+    span: Span,
+    fresh: bool,
+    inside: &Scope,
+    f: &Func,
+    faults: &mut Many<Diag>,
+) -> Result<(), Memory>
+    ensures { IfOk result (λ done. faults.new ≡ faults.old ++ spec.function_said (context scope.now) (known_at place.now) span fresh inside.now (func_tree f.now)) }
+{
+    let marked = add_marks(alloc, scope, place, f, faults)?;
+    let header = header_of(alloc, scope, f, faults)?;
+    let own = own_count(inside);
+    add_def_fault(alloc, span, fresh, own, marked, f, &header, faults)
+}
+
+/// Adds what is said in the decorators of a function, and answers whether each has a type.
+fn add_marks(
+    alloc: Global,
+    scope: &Context<'_>,
+    place: &Place,
+    f: &Func,
+    faults: &mut Many<Diag>,
+) -> Result<bool, Memory>
+    ensures typed { IfOk result (λ typed. typed ≡ asked.decorators_typed (context scope.now) (known_at place.now) (func_tree f.now).marks) }
+    ensures told { IfOk result (λ typed. faults.new ≡ faults.old ++ asked.decorators_said (context scope.now) (known_at place.now) (func_tree f.now).marks) }
+{
+    add_decorators(alloc, scope, place, f.marks.as_slice(), faults)
+}
+
+/// Adds what is said of a class: first of its decorators and bases, and of its methods' annotations.
+fn add_class(
+    alloc: Global,
+    scope: &Context<'_>,
+    place: &Place,
+    span: Span,
+    c: &Class,
+    faults: &mut Many<Diag>,
+) -> Result<(), Memory>
+    ensures { IfOk result (λ done. faults.new ≡ faults.old ++ spec.class_said (context scope.now) (known_at place.now) span (class_tree c.now)) }
+{
+    add_class_parts(alloc, scope, place, span, c, faults)
+}
+
+fn add_class_parts(
+    alloc: Global,
+    scope: &Context<'_>,
+    place: &Place,
+    span: Span,
+    c: &Class,
+    faults: &mut Many<Diag>,
+) -> Result<(), Memory>
+    ensures { IfOk result (λ done. faults.new ≡ faults.old ++ spec.class_said (context scope.now) (known_at place.now) span (views.class_parts c.now)) }
+{
+    let marked = add_decorators(alloc, scope, place, c.marks.as_slice(), faults)?;
+    let based = add_decorators(alloc, scope, place, c.bases.as_slice(), faults)?;
+    add_methods(alloc, scope, c.body.as_slice(), faults)?;
+    add_refused_class(alloc, span, &c.name, marked && based, faults)
+}
+
+fn add_refused_class(
+    alloc: Global,
+    span: Span,
+    name: &Name,
+    typed: bool,
+    faults: &mut Many<Diag>,
+) -> Result<(), Memory>
+    ensures { IfOk result (λ done. faults.new ≡ faults.old ++ spec.refused_class span name.now typed) }
+{
+    if !typed {
+        return Ok(());
+    }
+    outside_profile(alloc, span, name.as_str(), faults)
+}
+
+/// Adds what is said in the annotations of methods.
+fn add_methods(
+    alloc: Global,
+    scope: &Context<'_>,
+    body: &[Stmt],
+    faults: &mut Many<Diag>,
+) -> Result<(), Memory>
+    ensures { IfOk result (λ done. faults.new ≡ faults.old ++ flat_map (headers.header_said (context scope.now).meaning) (outline.methods_in (body_tree body.now))) }
+{
+    for s in body {
+        add_method(alloc, scope, s, faults)?;
+    }
+    Ok(())
+}
+
+fn add_method(
+    alloc: Global,
+    scope: &Context<'_>,
+    s: &Stmt,
+    faults: &mut Many<Diag>,
+) -> Result<(), Memory>
+    ensures { IfOk result (λ done. faults.new ≡ faults.old ++ flat_map (headers.header_said (context scope.now).meaning) (outline.method_in (stmt_tree s.now))) }
+{
+    match &s.kind {
+        StmtKind::Def(f) => {
+            header_of(alloc, scope, f, faults)?;
+            Ok(())
+        }
+        _ => Ok(()),
     }
 }
 
@@ -164,40 +277,5 @@ fn add_inner(alloc: Global, s: &Stmt, faults: &mut Many<Diag>) -> Result<(), Mem
         StmtKind::Import(_, _) => outside_import(alloc, s.span, faults),
         StmtKind::From(_, _) => outside_import(alloc, s.span, faults),
         _ => Ok(()),
-    }
-}
-
-/// Adds what is wrong with a function, whose name is new or not.
-fn add_function_fault(
-    alloc: Global,
-    span: Span,
-    fresh: bool,
-    f: &Function<'_>,
-    faults: &mut Many<Diag>,
-) -> Result<(), Memory>
-    ensures { IfOk result (λ done. faults.new ≡ faults.old ++ spec.function_said span fresh (views.headed_of f.now)) }
-{
-    let own = own_count(f.inside);
-    add_def_fault(alloc, span, fresh, own, f.tree, &f.header, faults)?;
-    add_marks_fault(alloc, span, f.tree, faults)
-}
-
-fn add_marks_fault(
-    alloc: Global,
-    span: Span,
-    f: &Func,
-    faults: &mut Many<Diag>,
-) -> Result<(), Memory>
-    ensures { IfOk result (λ done. faults.new ≡ faults.old ++ spec.marks_said span (func_tree f.now).name (func_tree f.now).marks) }
-{
-    add_marked(alloc, span, f, faults)
-}
-
-fn add_marked(alloc: Global, span: Span, f: &Func, faults: &mut Many<Diag>) -> Result<(), Memory>
-    ensures { IfOk result (λ done. faults.new ≡ faults.old ++ spec.marks_said span (parts f.now).name (parts f.now).marks) }
-{
-    match f.marks.as_slice() {
-        [] => Ok(()),
-        [_, ..] => outside_profile(alloc, span, f.name.as_str(), faults),
     }
 }

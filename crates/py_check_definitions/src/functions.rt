@@ -1,17 +1,17 @@
 //! The functions of a module, each with its scope and its header.
-ghost use Rattle.std.specs.Prelude.{◌≡◌, ◌++◌, length, map, IfOk};
-ghost use Rattle.std.specs.List.{flat_map};
+ghost use Rattle.std.specs.Prelude.{◌≡◌, length, map, IfOk};
 ghost use Rattle.std.specs.Option.{option_map};
+ghost use Rattle.py_syntax.specs.Statements.{func_tree};
 ghost use Rattle.py_typed.specs.Classes.{signature};
 ghost use Rattle.py_check_context.specs.Context.{context};
 ghost use Rattle.py_check_names.specs.Walked.{func_trees};
 ghost use Rattle.py_check_signatures.specs.Headers as headers;
+ghost use Rattle.py_check_signatures.specs.Views.{header_sorts};
 ghost use Rattle.py_check_definitions.specs.Views.{headed_of, headed_all};
 
 use py_binder::Scope;
 use py_check_signatures::{Header, header_of, signature_of};
 use py_syntax::Func;
-use py_syntax_diagnostics::Diag;
 use py_typed::Sig;
 use std::alloc::Global;
 use value_core::{Many, Memory};
@@ -24,23 +24,22 @@ pub struct Function<'a> {
     pub header: Header,
 }
 
-/// Functions with their scopes, one to one; their annotations are seen in the module's scope.
+/// Functions with their scopes, one to one; their annotations are seen in the module's scope. What is wrong with an annotation is
+/// said where its definition stands.
 pub fn functions_of<'a>(
     alloc: Global,
     scope: &py_check_context::Context<'_>,
     found: &[&'a Func],
     insides: &'a [Scope],
-    faults: &mut Many<Diag>,
 ) -> Result<Vec<Function<'a>>, Memory>
     requires { length found.now ≡ length insides.now }
-    ensures functions { IfOk result (λ fs. map headed_of fs.items ≡ headed_all (context scope.now).meaning (func_trees found.now) insides.now) }
-    ensures told { IfOk result (λ fs. faults.new ≡ faults.old ++ flat_map (headers.header_said (context scope.now).meaning) (func_trees found.now)) }
+    ensures { IfOk result (λ fs. map headed_of fs.items ≡ headed_all (context scope.now).meaning (func_trees found.now) insides.now) }
 {
     let mut functions = Vec::new(alloc);
     for f in found {
         let tree = *f;
         let inside = &insides[functions.len()];
-        let header = header_of(alloc, scope, tree, faults)?;
+        let header = unsaid_header(alloc, scope, tree)?;
         functions.push(Function {
             tree,
             inside,
@@ -48,6 +47,17 @@ pub fn functions_of<'a>(
         })?;
     }
     Ok(functions)
+}
+
+fn unsaid_header(
+    alloc: Global,
+    scope: &py_check_context::Context<'_>,
+    f: &Func,
+) -> Result<Header, Memory>
+    ensures { IfOk result (λ h. header_sorts h ≡ headers.header (context scope.now).meaning (func_tree f.now)) }
+{
+    let mut unsaid = Many::new(alloc);
+    header_of(alloc, scope, f, &mut unsaid)
 }
 
 /// The signatures of functions, by their numbers: some have none.

@@ -1,20 +1,24 @@
-//! What a module's definitions are and what is wrong with them by themselves, and where the types of variables begin.
+//! What a module's definitions are and what is said of them where they stand, and where the types of variables begin.
 //!
-//! `specs/Definitions.antt` has what is said of definitions and imports, `specs/Starts.antt` and `specs/Variables.antt` the types of
-//! variables where a module or a function begins and in the typed tree. A module's tree and its scopes come in; what goes out are its definitions and functions, the types that are known of
+//! `specs/Definitions.antt` has what is said of definitions and imports, `specs/Decorators.antt` what decorators and bases are asked
+//! for, `specs/Starts.antt` and `specs/Variables.antt` the types of variables where a module or a function begins and in the typed
+//! tree. A module's tree and its scopes come in; what goes out are its definitions and functions, the types that are known of
 //! variables before any statement, and diagnostics put behind those that there are.
 #![tactic(auto)]
 
+mod decorators;
 mod definitions;
 mod environments;
 mod functions;
 mod outlines;
+mod refused;
 mod starts;
 mod variables;
 
-pub use definitions::{add_definition_faults, add_inner_faults};
+pub use definitions::{add_definitions, add_inner_faults};
 pub use environments::{Environment, no_classes};
 pub use functions::{Function, functions_of, signatures_of};
-pub use outlines::{Outlined, add_header_faults, definitions_of};
+pub use outlines::{Outlined, definitions_of, headed_functions};
+pub use refused::add_refusals;
 pub use starts::{own_types, start_types};
 pub use variables::{numbers_of, param_numbers, type_or_none, typed_variables};

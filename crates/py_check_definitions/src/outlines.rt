@@ -1,6 +1,5 @@
-//! A module's definitions and functions, and what is said of them by themselves.
-ghost use Rattle.std.specs.Prelude.{◌≡◌, ◌++◌, ℕ, List, length, map, IfOk};
-ghost use Rattle.std.specs.List.{flat_map};
+//! A module's definitions and functions.
+ghost use Rattle.std.specs.Prelude.{◌≡◌, ℕ, List, length, map, IfOk};
 ghost use Rattle.std.specs.Str.{bytes_eq};
 ghost use Rattle.indexmap.specs.IndexMap.{get};
 ghost use Rattle.py_syntax.specs.Statements.{body_tree};
@@ -8,19 +7,15 @@ ghost use Rattle.py_binder.specs.Scope.{functions};
 ghost use Rattle.py_check_names.specs.Walked.{trees, func_trees};
 ghost use Rattle.py_check_names.specs.Outline.{suite_definitions};
 ghost use Rattle.py_check_names.specs.Meanings.{said_in, variables};
-ghost use Rattle.py_check_signatures.specs.Headers.{header_said};
-ghost use Rattle.py_check_definitions.specs.Views.{headed_of, headed_all};
-ghost use Rattle.py_check_definitions.specs.Views as headed;
+ghost use Rattle.py_check_definitions.specs.Views.{headed_of, headed_all, meanings_by};
 
-use crate::definitions::{add_definition_faults, add_inner_faults};
 use crate::environments::no_classes;
 use crate::functions::{Function, functions_of};
 use py_binder::{Scope, Scopes};
 use py_check_names::{ModuleNames, Outline, definitions_in, module_names, names_in, outline_of};
 use py_syntax::{Func, Stmt};
-use py_syntax_diagnostics::Diag;
 use std::alloc::Global;
-use value_core::{Many, Memory};
+use value_core::Memory;
 
 /// The definitions and imports of a module, its functions by their numbers, and what is known of names.
 #[derive(Drop)]
@@ -55,38 +50,14 @@ pub fn definitions_of<'a>(
     })
 }
 
-/// The functions with their scopes and headers; and adds what is wrong with annotations, definitions and imports.
-pub fn add_header_faults<'a>(
-    alloc: Global,
-    found: &Outlined<'a>,
-    scopes: &'a Scopes,
-    faults: &mut Many<Diag>,
-) -> Result<Vec<Function<'a>>, Memory>
-    requires { length found.now.functions.items ≡ length scopes.now.funcs }
-    ensures functions { IfOk result (λ fs. map headed_of fs.items ≡ headed_all (headed.meanings_by found.now.known scopes.now.top) (func_trees found.now.functions.items) scopes.now.funcs) }
-    ensures told { IfOk result (λ fs. faults.new ≡ faults.old ++ headed.headers_said_by (headed.meanings_by found.now.known scopes.now.top) (func_trees found.now.functions.items) (map headed_of fs.items) (trees found.now.definitions.items)) }
-{
-    let functions = headed(alloc, found, scopes, faults)?;
-    add_definition_faults(
-        alloc,
-        found.definitions.as_slice(),
-        functions.as_slice(),
-        faults,
-    )?;
-    add_inner_faults(alloc, found.functions.as_slice(), faults)?;
-    Ok(functions)
-}
-
 /// The functions with their scopes and headers. Annotations are seen in the module's scope.
-fn headed<'a>(
+pub fn headed_functions<'a>(
     alloc: Global,
     found: &Outlined<'a>,
     scopes: &'a Scopes,
-    faults: &mut Many<Diag>,
 ) -> Result<Vec<Function<'a>>, Memory>
     requires { length found.now.functions.items ≡ length scopes.now.funcs }
-    ensures functions { IfOk result (λ fs. map headed_of fs.items ≡ headed_all (headed.meanings_by found.now.known scopes.now.top) (func_trees found.now.functions.items) scopes.now.funcs) }
-    ensures told { IfOk result (λ fs. faults.new ≡ faults.old ++ flat_map (header_said (headed.meanings_by found.now.known scopes.now.top)) (func_trees found.now.functions.items)) }
+    ensures { IfOk result (λ fs. map headed_of fs.items ≡ headed_all (meanings_by found.now.known scopes.now.top) (func_trees found.now.functions.items) scopes.now.funcs) }
 {
     let names = names_in(alloc, &found.known, &scopes.top)?;
     let classes = no_classes(alloc);
@@ -100,6 +71,5 @@ fn headed<'a>(
         &scope,
         found.functions.as_slice(),
         scopes.funcs.as_slice(),
-        faults,
     )
 }

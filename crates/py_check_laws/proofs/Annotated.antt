@@ -1,5 +1,5 @@
 -- An annotation that has no type has said why, where no name in it is without a type and each is known.
-use Rattle.std.proofs.Common.{◌≡◌, ℕ, Bool, true, false, List, [], ◌∷◌, Option, Some, None, sym, subst, if◌then◌else◌}
+use Rattle.std.proofs.Common.{◌≡◌, ℕ, Bool, true, false, List, [], Option, Some, None, sym, subst, if◌then◌else◌}
 use Rattle.py_syntax.specs.declared.token.Span.{Span}
 use Rattle.py_syntax.specs.Expressions as e
 use Rattle.py_syntax.specs.Expressions.{ExprTree, ExprNode, ExprTrees}
@@ -9,7 +9,7 @@ use Rattle.py_typed.specs.Fits.{optional}
 use Rattle.py_binder.specs.declared.sight.Manner.TheVariants.{Annotation}
 use Rattle.py_binder.specs.Sights.{maybe_read, reads, node_reads, exprs_reads}
 use Rattle.py_check_context.specs.declared.scope.Meaning.{Meaning}
-use Rattle.py_check_messages.specs.Seen.{Seen, is, silent, fails, made}
+use Rattle.py_check_messages.specs.Seen.{Seen, is, silent, made}
 use Rattle.py_check_messages.specs.Rows.{row_then}
 use Rattle.py_check_annotations.specs.declared.names.Former.{Former}
 use Rattle.py_check_annotations.specs.Names.{plain_type, former_of, is_unknown, is_untyped, valid, named, has_unknown, invalid_unless}

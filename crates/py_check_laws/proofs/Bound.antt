@@ -34,16 +34,17 @@ use Rattle.py_check_assignments.specs.Assignments.{value_for, assigns, binds}
 use Rattle.py_check_expressions_laws.specs.WellTyped as law
 use Rattle.py_check_expressions_laws.specs.WellTyped.{Describes, Within}
 use Rattle.py_check_expressions_laws.proofs.Stands.{coerced_stands}
+use Rattle.py_check_laws.specs.Variables.{sort_in}
 use Rattle.py_check_laws.specs.WellTyped.{are_targets, IsScope}
 use Rattle.py_check_laws.proofs.Given.{some_is, both_given, rule_given}
-use Rattle.py_check_laws.proofs.Kept.{Follows, follows_itself, follows_name, follows_target, is_open}
+use Rattle.py_check.proofs.Kept.{Follows, follows_itself, follows_name, follows_target, is_open}
 use Rattle.py_check_laws.proofs.Assigned.{leaves_one, single_bound, row_bound, aims_length, items_are, BoundTo, as_value, assigned_is}
 use Rattle.py_check_laws.proofs.Whole.{bound_same}
 use Rattle.py_check_laws.proofs.Names.{within_kept}
 use Rattle.py_check_laws.proofs.Aims.{AimAt, AimsOf, aims_are, aim_held, aim_first, first_name, held_aimed, first_aimed, aimed_bound}
 use Rattle.py_check_laws.proofs.Values.{scene, value_stands, held_value, fault_fits, stands_type, parts_type}
 use Rattle.py_check_laws.proofs.Towers.{no_tower}
-use Rattle.py_check_laws.proofs.Targets.{not_true, own_plain, own_coerced, given_start, TargetStands, held_stands, variable_stands, sort_in, bind_first, open_unset, open_variable, first_open, RowStands, rows}
+use Rattle.py_check_laws.proofs.Targets.{not_true, own_plain, own_coerced, given_start, TargetStands, held_stands, variable_stands, bind_first, open_unset, open_variable, first_open, RowStands, rows}
 use Rattle.py_check_laws.proofs.Closed.{scope_there}
 use Rattle.py_check_expressions_laws.proofs.Types.{result_of_value}
 

@@ -13,8 +13,9 @@ use Rattle.py_check_places.specs.Places.{Known, is_unset, fix, first_type, bind_
 use Rattle.py_check_places.specs.Shapes.{is_row, leaves, parts_of}
 use Rattle.py_check_places.specs.Shapes.{bind_target}
 use Rattle.py_check_definitions.specs.Starts.{first_mark}
+use Rattle.py_check_laws.specs.Variables.{is_there}
 use Rattle.py_check_laws.specs.WellTyped.{IsScope}
-use Rattle.py_check_laws.proofs.Kept.{fix_set, fix_first, Follows, follows_name, follows_names, is_open}
+use Rattle.py_check.proofs.Kept.{fix_set, fix_first, Follows, follows_name, follows_names, is_open}
 use Rattle.py_check_laws.proofs.Assigned.{name_no_row, single_bound}
 use Rattle.py_check_laws.proofs.Shapes.{named, leaf_bindings, target_leaves}
 
@@ -23,12 +24,6 @@ pub open_follows : (V W : VarSorts) (m : Meaning) → Follows V W → is_open V 
 open_follows V W (meaning.Local i) f h = ap is_unset (f.locals.stays i h) ∙ h
 open_follows V W (meaning.Global i) f h = ap is_unset (f.globals.stays i h) ∙ h
 open_follows V W _ f h = refl
-
--- the variable is there
-abbrev pub is_there : VarSorts → Meaning → Bool
-is_there V (meaning.Local i) = nat_lt i (length V.locals)
-is_there V (meaning.Global i) = nat_lt i (length V.globals)
-is_there V m = true
 
 pub scope_there : (C : Context) (V : VarSorts) → IsScope C V → (x : List ℕ) → is_there V (C.meaning x) ≡ true
 scope_there C V s x = by (C.meaning x) refl
@@ -45,7 +40,7 @@ scope_on C V W f s = record {
   differ = s.differ;
 }
 
-type_set : (ok : Bool) (t : Option Sort) → is_unset (first_type ok t) ≡ false
+pub type_set : (ok : Bool) (t : Option Sort) → is_unset (first_type ok t) ≡ false
 type_set true (Some t) = refl
 type_set true None = refl
 type_set false t = refl

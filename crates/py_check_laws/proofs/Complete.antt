@@ -32,13 +32,13 @@ use Rattle.py_check_places.specs.Places.{Known, is_unset}
 use Rattle.py_check_definitions.specs.Definitions.{Headed, headed, inner_definitions_said, headed_functions}
 use Rattle.py_check_definitions.specs.Starts.{given_sort, start_sort, own_sort}
 use Rattle.py_check_definitions.specs.Variables.{typed_variables}
-use Rattle.py_check.specs.Module.{Environment, context_in, plain_signature, statements_of, return_of, own_statements, function_start, body, body_after, typed_function, sorts_behind, sorts_behind_all, bodies_said, typed_functions, global_sorts, environment, said, diagnostics, typed}
+use Rattle.py_check.specs.Module.{Environment, context_in, plain_signature, statements_of, return_of, function_start, body, body_after, typed_function, bodies_said, typed_functions, global_sorts, environment, said, diagnostics, typed}
 use Rattle.py_check_expressions_laws.specs.Laws as law
 use Rattle.py_check_expressions_laws.proofs.Loud.{none_before, none_behind}
 use Rattle.py_check_laws.specs.WellTyped.{is_suite_written, is_filled}
 use Rattle.py_check_laws.specs.Modules.{has_type, all_have_types, are_own_typed, is_module_written, body_stands, are_names_written}
 use Rattle.py_check_laws.proofs.Given.{some_of}
-use Rattle.py_check_laws.proofs.Kept.{follows_block}
+use Rattle.py_check.proofs.Kept.{follows_block}
 use Rattle.py_check_laws.proofs.NameRows.{sights_differ, differ_filter}
 use Rattle.py_check_laws.proofs.Shapes.{shape_block}
 use Rattle.py_check_laws.proofs.Meant.{scope_names}
@@ -47,10 +47,10 @@ use Rattle.py_check_laws.proofs.Inner.{suite_none}
 use Rattle.py_check_laws.proofs.Modules as whole
 use Rattle.py_check_laws.proofs.Modules.{nothing_placed, body_typed}
 use Rattle.py_check_laws.proofs.Varied as vary
-use Rattle.py_check_laws.proofs.Varied.{mapped_at, kept_has}
+use Rattle.py_check_laws.proofs.Varied.{mapped_at}
 use Rattle.py_check_laws.proofs.Differ as differ
 use Rattle.py_check_laws.proofs.Differ.{function_names}
-use Rattle.py_check_laws.proofs.Described.{given_set, same_has, has_within, behind_keeps, returned_value, function_stands, final_is, final_size, inner_none, gs_values, all_stand, voices, inner_typed}
+use Rattle.py_check_laws.proofs.Described.{given_set, returned_value, function_stands, final_behind, inner_none, gs_values, all_stand, voices, inner_typed}
 use Rattle.py_check_laws.proofs.Formed.{variables_named, types_valued, variables_long, params_differ, own_front, params_few, own_few, at_front, param_start, params_same, row_is_itself, filled_block}
 
 abbrev nobody : Option ℕ
@@ -186,7 +186,7 @@ module _ (is_identifier : List ℕ → Bool) (m : Suite) (nothing : said m ≡ [
   written_name f = is_identifier f.tree.name && list_all is_identifier (own_names f.inside) && is_filled f.tree.body
 
   functions_good : (i : ℕ) (sorts : List VarSort) → length sorts ≡ length e.variables → ((j : ℕ) → law.is_untyped (var_at sorts j) ≡ false) → ((j : ℕ) (t : Sort) → var_at sorts j ≡ has t → is_value_type 0 t ≡ true) → ((j : ℕ) → j < length e.variables → has_type (var_at sorts j) ≡ true) → (fs : List FuncTree)
-      → AllSigned meant (whole.typed_names m nothing) roles fs → bodies_said e sorts (map (headed roles meant) fs) ≡ [] → ((j : ℕ) (t : Sort) → var_at (sorts_behind_all e sorts (map (headed roles meant) fs)) j ≡ has t → Rattle.py_typed.specs.WellTypedExpr.declared tree.globals j ≡ Some t)
+      → AllSigned meant (whole.typed_names m nothing) roles fs → bodies_said e sorts (map (headed roles meant) fs) ≡ [] → ((f : Headed) (j : ℕ) (t : Sort) → var_at (body_after (context_in e f.inside) e.variables sorts f).types.globals j ≡ has t → Rattle.py_typed.specs.WellTypedExpr.declared tree.globals j ≡ Some t)
       → list_all (λ f. is_suite_written f.body) fs ≡ true → flat_map inner_definitions_said fs ≡ [] → are_own_typed e sorts (map (headed roles meant) fs) ≡ true → list_all written_name (map (headed roles meant) fs) ≡ true
       → ((j : ℕ) → slice_get tree.classes.signatures (i + j) ≡ slice_get (map (λ (f : Headed). plain_signature (signature_of f.header)) (map (headed roles meant) fs)) j) → all_at i (func_typed is_identifier tree) (typed_functions e sorts (map (headed roles meant) fs)) ≡ true
   functions_good i sorts q before gv gh [] a h final written pure have ns at = refl
@@ -194,19 +194,17 @@ module _ (is_identifier : List ℕ → Bool) (m : Suite) (nothing : said m ≡ [
       let hf = headed roles meant f in
       let c = context_in e hf.inside in
       let one = body c e.variables sorts hf in
-      let next = sorts_behind e sorts hf in
-      let more = bodies_said e next (map (headed roles meant) fs) in
+      let more = bodies_said e sorts (map (headed roles meant) fs) in
       let b = body_typed e sorts hf (voices m nothing f) (inner_typed m nothing f) (whole.inner_known m nothing f a.here.names) a.here.types before (none_before one.said more h) in
       let ts = some_of one.got b.typed in
-      let k = follows_block c (function_start c e.variables sorts hf) f.body in
       let none = suite_none f.body (none_before (inner_definitions_said f) (flat_map inner_definitions_said fs) pure) in
-      let s = function_stands m nothing f sorts q gv gh (λ j t g. final j t (behind_keeps roles meant e fs next j t g)) a.here.types (and_left (is_suite_written f.body) (list_all (λ f. is_suite_written f.body) fs) written) none ts.0 ts.1 in
+      let s = function_stands m nothing f sorts q gv gh (final hf) a.here.types (and_left (is_suite_written f.body) (list_all (λ f. is_suite_written f.body) fs) written) none ts.0 ts.1 in
       let w = of_three (is_identifier f.name) (list_all is_identifier (own_names hf.inside)) (is_filled f.body) (and_left (written_name hf) (list_all written_name (map (headed roles meant) fs)) ns) in
       let ends = (body_after c e.variables sorts hf).types.locals in
-      let good = func_good f sorts a.here i (ap (slice_get tree.classes.signatures) (no_more i) ∙ at 0) w.0 w.1 w.2 (and_left (all_have_types ends 0 (own_names hf.inside)) (are_own_typed e next (map (headed roles meant) fs)) have) s.locals s.typed none ts.0 ts.1 in
-      and_from (func_typed is_identifier tree i (typed_function c e.variables sorts hf)) (all_at (suc i) (func_typed is_identifier tree) (typed_functions e next (map (headed roles meant) fs))) good
-      (functions_good (suc i) next (k.globals.size ∙ q) b.behind s.values (λ j g. kept_has sorts next k.globals j (gh j g)) fs a.rest (none_behind one.said more h) final (and_right (is_suite_written f.body) (list_all (λ f. is_suite_written f.body) fs) written)
-      (none_behind (inner_definitions_said f) (flat_map inner_definitions_said fs) pure) (and_right (all_have_types ends 0 (own_names hf.inside)) (are_own_typed e next (map (headed roles meant) fs)) have) (and_right (written_name hf) (list_all written_name (map (headed roles meant) fs)) ns)
+      let good = func_good f sorts a.here i (ap (slice_get tree.classes.signatures) (no_more i) ∙ at 0) w.0 w.1 w.2 (and_left (all_have_types ends 0 (own_names hf.inside)) (are_own_typed e sorts (map (headed roles meant) fs)) have) s.locals s.typed none ts.0 ts.1 in
+      and_from (func_typed is_identifier tree i (typed_function c e.variables sorts hf)) (all_at (suc i) (func_typed is_identifier tree) (typed_functions e sorts (map (headed roles meant) fs))) good
+      (functions_good (suc i) sorts q before gv gh fs a.rest (none_behind one.said more h) final (and_right (is_suite_written f.body) (list_all (λ f. is_suite_written f.body) fs) written)
+      (none_behind (inner_definitions_said f) (flat_map inner_definitions_said fs) pure) (and_right (all_have_types ends 0 (own_names hf.inside)) (are_own_typed e sorts (map (headed roles meant) fs)) have) (and_right (written_name hf) (list_all written_name (map (headed roles meant) fs)) ns)
       (λ j. ap (slice_get tree.classes.signatures) (one_on i j) ∙ at (suc j)))
     where
       no_more : (i : ℕ) → i ≡ i + 0
@@ -219,40 +217,31 @@ module _ (is_identifier : List ℕ → Bool) (m : Suite) (nothing : said m ≡ [
 
   names_are : (sorts : List VarSort) (fs : List FuncTree) → flat_map (own_name is_identifier tree) (typed_functions e sorts (map (headed roles meant) fs)) ≡ function_names fs
   names_are sorts [] = refl
-  names_are sorts (f ∷ fs) = ap (λ l. f.name ∷ l) (names_are (sorts_behind e sorts (headed roles meant f)) fs)
+  names_are sorts (f ∷ fs) = ap (λ l. f.name ∷ l) (names_are sorts fs)
 
   all_listed : (i : ℕ) (sorts : List VarSort) (fs : List FuncTree) → all_at i (is_listed is_identifier tree) (typed_functions e sorts (map (headed roles meant) fs)) ≡ true
   all_listed i sorts [] = refl
-  all_listed i sorts (f ∷ fs) = all_listed (suc i) (sorts_behind e sorts (headed roles meant f)) fs
+  all_listed i sorts (f ∷ fs) = all_listed (suc i) sorts fs
 
   as_many : (sorts : List VarSort) (fs : List FuncTree) → length (typed_functions e sorts (map (headed roles meant) fs)) ≡ length fs
   as_many sorts [] = refl
-  as_many sorts (f ∷ fs) = ap suc (as_many (sorts_behind e sorts (headed roles meant f)) fs)
+  as_many sorts (f ∷ fs) = ap suc (as_many sorts fs)
 
   -- ---- the whole
-
-  final_value : ((i : ℕ) (t : Sort) → var_at gs i ≡ has t → is_value_type 0 t ≡ true) → (i : ℕ) (t : Sort) → var_at (sorts_behind_all e gs (headed_functions m)) i ≡ has t → is_value_type 0 t ≡ true
-  final_value gv i t h = by (var_at gs i) refl (vary.global_has m nothing i (subst (λ n. i < n) (final_size m nothing) (has_within (sorts_behind_all e gs (headed_functions m)) i t h)))
-    where
-      by : (v : VarSort) → var_at gs i ≡ v → has_type v ≡ true → is_value_type 0 t ≡ true
-      by (has s) q g = subst (λ z. is_value_type 0 z ≡ true) (same_has s t (sym (behind_keeps roles meant e (functions m) gs i s q) ∙ h)) (gv i s q)
-      by _ q g = absurd (cc)
 
   pub well_typed : is_module_written m ≡ true → are_names_written is_identifier m ≡ true → is_well_typed is_identifier tree ≡ true
   well_typed written ns =
       let fs = functions m in
-      let one = own_statements (whole.top m nothing) e.variables m in
-      let final = sorts_behind_all e gs (headed_functions m) in
       let gv = gs_values m nothing (and_left (is_suite_written m) (list_all (λ f. is_suite_written f.body) fs) written) in
       let have = vary.variables_typed m nothing in
       let ids = and_left (list_all is_identifier e.variables) (list_all written_name (headed_functions m)) ns in
-      let globals = variables_good final e.variables ids (differ.variables_differ m nothing) (and_left (all_have_types final 0 e.variables) (are_own_typed e gs (headed_functions m)) have) (final_value gv) in
+      let globals = variables_good gs e.variables ids (differ.variables_differ m nothing) (and_left (all_have_types gs 0 e.variables) (are_own_typed e gs (headed_functions m)) have) gv in
       let names : all_differ (names_of tree.globals ++ (flat_map (own_name is_identifier tree) tree.funcs ++ [])) ≡ true =
-      ap (λ l. all_differ (l ++ (flat_map (own_name is_identifier tree) tree.funcs ++ []))) (variables_named final 0 e.variables) ∙ ap (λ l. all_differ (e.variables ++ l)) (append-nil (flat_map (own_name is_identifier tree) tree.funcs) ∙ names_are gs fs) ∙ differ.names_differ m nothing in
+      ap (λ l. all_differ (l ++ (flat_map (own_name is_identifier tree) tree.funcs ++ []))) (variables_named gs 0 e.variables) ∙ ap (λ l. all_differ (e.variables ++ l)) (append-nil (flat_map (own_name is_identifier tree) tree.funcs) ∙ names_are gs fs) ∙ differ.names_differ m nothing in
       let many : length tree.classes.signatures ≡ length tree.funcs =
       length-map (headed_functions m) (λ (f : Headed). plain_signature (signature_of f.header)) ∙ length-map fs (headed roles meant) ∙ sym (as_many gs fs) in
-      let all = functions_good 0 gs (vary.top_size m nothing) (vary.top_typed m nothing) gv (vary.global_has m nothing) fs (whole.all_functions m nothing) (none_behind one.said (bodies_said e gs (headed_functions m)) (whole.statements m nothing)) (final_is m nothing)
-      (and_right (is_suite_written m) (list_all (λ f. is_suite_written f.body) fs) written) (inner_none m nothing) (and_right (all_have_types final 0 e.variables) (are_own_typed e gs (headed_functions m)) have) (and_right (list_all is_identifier e.variables) (list_all written_name (headed_functions m)) ns)
+      let all = functions_good 0 gs (vary.top_size m nothing) (vary.top_typed m nothing) gv (vary.global_has m nothing) fs (whole.all_functions m nothing) (whole.bodies_quiet m nothing) (final_behind m nothing)
+      (and_right (is_suite_written m) (list_all (λ f. is_suite_written f.body) fs) written) (inner_none m nothing) (and_right (all_have_types gs 0 e.variables) (are_own_typed e gs (headed_functions m)) have) (and_right (list_all is_identifier e.variables) (list_all written_name (headed_functions m)) ns)
       (λ j. ap (slice_get tree.classes.signatures) (nothing_first j)) in
       seven (variables_typed is_identifier tree tree.globals) (all_differ (names_of tree.globals ++ (flat_map (own_name is_identifier tree) tree.funcs ++ []))) (length tree.classes.signatures == length tree.funcs) true (all_at 0 (is_listed is_identifier tree) tree.funcs) (all_at 0 (func_typed is_identifier tree) tree.funcs)
       (suite_typed tree [] None None [] false false tree.top) globals names (eq-eqb (length tree.classes.signatures) (length tree.funcs) many) refl (all_listed 0 gs fs) all (and_left (suite_typed tree [] None None [] false false tree.top) (list_all (body_stands tree) tree.funcs) (all_stand m nothing written))

@@ -34,14 +34,14 @@ use Rattle.py_check_statements.specs.Bodies.{block_after}
 use Rattle.py_check_definitions.specs.Definitions.{Headed, headed, inner_definitions_said, headed_functions, signatures}
 use Rattle.py_check_definitions.specs.Starts.{given_sort, first_mark, by_mark, start_sort, or_param, param_sort, own_sort}
 use Rattle.py_check_definitions.specs.Variables.{sort_or_none, variables_from, typed_variables}
-use Rattle.py_check.specs.Module.{Environment, context_in, plain_signature, statements_of, return_of, module_start, own_statements, function_start, body, body_after, typed_function, sorts_behind, sorts_behind_all, bodies_said, typed_functions, global_sorts, environment, said, diagnostics, typed}
+use Rattle.py_check.specs.Module.{Environment, context_in, plain_signature, statements_of, return_of, module_start, own_statements, function_start, body, body_after, typed_function, bodies_said, typed_functions, global_sorts, environment, said, diagnostics, typed}
 use Rattle.py_check_expressions_laws.specs.Laws as law
 use Rattle.py_check_expressions_laws.specs.WellTyped.{Describes, IsSigned}
 use Rattle.py_check_expressions_laws.proofs.Loud.{none_before, none_behind}
 use Rattle.py_check_laws.specs.WellTyped.{is_suite_written, IsScope, IsResult}
 use Rattle.py_check_laws.specs.Modules.{has_type, is_module_written, body_stands, statements_stand}
 use Rattle.py_check_laws.proofs.Given.{some_of}
-use Rattle.py_check_laws.proofs.Kept.{follows_itself, follows_block, is_open}
+use Rattle.py_check.proofs.Kept.{follows_itself, follows_block, is_open}
 use Rattle.py_check_laws.proofs.Closed.{IsMarked}
 use Rattle.py_check_laws.proofs.Settled.{Valued, AreDeclared, declared_before, Setting, settled_block}
 use Rattle.py_check_laws.proofs.Stand.{stands_in}
@@ -54,7 +54,8 @@ use Rattle.py_check_laws.proofs.Inner.{suite_none}
 use Rattle.py_check_laws.proofs.Modules as whole
 use Rattle.py_check_laws.proofs.Modules.{nothing_placed, BodyTyped, body_typed}
 use Rattle.py_check_laws.proofs.Varied as vary
-use Rattle.py_check_laws.proofs.Varied.{mapped_at, kept_has, set_by}
+use Rattle.py_check_laws.proofs.Varied.{mapped_at, set_by}
+use Rattle.py_check_laws.proofs.Lasting.{body_lasts}
 
 -- ---- rows of variables
 
@@ -162,22 +163,7 @@ module _ (roles : Roles) (meanings : List ℕ → Meaning) where
   function_there : (e : Environment) (sorts : List VarSort) (fs : List FuncTree) (i : ℕ) → i < length fs → is_function (slice_get (typed_functions e sorts (map (headed roles meanings) fs)) i) ≡ true
   function_there e sorts [] i h = absurd (omega arith)
   function_there e sorts (f ∷ fs) zero h = refl
-  function_there e sorts (f ∷ fs) (suc i) h = function_there e (sorts_behind e sorts (headed roles meanings f)) fs i (omega arith)
-
-  -- what is known of the module's variables stays known behind functions
-  pub behind_keeps : (e : Environment) (fs : List FuncTree) (sorts : List VarSort) (i : ℕ) (t : Sort) → var_at sorts i ≡ has t → var_at (sorts_behind_all e sorts (map (headed roles meanings) fs)) i ≡ has t
-  behind_keeps e [] sorts i t h = h
-  behind_keeps e (f ∷ fs) sorts i t h =
-      let hd = headed roles meanings f in
-      let k = follows_block (context_in e hd.inside) (function_start (context_in e hd.inside) e.variables sorts hd) f.body in
-      behind_keeps e fs (sorts_behind e sorts hd) i t (k.globals.stays i (ap is_unset h) ∙ h)
-
-  behind_size : (e : Environment) (fs : List FuncTree) (sorts : List VarSort) → length (sorts_behind_all e sorts (map (headed roles meanings) fs)) ≡ length sorts
-  behind_size e [] sorts = refl
-  behind_size e (f ∷ fs) sorts =
-      let hd = headed roles meanings f in
-      let k = follows_block (context_in e hd.inside) (function_start (context_in e hd.inside) e.variables sorts hd) f.body in
-      behind_size e fs (sorts_behind e sorts hd) ∙ k.globals.size
+  function_there e sorts (f ∷ fs) (suc i) h = function_there e sorts fs i (omega arith)
 
 result_is : (o : Option Sort) → is_some o ≡ true → ((t : Sort) → o ≡ Some t → is_result_type 0 t ≡ true) → IsResult 0 (return_of o) (Some (unwrap_or o sort.Nothing))
 result_is None h v = absurd (cc)
@@ -322,7 +308,6 @@ module _ (m : Suite) (nothing : said m ≡ []) where
 
     pub record FunctionStands : Type 0 where
       pub typed : body_stands tree body_form ≡ true
-      pub values : (i : ℕ) (t : Sort) → var_at last.types.globals i ≡ has t → IsValue t
       pub locals : (i : ℕ) (t : Sort) → var_at last.types.locals i ≡ has t → IsValue t
 
     pub function_stands : ((i : ℕ) (t : Sort) → var_at sorts i ≡ has t → IsValue t) → ((i : ℕ) → i < length e.variables → has_type (var_at sorts i) ≡ true) → ((i : ℕ) (t : Sort) → var_at last.types.globals i ≡ has t → declared tree.globals i ≡ Some t) → HasTypes hd.header → is_suite_written f.body ≡ true
@@ -334,7 +319,6 @@ module _ (m : Suite) (nothing : said m ≡ []) where
         record {
           typed = ap (λ o. suite_typed tree locals o (Some (unwrap_or hd.header.ret sort.Nothing)) [] false false body_form.body) (no_init (bytes_eq f.name (Rattle.std.specs.Prelude.codes "__init__")))
               ∙ ap (λ o. suite_typed tree locals None (Some (unwrap_or hd.header.ret sort.Nothing)) [] false false (statements_of o)) got ∙ s.typed;
-          values = s.values.globals;
           locals = s.values.locals;
         }
 
@@ -345,21 +329,19 @@ module _ (m : Suite) (nothing : said m ≡ []) where
   inner_typed f x = heard_typed size ((whole.inside m nothing f).meaning x) (whole.inner_heard m nothing f x)
 
   pub bodies_stand : (sorts : List VarSort) → length sorts ≡ length e.variables → ((i : ℕ) → law.is_untyped (var_at sorts i) ≡ false) → ((i : ℕ) (t : Sort) → var_at sorts i ≡ has t → IsValue t) → ((i : ℕ) → i < length e.variables → has_type (var_at sorts i) ≡ true) → (fs : List FuncTree) → AllSigned meant (whole.typed_names m nothing) roles fs
-      → bodies_said e sorts (map (headed roles meant) fs) ≡ [] → ((i : ℕ) (t : Sort) → var_at (sorts_behind_all e sorts (map (headed roles meant) fs)) i ≡ has t → declared tree.globals i ≡ Some t) → list_all (λ f. is_suite_written f.body) fs ≡ true → flat_map inner_definitions_said fs ≡ []
+      → bodies_said e sorts (map (headed roles meant) fs) ≡ [] → ((f : Headed) (i : ℕ) (t : Sort) → var_at (body_after (context_in e f.inside) e.variables sorts f).types.globals i ≡ has t → declared tree.globals i ≡ Some t) → list_all (λ f. is_suite_written f.body) fs ≡ true → flat_map inner_definitions_said fs ≡ []
       → list_all (body_stands tree) (typed_functions e sorts (map (headed roles meant) fs)) ≡ true
   bodies_stand sorts q before gv gh [] a h final written pure = refl
   bodies_stand sorts q before gv gh (f ∷ fs) a h final written pure =
       let hf = headed roles meant f in
       let one = body (context_in e hf.inside) e.variables sorts hf in
-      let next = sorts_behind e sorts hf in
-      let more = bodies_said e next (map (headed roles meant) fs) in
+      let more = bodies_said e sorts (map (headed roles meant) fs) in
       let b = body_typed e sorts hf (voices f) (inner_typed f) (whole.inner_known m nothing f a.here.names) a.here.types before (none_before one.said more h) in
       let ts = some_of one.got b.typed in
-      let k = follows_block (context_in e hf.inside) (function_start (context_in e hf.inside) e.variables sorts hf) f.body in
-      let s = function_stands f sorts q gv gh (λ i t g. final i t (behind_keeps roles meant e fs next i t g)) a.here.types (and_left (is_suite_written f.body) (list_all (λ f. is_suite_written f.body) fs) written)
+      let s = function_stands f sorts q gv gh (final hf) a.here.types (and_left (is_suite_written f.body) (list_all (λ f. is_suite_written f.body) fs) written)
       (suite_none f.body (none_before (inner_definitions_said f) (flat_map inner_definitions_said fs) pure)) ts.0 ts.1 in
-      and_from (body_stands tree (typed_function (context_in e hf.inside) e.variables sorts hf)) (list_all (body_stands tree) (typed_functions e next (map (headed roles meant) fs))) s.typed
-      (bodies_stand next (k.globals.size ∙ q) b.behind s.values (λ i g. kept_has sorts next k.globals i (gh i g)) fs a.rest (none_behind one.said more h) final (and_right (is_suite_written f.body) (list_all (λ f. is_suite_written f.body) fs) written)
+      and_from (body_stands tree (typed_function (context_in e hf.inside) e.variables sorts hf)) (list_all (body_stands tree) (typed_functions e sorts (map (headed roles meant) fs))) s.typed
+      (bodies_stand sorts q before gv gh fs a.rest (none_behind one.said more h) final (and_right (is_suite_written f.body) (list_all (λ f. is_suite_written f.body) fs) written)
       (none_behind (inner_definitions_said f) (flat_map inner_definitions_said fs) pure))
 
   -- ---- the module's own statements
@@ -395,16 +377,16 @@ module _ (m : Suite) (nothing : said m ≡ []) where
           ap is_unset (mapped_at top_sort e.variables i x (global_place (said_in m) e.variables size roles (whole.fine m nothing) (all_there seen_there (module_sights m)) x i p)) ∙ ap (λ o. is_unset (by_mark meant o)) h ∙ given_set (annotation meant mark).got
       by _ p = refl
 
-  pub final_size : length (sorts_behind_all e gs (headed_functions m)) ≡ length e.variables
-  final_size = behind_size roles meant e (functions m) gs ∙ vary.top_size m nothing
+  final_is : (i : ℕ) (t : Sort) → var_at gs i ≡ has t → declared tree.globals i ≡ Some t
+  final_is = declared_has gs e.variables (vary.top_size m nothing)
 
-  pub final_is : (i : ℕ) (t : Sort) → var_at (sorts_behind_all e gs (headed_functions m)) i ≡ has t → declared tree.globals i ≡ Some t
-  final_is = declared_has (sorts_behind_all e gs (headed_functions m)) e.variables final_size
+  pub final_behind : (f : Headed) (i : ℕ) (t : Sort) → var_at (body_after (context_in e f.inside) e.variables gs f).types.globals i ≡ has t → declared tree.globals i ≡ Some t
+  final_behind f i t h = final_is i t (sym (ap (λ (l : List VarSort). var_at l i) (body_lasts m nothing f)) ∙ h)
 
   top_declared : AreDeclared tree [] top_last.types
   top_declared = record {
     of_function = λ i t h. absurd (never i (subst (λ n. i < n) (follows_block (whole.top m nothing) top_first m).locals.size (has_within top_last.types.locals i t h)));
-    of_module = λ i t h. final_is i t (behind_keeps roles meant e (functions m) gs i t h);
+    of_module = final_is;
   }
     where
       never : (i : ℕ) → i < 0 → ⊥
@@ -433,11 +415,10 @@ module _ (m : Suite) (nothing : said m ≡ []) where
   -- THE STATEMENTS of the whole module stand
   pub all_stand : is_module_written m ≡ true → statements_stand tree ≡ true
   all_stand written =
-      let one = own_statements (whole.top m nothing) e.variables m in
       let own_written = and_left (is_suite_written m) (list_all (λ f. is_suite_written f.body) (functions m)) written in
       let s = top_stands own_written in
       and_from (suite_typed tree [] None None [] false false tree.top) (list_all (body_stands tree) tree.funcs) s.typed
-      (bodies_stand gs (vary.top_size m nothing) (vary.top_typed m nothing) s.values (vary.global_has m nothing) (functions m) (whole.all_functions m nothing) (none_behind one.said (bodies_said e gs (headed_functions m)) (whole.statements m nothing)) final_is
+      (bodies_stand gs (vary.top_size m nothing) (vary.top_typed m nothing) s.values (vary.global_has m nothing) (functions m) (whole.all_functions m nothing) (whole.bodies_quiet m nothing) final_behind
       (and_right (is_suite_written m) (list_all (λ f. is_suite_written f.body) (functions m)) written) inner_none)
 
 pub quiet_stands : (m : Suite) → diagnostics m ≡ [] → is_module_written m ≡ true → statements_stand (typed m) ≡ true

@@ -19,7 +19,7 @@ use Rattle.py_check_names.specs.Outline.{held_by, suite_definitions}
 use Rattle.py_check_names.specs.Meanings.{variables, module_meaning}
 use Rattle.py_check_signatures.specs.Headers.{header_said}
 use Rattle.py_check_signatures.specs.Definitions.{is_new, is_builtin_name}
-use Rattle.py_check_definitions.specs.Definitions.{names_given, definition_said, definitions_said}
+use Rattle.py_check_definitions.specs.Definitions.{names_given}
 use Rattle.py_check.specs.Module.{said, diagnostics}
 use Rattle.py_check_definitions.proofs.HeldLemmas.{functions_defined}
 use Rattle.py_check_expressions_laws.proofs.Types.{clash}
@@ -30,6 +30,7 @@ use Rattle.py_check_laws.proofs.Sights.{roles_given, suite_gives}
 use Rattle.py_check_laws.proofs.Meant.{is_right, scope_names, given_no_variable}
 use Rattle.py_check_laws.proofs.Owned.{filtered}
 use Rattle.py_check_laws.proofs.KnownParts.{AreKnown, annotation_reads}
+use Rattle.py_check_laws.proofs.Plain.{plain_said, all_plain_said}
 use Rattle.py_check_laws.proofs.Signed.{fresh_function}
 use Rattle.py_check_laws.proofs.Modules as whole
 use Rattle.py_check_laws.proofs.Modules.{nothing_placed}
@@ -74,7 +75,7 @@ one_more earlier name names h r = record {
     by x (inr p) = (not_in earlier (name ∷ []) x (r.new x p)).0
 
 module _ (roles : Roles) (meanings : List ℕ → Meaning) (all : (x : List ℕ) → is_untyped (meanings x) ≡ false) where
-  fresh_step : (earlier : List (List ℕ)) (x : StmtTree) (fs : List FuncTree) → definition_said roles meanings earlier x ≡ [] → AreKnown meanings (flat_map annotation_reads (held_by x ++ fs)) → flat_map (header_said meanings) (held_by x ++ fs) ≡ [] → (AreKnown meanings (flat_map annotation_reads fs) → flat_map (header_said meanings) fs ≡ [] → Fresh (earlier ++ names_given x) (function_names fs)) → Fresh earlier (function_names (held_by x ++ fs))
+  fresh_step : (earlier : List (List ℕ)) (x : StmtTree) (fs : List FuncTree) → plain_said roles meanings earlier x ≡ [] → AreKnown meanings (flat_map annotation_reads (held_by x ++ fs)) → flat_map (header_said meanings) (held_by x ++ fs) ≡ [] → (AreKnown meanings (flat_map annotation_reads fs) → flat_map (header_said meanings) fs ≡ [] → Fresh (earlier ++ names_given x) (function_names fs)) → Fresh earlier (function_names (held_by x ++ fs))
   fresh_step earlier (s.at (s.Def name params ret body marks) span) fs h u k next =
       let f : FuncTree = record { name = name; params = params; ret = ret; body = body; marks = marks } in
       let new = fresh_function meanings all roles f (span, is_new earlier name, h) (known_left meanings (annotation_reads f) (flat_map annotation_reads fs) u) (none_before (header_said meanings f) (flat_map (header_said meanings) fs) k) in
@@ -83,14 +84,14 @@ module _ (roles : Roles) (meanings : List ℕ → Meaning) (all : (x : List ℕ)
   fresh_step earlier x fs h u k next = let r = next u k in record { differ = r.differ; new = λ y q. (not_in earlier (names_given x) y (r.new y q)).0 }
 
   -- THE NAMES of functions differ
-  pub all_fresh : (earlier : List (List ℕ)) (ds : List StmtTree) → definitions_said roles meanings earlier ds ≡ [] → AreKnown meanings (flat_map annotation_reads (flat_map held_by ds)) → flat_map (header_said meanings) (flat_map held_by ds) ≡ [] → Fresh earlier (function_names (flat_map held_by ds))
+  pub all_fresh : (earlier : List (List ℕ)) (ds : List StmtTree) → all_plain_said roles meanings earlier ds ≡ [] → AreKnown meanings (flat_map annotation_reads (flat_map held_by ds)) → flat_map (header_said meanings) (flat_map held_by ds) ≡ [] → Fresh earlier (function_names (flat_map held_by ds))
   all_fresh earlier [] h u k = record { differ = refl; new = λ x q. absurd (never q) }
     where
       never : false ≡ true → ⊥
       never q = cc
   all_fresh earlier (x ∷ ds) h u k =
-      let rest = definitions_said roles meanings (earlier ++ names_given x) ds in
-      fresh_step earlier x (flat_map held_by ds) (none_before (definition_said roles meanings earlier x) rest h) u k (λ v q. all_fresh (earlier ++ names_given x) ds (none_behind (definition_said roles meanings earlier x) rest h) v q)
+      let rest = all_plain_said roles meanings (earlier ++ names_given x) ds in
+      fresh_step earlier x (flat_map held_by ds) (none_before (plain_said roles meanings earlier x) rest h) u k (λ v q. all_fresh (earlier ++ names_given x) ds (none_behind (plain_said roles meanings earlier x) rest h) v q)
 
 -- ---- what is said of functions
 

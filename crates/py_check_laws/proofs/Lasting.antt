@@ -1,12 +1,11 @@
 -- Where nothing is said of a module, no body of a function changes the type of a variable of the module.
-use Rattle.std.proofs.Common.{◌≡◌, ℕ, zero, suc, ◌<◌, true, List, [], ◌∷◌, length, refl, ap, ap₂, sym, subst, ◌∙◌, arith}
+use Rattle.std.proofs.Common.{◌≡◌, ℕ, zero, suc, ◌<◌, List, [], ◌∷◌, length, refl, ap₂, sym, subst, arith}
 use Rattle.py_syntax.specs.Statements.{Suite}
 use Rattle.py_binder.specs.Scope.{module_scope}
-use Rattle.py_check_context.specs.Context.{Context, VarSort, var_at}
+use Rattle.py_check_context.specs.Context.{VarSort, var_at}
 use Rattle.py_check_definitions.specs.Definitions.{Headed, headed_functions}
-use Rattle.py_check.specs.Module.{Environment, context_in, function_start, sorts_behind, sorts_behind_all, global_sorts, environment, said, diagnostics}
-use Rattle.py_check_laws.specs.Modules.{has_type}
-use Rattle.py_check_laws.proofs.Kept.{follows_block}
+use Rattle.py_check.specs.Module.{context_in, function_start, body_after, global_sorts, environment, said, diagnostics}
+use Rattle.py_check.proofs.Kept.{follows_block}
 use Rattle.py_check_laws.proofs.Modules.{nothing_placed}
 use Rattle.py_check_laws.proofs.Varied.{set_by, global_has, top_size}
 
@@ -31,19 +30,15 @@ same_row (x ∷ xs) (y ∷ ys) q h =
     ap₂ (λ (v : VarSort) (l : List VarSort). v ∷ l) (h zero (first_less (length xs)))
     (same_row xs ys (one_less (length ys) (length xs) q) (λ i g. h (suc i) (next_less i (length xs) g)))
 
-module _ (e : Environment) (sorts : List VarSort) (all : (i : ℕ) → i < length sorts → has_type (var_at sorts i) ≡ true) where
-  one_lasts : (f : Headed) → sorts_behind e sorts f ≡ sorts
-  one_lasts f =
-      let C = context_in e f.inside in
-      let k = (follows_block C (function_start C e.variables sorts f) f.tree.body).globals in
-      same_row sorts (sorts_behind e sorts f) k.size (λ i g. k.stays i (set_by (var_at sorts i) (all i g)))
+pub body_lasts : (m : Suite) → said m ≡ [] → (f : Headed)
+    → (body_after (context_in (environment m) f.inside) (environment m).variables (global_sorts (environment m) (module_scope m) (headed_functions m) m) f).types.globals ≡ global_sorts (environment m) (module_scope m) (headed_functions m) m
+body_lasts m nothing f =
+    let e = environment m in
+    let sorts = global_sorts e (module_scope m) (headed_functions m) m in
+    let k = (follows_block (context_in e f.inside) (function_start (context_in e f.inside) e.variables sorts f) f.tree.body).globals in
+    same_row sorts (body_after (context_in e f.inside) e.variables sorts f).types.globals k.size
+    (λ i g. k.stays i (set_by (var_at sorts i) (global_has m nothing i (subst (λ n. i < n) (top_size m nothing) g))))
 
-  all_last : (fs : List Headed) → sorts_behind_all e sorts fs ≡ sorts
-  all_last [] = refl
-  all_last (f ∷ fs) = ap (λ (l : List VarSort). sorts_behind_all e l fs) (one_lasts f) ∙ all_last fs
-
-pub quiet_lasts : (m : Suite) → diagnostics m ≡ [] → sorts_behind_all (environment m) (global_sorts (environment m) (module_scope m) (headed_functions m) m) (headed_functions m) ≡ global_sorts (environment m) (module_scope m) (headed_functions m) m
-quiet_lasts m h =
-    let nothing : said m ≡ [] = nothing_placed (said m) h in
-    all_last (environment m) (global_sorts (environment m) (module_scope m) (headed_functions m) m)
-    (λ i g. global_has m nothing i (subst (λ n. i < n) (top_size m nothing) g)) (headed_functions m)
+pub quiet_lasts : (m : Suite) → diagnostics m ≡ [] → (f : Headed)
+    → (body_after (context_in (environment m) f.inside) (environment m).variables (global_sorts (environment m) (module_scope m) (headed_functions m) m) f).types.globals ≡ global_sorts (environment m) (module_scope m) (headed_functions m) m
+quiet_lasts m h f = body_lasts m (nothing_placed (said m) h) f

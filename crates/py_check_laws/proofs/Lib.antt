@@ -1,5 +1,4 @@
 mod Given
-mod Kept
 mod Assigned
 mod KnownParts
 mod Faultless
@@ -24,15 +23,23 @@ mod Sights
 mod NameRows
 mod Meant
 mod Marks
+mod Plain
 mod Signed
 mod Modules
 mod Fixed
+mod Roles
 mod Owned
+mod Bindings
+mod Others
 mod Varied
 mod Lasting
 mod Marked
 mod Inner
 mod Described
+mod Firsts
+mod RightRules
+mod Formless
+mod FormlessModules
 mod Differ
 mod Formed
 pub mod Complete

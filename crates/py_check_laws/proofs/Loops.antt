@@ -25,7 +25,7 @@ use Rattle.py_check_flow.specs.Bindings.{name_in}
 use Rattle.py_check_messages.specs.Seen.{both, rule}
 use Rattle.py_check_values.specs.Assignments.{binding_fault, first_refused, first_itemless, items_for}
 use Rattle.py_check_places.specs.Places.{Known, entering, bind_name, bind_names}
-use Rattle.py_check_places.specs.Shapes.{is_item, is_row, is_flat, leaves, target_names}
+use Rattle.py_check_places.specs.Shapes.{is_row, is_flat, leaves, target_names}
 use Rattle.py_check_targets.specs.Targets.{Aim, held, first, barred, unwritten, misplaced, slot_of, target_of, targets_of, is_name_aim, value_aim, item_aim}
 use Rattle.py_check_places.specs.Shapes.{bind_target}
 use Rattle.py_check_targets.specs.Targets.{target_aims}
@@ -33,16 +33,17 @@ use Rattle.py_check_loops.specs.Loops.{Course, numbers, value, items_of, course_
 use Rattle.py_check_loops.specs.Heads.{some_items, for_head, in_for}
 use Rattle.py_check_expressions_laws.specs.WellTyped as law
 use Rattle.py_check_expressions_laws.specs.WellTyped.{Describes, Within}
+use Rattle.py_check_laws.specs.Variables.{sort_in}
 use Rattle.py_check_laws.specs.WellTyped.{IsScope}
 use Rattle.py_check_laws.proofs.Given.{some_is, made_given, both_given, rule_given}
-use Rattle.py_check_laws.proofs.Kept.{Follows, follows_itself, is_open}
+use Rattle.py_check.proofs.Kept.{Follows, follows_itself, is_open}
 use Rattle.py_check_laws.proofs.Assigned.{leaves_one, single_bound, row_bound, aims_length, items_are, BoundTo, Headed, head_is}
 use Rattle.py_check_laws.proofs.Whole.{bound_same}
 use Rattle.py_check_laws.proofs.Names.{within_kept}
 use Rattle.py_check_laws.proofs.Aims.{AimAt, beyond, AimsOf, aims_are, Held, held_local, held_global, held_item, aim_held, aim_first, first_name, Aimed, aimed_local, aimed_global, aimed_item, held_aimed, first_aimed, aimed_bound}
 use Rattle.py_check_laws.proofs.Values.{scene, fault_fits, third}
 use Rattle.py_check_laws.proofs.Courses.{CourseStands, course_stands, item_type}
-use Rattle.py_check_laws.proofs.Targets.{not_true, is_named, given_start, TargetStands, held_stands, variable_stands, sort_in, first_open, RowStands, rows}
+use Rattle.py_check_laws.proofs.Targets.{not_true, is_named, given_start, TargetStands, held_stands, variable_stands, first_open, RowStands, rows}
 use Rattle.py_check_laws.proofs.Bound.{single, first_type_there, only_valued, not_single, single_aim_of, filled_targets, parts_there}
 
 name_is_written : (e : ExprTree) (x : List ℕ) → name_in e ≡ Some x → law.is_written e ≡ true

@@ -17,7 +17,7 @@ use Rattle.py_check_context.specs.declared.scope.Meaning.{Meaning}
 use Rattle.py_check_context.specs.declared.scope.Meaning.TheVariants as meaning
 use Rattle.py_check_context.specs.declared.scope.Imported.TheVariants as imported
 use Rattle.py_check_context.specs.declared.scope.Builtin.TheVariants as builtin
-use Rattle.py_check_messages.specs.Seen.{Seen, Message, is, silent, fails, made}
+use Rattle.py_check_messages.specs.Seen.{Seen, Message, is, silent, made}
 use Rattle.py_check_messages.specs.Rows.{row_then}
 use Rattle.py_check_messages.specs.Messages as message
 use Rattle.py_check_annotations.specs.declared.names.Former.{Former}

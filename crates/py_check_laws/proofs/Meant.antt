@@ -25,9 +25,10 @@ use Rattle.py_check_names.specs.Builtins.{plain_meanings, named_builtins, except
 use Rattle.py_check_names.specs.Outline.{may_import, may_import_all, imported_as, said_by, said_from, held_by, suite_definitions}
 use Rattle.py_check_names.specs.Meanings.{is_own, names_of, variables, own_names, number, by_role, meaning_in, said_in}
 use Rattle.py_typed.proofs.FitLemmas.{and_left, and_right}
-use Rattle.py_check_expressions_laws.proofs.Types.{clash}
 use Rattle.py_check_laws.proofs.Sights.{roles_given, suite_gives}
-use Rattle.py_check_laws.proofs.NameRows.{same_text, filter_keeps, sights_have, sights_differ, kind_names, place_of}
+use Rattle.py_check_laws.proofs.Roles as known
+use Rattle.py_check_laws.proofs.Roles.{found_all}
+use Rattle.py_check_laws.proofs.NameRows.{filter_keeps, sights_have, sights_differ, kind_names, place_of}
 
 -- ---- kinds of meanings
 
@@ -71,14 +72,6 @@ built_heard n meaning.Unknown h = refl
 built_heard n _ h = absurd (cc)
 
 -- ---- imports and builtins
-
-found_all : {A : Type 0} (p : A → Bool) (test : List ℕ → Bool) (l : List (List ℕ × A)) → list_all (λ (x : List ℕ × A). p x.1) l ≡ true → (a : A) → lookup test l ≡ Some a → p a ≡ true
-found_all p test [] h a e = absurd (cc)
-found_all {A = A} p test (x ∷ l) h a e = by (test x.0) e (found_all p test l (and_right (p x.1) (list_all (λ (x : List ℕ × A). p x.1) l) h) a)
-  where
-    by : (b : Bool) → cond b (Some x.1) (lookup test l) ≡ Some a → (lookup test l ≡ Some a → p a ≡ true) → p a ≡ true
-    by true q next = subst (λ z. p z ≡ true) (same_Some x.1 a q) (and_left (p x.1) (list_all (λ (x : List ℕ × A). p x.1) l) h)
-    by false q next = next q
 
 import_given : (n : ℕ) (from name : List ℕ) (m : Meaning) → import_meaning from name ≡ Some m → is_given n m ≡ true
 import_given n from name m h = by (bytes_eq from (codes "typing")) (bytes_eq from (codes "mypy_extensions")) (bytes_eq from (codes "__future__")) h
@@ -273,12 +266,6 @@ module _ (m : Suite) (n : ℕ) (right : list_all is_right (suite_definitions m) 
       zero_first : (a b : ℕ) → a ≡ b → 0 + a ≡ b
       zero_first a b h = omega arith
 
-  role_global : (x : List ℕ) (b : Bool) (o : Option Role) (c : Bool) → lookup (bytes_eq x) (all_there said_there (module_sights m)) ≡ o → contains (all_there bound_there (module_sights m)) x ≡ c → is_variable (if b then role.Builtin else said_or_variable o c) ≡ true → contains (all_there bound_there (module_sights m)) x ≡ true
-  role_global x true o c q p h = absurd (cc)
-  role_global x false (Some r) c q p h = clash (is_variable r) h (pairs_found n x (all_there said_there (module_sights m)) (said_from 0 (suite_definitions m)) r module_pairs q).other
-  role_global x false None true q p h = p
-  role_global x false None false q p h = absurd (cc)
-
   role_said : (x : List ℕ) (b : Bool) (o : Option Role) (c : Bool) → lookup (bytes_eq x) (all_there said_there (module_sights m)) ≡ o → is_said (if b then role.Builtin else said_or_variable o c) ≡ true → (t : Meaning) × (said_in m x ≡ Some t) × (is_given n t ≡ true)
   role_said x true o c q h = absurd (cc)
   role_said x false (Some r) c q h = let f = pairs_found n x (all_there said_there (module_sights m)) (said_from 0 (suite_definitions m)) r module_pairs q in (f.means, f.found, f.given)
@@ -308,14 +295,10 @@ module _ (m : Suite) (n : ℕ) (right : list_all is_right (suite_definitions m) 
     globals = λ x h.
         among_kind is_variable (module_role m) (all_there seen_there (module_sights m)) x
         (sights_have (all_there seen_there (module_sights m)) x
-        ∙ bound_seen (module_sights m) x (role_global x (is_builtin x) (lookup (bytes_eq x) (all_there said_there (module_sights m))) (contains (all_there bound_there (module_sights m)) x) refl refl h)) h;
+        ∙ bound_seen (module_sights m) x (known.variable_bound m x h)) h;
     given = λ x h. role_said x (is_builtin x) (lookup (bytes_eq x) (all_there said_there (module_sights m))) (contains (all_there bound_there (module_sights m)) x) refl h;
     built = λ x h. role_built x (is_builtin x) (lookup (bytes_eq x) (all_there said_there (module_sights m))) (contains (all_there bound_there (module_sights m)) x) refl refl h;
   }
-
-  -- a variable of the module is bound in it
-  pub module_bound : (x : List ℕ) → is_variable (module_role m x) ≡ true → contains (all_there bound_there (module_sights m)) x ≡ true
-  module_bound x h = role_global x (is_builtin x) (lookup (bytes_eq x) (all_there said_there (module_sights m))) (contains (all_there bound_there (module_sights m)) x) refl refl h
 
   role_own : (x : List ℕ) (b : Bool) (o : Option Role) (c : Bool) → lookup (bytes_eq x) (all_there said_there (module_sights m)) ≡ o → is_own (if b then role.Builtin else said_or_variable o c) ≡ false
   role_own x true o c q = refl
@@ -390,21 +373,11 @@ module _ (said : List ℕ → Option Meaning) (outer : List (List ℕ)) (n : ℕ
     abbrev meant : List ℕ → Meaning
     meant = meaning_in said outer inside
 
-    role_found : (ns : List (List ℕ)) (x : List ℕ) (b : Bool) → contains ns x ≡ b → lookup (bytes_eq x) (map (λ (p : List ℕ × Role). (p.0, by_role said outer own p.0 p.1)) (map (λ (y : List ℕ). (y, roles y)) ns)) ≡ cond b (Some (by_role said outer own x (roles x))) None
-    role_found [] x true h = absurd (cc)
-    role_found [] x false h = refl
-    role_found (y ∷ ns) x b h = by (bytes_eq x y) refl h (role_found ns x b)
-      where
-        by : (c : Bool) → bytes_eq x y ≡ c → (c || contains ns x) ≡ b → (contains ns x ≡ b → lookup (bytes_eq x) (map (λ (p : List ℕ × Role). (p.0, by_role said outer own p.0 p.1)) (map (λ (y : List ℕ). (y, roles y)) ns)) ≡ cond b (Some (by_role said outer own x (roles x))) None)
-            → cond c (Some (by_role said outer own y (roles y))) (lookup (bytes_eq x) (map (λ (p : List ℕ × Role). (p.0, by_role said outer own p.0 p.1)) (map (λ (y : List ℕ). (y, roles y)) ns))) ≡ cond b (Some (by_role said outer own x (roles x))) None
-        by true q g next = ap (λ z. Some (by_role said outer own z (roles z))) (sym (same_text x y q)) ∙ ap (λ (z : Bool). cond z (Some (by_role said outer own x (roles x))) None) g
-        by false q g next = next g
-
     pub seen_means : (x : List ℕ) → contains (first_sights seen) x ≡ true → meant x ≡ by_role said outer own x (roles x)
-    seen_means x h = ap (λ o. unwrap_or o meaning.Unknown) (role_found (first_sights seen) x true h)
+    seen_means x h = known.seen_means said outer roles seen x h
 
     unseen_means : (x : List ℕ) → contains (first_sights seen) x ≡ false → meant x ≡ meaning.Unknown
-    unseen_means x h = ap (λ o. unwrap_or o meaning.Unknown) (role_found (first_sights seen) x false h)
+    unseen_means x h = known.unseen_means said outer roles seen x h
 
     said_is : (x : List ℕ) → is_said (roles x) ≡ true → is_given n (unwrap_or (said x) meaning.Untyped) ≡ true
     said_is x h = let r = fine.given x h in ap (λ o. is_given n (unwrap_or o meaning.Untyped)) r.1 ∙ r.2

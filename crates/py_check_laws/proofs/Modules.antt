@@ -26,9 +26,9 @@ use Rattle.py_check_names.specs.Meanings.{variables, own_names, meaning_in, said
 use Rattle.py_check_signatures.specs.Headers.{header, header_said, signature_of}
 use Rattle.py_check_values.specs.Returns as ret
 use Rattle.py_check_places.specs.Places.{Known}
-use Rattle.py_check_definitions.specs.Definitions.{Headed, headed, definitions_said, inner_definitions_said, headed_functions, signatures, headers_said}
+use Rattle.py_check_definitions.specs.Definitions.{Headed, headed, inner_definitions_said, refusal, headed_functions, signatures}
 use Rattle.py_check_definitions.specs.Starts.{given_sort, start_sort, or_param, param_sort, own_sort}
-use Rattle.py_check.specs.Module.{Environment, context_in, module_start, own_statements, return_of, function_start, body, body_after, sorts_behind, bodies_said, global_sorts, statements_said, environment, said, diagnostics}
+use Rattle.py_check.specs.Module.{Environment, context_in, module_start, own_statements, walk_said, return_of, function_start, body, body_after, bodies_said, global_sorts, environment, walked, said, diagnostics}
 use Rattle.py_check_definitions.proofs.HeldLemmas.{functions_defined}
 use Rattle.py_check_expressions_laws.specs.Laws as law
 use Rattle.py_check_expressions_laws.specs.Laws.{is_voiceless}
@@ -42,6 +42,7 @@ use Rattle.py_check_laws.proofs.KnownMarks.{suite_known}
 use Rattle.py_check_laws.proofs.Faultless.{module_quiet, functions_quiet, body_quiet, sights_known}
 use Rattle.py_check_laws.proofs.Marks.{start_typed, suite_marks}
 use Rattle.py_check_laws.proofs.Meant.{is_heard, is_right, Fine, module_fine, function_fine, meant_heard, means_known, bound_known, own_known}
+use Rattle.py_check_laws.proofs.Plain.{all_plain_said, IsWalked, walk_quiet, none_refused}
 use Rattle.py_check_laws.proofs.Signed.{AllQuiet, all_right, all_quiet, HasTypes, signed, AllSigned, all_signed, signatures_there, voiced, heard_typed}
 
 -- ---- in order
@@ -108,7 +109,6 @@ module _ (e : Environment) (sorts : List VarSort) (f : Headed) where
   pub record BodyTyped : Type 0 where
     pub typed : is_some (body C e.variables sorts f).got ≡ true
     pub locals : (i : ℕ) → law.is_untyped (var_at (body_after C e.variables sorts f).types.locals i) ≡ false
-    pub behind : (i : ℕ) → law.is_untyped (var_at (sorts_behind e sorts f) i) ≡ false
 
   pub body_typed : Voiced C → ((x : List ℕ) → is_untyped (C.meaning x) ≡ false) → AreKnown C.meaning (body_sights f.tree) → HasTypes f.header → ((i : ℕ) → law.is_untyped (var_at sorts i) ≡ false) → (body C e.variables sorts f).said ≡ [] → BodyTyped
   body_typed names all known types before h =
@@ -120,7 +120,7 @@ module _ (e : Environment) (sorts : List VarSort) (f : Headed) where
       let j = judged f.header.ret types.ret in
       let g = quiet_got (body C e.variables sorts f) (loud_block C names (return_of f.header.ret) j InFunction false start typed f.tree.body known) h in
       let after = quiet_block C names (return_of f.header.ret) j InFunction false start typed f.tree.body known h in
-      record { typed = some_is (body C e.variables sorts f).got g.0 g.1; locals = after.locals; behind = after.globals }
+      record { typed = some_is (body C e.variables sorts f).got g.0 g.1; locals = after.locals }
 
 module _ (e : Environment) (roles : Roles) (meanings : List ℕ → Meaning) (all : (x : List ℕ) → is_untyped (meanings x) ≡ false) (names : (f : FuncTree) → Voiced (context_in e (headed roles meanings f).inside)) (inner : (f : FuncTree) (x : List ℕ) → is_untyped ((context_in e (headed roles meanings f).inside).meaning x) ≡ false) (known : (f : FuncTree) → function_faults roles f ≡ [] → AreKnown (context_in e (headed roles meanings f).inside).meaning (body_sights f)) where
   bodies_typed : (sorts : List VarSort) → ((i : ℕ) → law.is_untyped (var_at sorts i) ≡ false) → (fs : List FuncTree) → AllSigned meanings all roles fs → bodies_said e sorts (map (headed roles meanings) fs) ≡ [] → are_typed e sorts (map (headed roles meanings) fs) ≡ true
@@ -128,10 +128,10 @@ module _ (e : Environment) (roles : Roles) (meanings : List ℕ → Meaning) (al
   bodies_typed sorts before (f ∷ fs) a h =
       let hd = headed roles meanings f in
       let one = body (context_in e hd.inside) e.variables sorts hd in
-      let more = bodies_said e (sorts_behind e sorts hd) (map (headed roles meanings) fs) in
+      let more = bodies_said e sorts (map (headed roles meanings) fs) in
       let b = body_typed e sorts hd (names f) (inner f) (known f a.here.names) a.here.types before (none_before one.said more h) in
-      three (is_some (signature_of hd.header)) (is_some hd.header.ret) (is_some one.got) (are_typed e (sorts_behind e sorts hd) (map (headed roles meanings) fs)) (signed hd.header a.here.types) a.here.types.ret b.typed
-      (bodies_typed (sorts_behind e sorts hd) b.behind fs a.rest (none_behind one.said more h))
+      three (is_some (signature_of hd.header)) (is_some hd.header.ret) (is_some one.got) (are_typed e sorts (map (headed roles meanings) fs)) (signed hd.header a.here.types) a.here.types.ret b.typed
+      (bodies_typed sorts before fs a.rest (none_behind one.said more h))
 
 -- ---- the whole
 
@@ -142,27 +142,48 @@ module _ (m : Suite) (nothing : said m ≡ []) where
   abbrev meant : List ℕ → Meaning
   meant = module_meaning m
 
-  headers : headers_said m ≡ []
-  headers = none_before (headers_said m) (statements_said e (module_scope m) (headed_functions m) m) (none_before (headers_said m ++ statements_said e (module_scope m) (headed_functions m) m) (faults m) nothing)
+  abbrev pub top : Context
+  top = context_in e (module_scope m)
 
-  pub statements : statements_said e (module_scope m) (headed_functions m) m ≡ []
-  statements = none_behind (headers_said m) (statements_said e (module_scope m) (headed_functions m) m) (none_before (headers_said m ++ statements_said e (module_scope m) (headed_functions m) m) (faults m) nothing)
+  abbrev walk : List Diag
+  walk = walk_said (module_role m) top (module_start top e.variables m) [] m
+
+  abbrev bodies : List Diag
+  bodies = bodies_said e (global_sorts e (module_scope m) (headed_functions m) m) (headed_functions m)
+
+  abbrev inner : List Diag
+  inner = flat_map inner_definitions_said (functions m)
+
+  silent : (walked m ≡ []) × (flat_map refusal (suite_definitions m) ≡ [])
+  silent = none_refused (walked m) (suite_definitions m) nothing
+
+  told : (walk ++ bodies) ++ inner ≡ []
+  told = none_before ((walk ++ bodies) ++ inner) (faults m) silent.0
+
+  statements : walk ++ bodies ≡ []
+  statements = none_before (walk ++ bodies) inner told
+
+  pub bodies_quiet : bodies ≡ []
+  bodies_quiet = none_behind walk bodies statements
+
+  pub inner_quiet : inner ≡ []
+  inner_quiet = none_behind (walk ++ bodies) inner told
 
   -- nothing is wrong with names
   faultless : faults m ≡ []
-  faultless = none_behind (headers_said m ++ statements_said e (module_scope m) (headed_functions m) m) (faults m) nothing
+  faultless = none_behind ((walk ++ bodies) ++ inner) (faults m) silent.0
 
-  abbrev pub defined : List Diag
-  defined = definitions_said (module_role m) meant [] (suite_definitions m)
+  quiet_walk : IsWalked (module_role m) top [] (module_start top e.variables m) m
+  quiet_walk = walk_quiet (module_role m) top (module_start top e.variables m) [] m silent.1 (none_before walk bodies statements)
 
-  pub definitions : defined ≡ []
-  definitions = none_behind (flat_map (header_said meant) (functions m)) defined (none_before (flat_map (header_said meant) (functions m) ++ defined) (flat_map inner_definitions_said (functions m)) headers)
+  pub own_quiet : (own_statements top e.variables m).said ≡ []
+  own_quiet = quiet_walk.block
+
+  pub definitions : all_plain_said (module_role m) meant [] (suite_definitions m) ≡ []
+  definitions = quiet_walk.plain.own
 
   pub annotations_quiet : flat_map (header_said meant) (functions m) ≡ []
-  annotations_quiet = none_before (flat_map (header_said meant) (functions m)) defined (none_before (flat_map (header_said meant) (functions m) ++ defined) (flat_map inner_definitions_said (functions m)) headers)
-
-  pub inner_quiet : flat_map inner_definitions_said (functions m) ≡ []
-  inner_quiet = none_behind (flat_map (header_said meant) (functions m) ++ defined) (flat_map inner_definitions_said (functions m)) headers
+  annotations_quiet = ap (flat_map (header_said meant)) (functions_defined m) ∙ quiet_walk.plain.headers
 
   pub right : list_all is_right (suite_definitions m) ≡ true
   right = all_right (module_role m) meant [] (suite_definitions m) definitions
@@ -211,7 +232,7 @@ module _ (m : Suite) (nothing : said m ≡ []) where
   all_functions =
       all_signed meant typed_names (module_role m) (functions m) (subst (AllQuiet (module_role m) meant) (sym (functions_defined m)) (all_quiet (module_role m) meant [] (suite_definitions m) definitions))
       functions_known (functions_quiet (module_role m) (module_role m) (module_sights m) faultless)
-      (none_before (flat_map (header_said meant) (functions m)) defined (none_before (flat_map (header_said meant) (functions m) ++ defined) (flat_map inner_definitions_said (functions m)) headers))
+      annotations_quiet
 
   pub signs : list_all (λ o. is_some o) (signatures m) ≡ true
   signs = signatures_there meant typed_names (module_role m) (functions m) all_functions
@@ -223,14 +244,8 @@ module _ (m : Suite) (nothing : said m ≡ []) where
   inner_heard f x =
       meant_heard (said_in m) (variables (module_scope m)) n (function_role (module_role m) f) (function_fine (said_in m) (variables (module_scope m)) n (module_role m) fine f) (param_names f ++ all_there seen_there (body_sights f)) x
 
-  abbrev pub top : Context
-  top = context_in e (module_scope m)
-
   pub top_voiced : Voiced top
   top_voiced x = voiced (signatures m) signs (meant x) (heard x)
-
-  pub own_quiet : (own_statements top e.variables m).said ≡ []
-  own_quiet = none_before (own_statements top e.variables m).said (bodies_said e (global_sorts e (module_scope m) (headed_functions m) m) (headed_functions m)) statements
 
   pub start_all : AllTyped (module_start top e.variables m).types
   start_all = record {
@@ -246,7 +261,7 @@ module _ (m : Suite) (nothing : said m ≡ []) where
       let b = quiet_block top top_voiced ret.outside refl InModule false k start_all m top_known own_quiet in
       and_from (is_some (own_statements top e.variables m).got) (are_typed e (global_sorts e (module_scope m) (headed_functions m) m) (headed_functions m)) (some_is (own_statements top e.variables m).got g.0 g.1)
       (bodies_typed e (module_role m) meant typed_names (λ f x. voiced (signatures m) signs ((inside f).meaning x) (inner_heard f x)) (λ f x. heard_typed n ((inside f).meaning x) (inner_heard f x)) inner_known (global_sorts e (module_scope m) (headed_functions m) m) b.globals (functions m) all_functions
-      (none_behind (own_statements top e.variables m).said (bodies_said e (global_sorts e (module_scope m) (headed_functions m) m) (headed_functions m)) statements))
+      bodies_quiet)
 
 pub quiet_module : (m : Suite) → diagnostics m ≡ [] → is_typed_whole m ≡ true
 quiet_module m h = typed_whole m (nothing_placed (said m) h)

@@ -1,6 +1,5 @@
 -- The variables of a scope: what they mean, and that each of them is a parameter or is bound.
 use Rattle.std.proofs.Common.{◌≡◌, ℕ, zero, suc, ◌<◌, Bool, true, false, ◌&&◌, ◌||◌, cond, List, [], ◌∷◌, length, map, filter, slice_get, Option, Some, refl, ap, sym, ◌∙◌, subst, if◌then◌else◌, lt-ltb, arith, ◌⊎◌, inl, inr}
-use Rattle.std.proofs.lemmas.Bool.{or_cases}
 use Rattle.std.proofs.lemmas.Option.{same_Some, slice_get_within}
 use Rattle.std.specs.List.{zip}
 use Rattle.std.specs.Map.{lookup}
@@ -15,16 +14,12 @@ use Rattle.py_typed.specs.WellTyped.{all_differ}
 use Rattle.py_typed.specs.Classes.{ClassEntry, Signature}
 use Rattle.py_check_context.specs.declared.scope.Meaning.{Meaning}
 use Rattle.py_check_context.specs.declared.scope.Meaning.TheVariants as meaning
-use Rattle.py_check_context.specs.Context.{Context, VarSorts}
+use Rattle.py_check_context.specs.Context.{VarSorts}
 use Rattle.py_check_calls.specs.Callees as callee
-use Rattle.py_check_flow.specs.Bindings.{Binding}
 use Rattle.py_check_names.specs.Meanings.{is_own, own_names, number, by_role, meaning_in}
 use Rattle.py_check_expressions_laws.proofs.Types.{clash}
 use Rattle.py_check_laws.specs.WellTyped.{IsScope}
-use Rattle.py_check_laws.proofs.Kept.{is_open}
-use Rattle.py_check_laws.proofs.Closed.{AllClosed}
-use Rattle.py_check_laws.proofs.Sights.{names_of}
-use Rattle.py_check_laws.proofs.NameRows.{same_text, filter_keeps, filter_drops, sights_differ, differ_filter, number_at, at_place}
+use Rattle.py_check_laws.proofs.NameRows.{filter_keeps, filter_drops, sights_differ, differ_filter, number_at, at_place}
 use Rattle.py_check_laws.proofs.Meant.{Fine, scope_names, seen_means, local_place, global_place}
 
 -- ---- rows
@@ -40,15 +35,6 @@ filtered p ys x h = by (p x) refl
     by : (b : Bool) → p x ≡ b → (p x ≡ true) × (contains ys x ≡ true)
     by true q = (q, sym (filter_keeps p ys x q) ∙ h)
     by false q = clash (contains (filter p ys) x) h (filter_drops p ys x q)
-
--- a name that is bound is not open where all bindings are made
-pub bound_closed : (C : Context) (V : VarSorts) (bs : List Binding) → AllClosed C V bs → (x : List ℕ) → contains (names_of bs) x ≡ true → is_open V (C.meaning x) ≡ false
-bound_closed C V [] a x h = absurd (cc)
-bound_closed C V (b ∷ bs) a x h = by (or_cases (bytes_eq x b.name) (contains (names_of bs) x) h) (bound_closed C V bs a.rest x)
-  where
-    by : (bytes_eq x b.name ≡ true) ⊎ (contains (names_of bs) x ≡ true) → (contains (names_of bs) x ≡ true → is_open V (C.meaning x) ≡ false) → is_open V (C.meaning x) ≡ false
-    by (inl q) next = ap (λ z. is_open V (C.meaning z)) (same_text x b.name q) ∙ a.here
-    by (inr q) next = next q
 
 -- ---- names of a function's own
 

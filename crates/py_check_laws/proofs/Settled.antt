@@ -44,7 +44,7 @@ use Rattle.py_check_expressions_laws.proofs.Types.{clash}
 use Rattle.py_check_expressions_laws.proofs.Inside.{either}
 use Rattle.py_check_laws.specs.WellTyped.{is_filled, maybe_written, are_targets, is_stmt_written, is_act_written, is_suite_written, are_arms_written, IsScope}
 use Rattle.py_check_laws.proofs.Given.{some_is, made_given, both_given, rule_given, row_given}
-use Rattle.py_check_laws.proofs.Kept.{fix_cases, Follows, follows_on, follows_target, follows_stmt, follows_block, follows_arms, is_open, bind_set}
+use Rattle.py_check.proofs.Kept.{fix_cases, Follows, follows_on, follows_target, follows_stmt, follows_block, follows_arms, is_open, bind_set}
 use Rattle.py_check_laws.proofs.Assigned.{single_bound, row_bound, name_no_row, aims_length, items_are, RowBound, BoundTo, assigned_is, head_is}
 use Rattle.py_check_laws.proofs.Whole.{definition_after, bound_same}
 use Rattle.py_check_laws.proofs.Aims.{AimAt, AimsOf, aims_are}

@@ -25,7 +25,7 @@ module _ {A : Type 0} (there : Use → List A) (none : (x : List ℕ) → there 
   abbrev found : List Sight → List A
   found = all_there there
 
-  found_two : (a b : List Sight) → found (a ++ b) ≡ found a ++ found b
+  pub found_two : (a b : List Sight) → found (a ++ b) ≡ found a ++ found b
   found_two a b = flat_map-append (λ (x : Sight). there x.does) a b
 
   none_two : (a b : List Sight) → found a ≡ [] → found b ≡ [] → found (a ++ b) ≡ []
@@ -46,7 +46,7 @@ module _ {A : Type 0} (there : Use → List A) (none : (x : List ℕ) → there 
   text_none Annotation text span = maybe_none (name_in_quotes text) span
 
   mutual
-    reads_none : (m : Manner) (a : ExprTree) → found (reads m a) ≡ []
+    pub reads_none : (m : Manner) (a : ExprTree) → found (reads m a) ≡ []
     reads_none m (e.at node span) = node_none m node span
 
     node_none : (m : Manner) (node : ExprNode) (span : Span) → found (node_reads m node span) ≡ []
@@ -88,15 +88,15 @@ module _ {A : Type 0} (there : Use → List A) (none : (x : List ℕ) → there 
     arguments_none m (e.argument_then value more) = none_two (reads m value) (arguments_reads m more) (reads_none m value) (arguments_none m more)
     arguments_none m (e.keyed_then key value more) = none_two (reads m value) (arguments_reads m more) (reads_none m value) (arguments_none m more)
 
-  maybe_reads_none : (m : Manner) (a : Option ExprTree) → found (maybe_reads m a) ≡ []
+  pub maybe_reads_none : (m : Manner) (a : Option ExprTree) → found (maybe_reads m a) ≡ []
   maybe_reads_none m None = refl
   maybe_reads_none m (Some a) = reads_none m a
 
-  list_none : (m : Manner) (items : List ExprTree) → found (list_reads m items) ≡ []
+  pub list_none : (m : Manner) (items : List ExprTree) → found (list_reads m items) ≡ []
   list_none m [] = refl
   list_none m (a ∷ more) = none_two (reads m a) (list_reads m more) (reads_none m a) (list_none m more)
 
-  params_none : (params : List (List ℕ × Option ExprTree)) → found (params_reads params) ≡ []
+  pub params_none : (params : List (List ℕ × Option ExprTree)) → found (params_reads params) ≡ []
   params_none [] = refl
   params_none (p ∷ ps) = none_two (maybe_reads Annotation p.1) (params_reads ps) (maybe_reads_none Annotation p.1) (params_none ps)
 
@@ -136,7 +136,7 @@ module _ {A : Type 0} (there : Use → List A) (none : (x : List ℕ) → there 
     in_two a b xs ys p q = found_two a b ∙ ap₂ (λ (x y : List A). x ++ y) p q ∙ sym (bindings_two xs ys)
 
     mutual
-      target_binds : (a : ExprTree) → found (target_sights a) ≡ of_bindings (target_bindings a)
+      pub target_binds : (a : ExprTree) → found (target_sights a) ≡ of_bindings (target_bindings a)
       target_binds (e.at node span) = target_node node span
 
       target_node : (node : ExprNode) (span : Span) → found (target_node_sights node span) ≡ of_bindings (node_bindings node)

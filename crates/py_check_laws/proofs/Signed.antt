@@ -10,7 +10,7 @@ use Rattle.py_syntax.specs.Statements as s
 use Rattle.py_syntax.specs.Statements.{StmtTree, Suite, FuncTree}
 use Rattle.py_binder.specs.declared.sight.Manner.TheVariants.{Annotation}
 use Rattle.py_binder.specs.Sights.{maybe_reads, params_reads}
-use Rattle.py_binder.specs.Scope.{Roles, param_names}
+use Rattle.py_binder.specs.Scope.{Roles, param_names, function_scope}
 use Rattle.py_binder.specs.Faults.{function_faults}
 use Rattle.py_typed.specs.Sorts.{Sort}
 use Rattle.py_typed.specs.Classes.{Signature}
@@ -23,8 +23,8 @@ use Rattle.py_check_annotations.specs.Annotations.{annotation, return_annotation
 use Rattle.py_check_annotations.specs.Names.{is_untyped}
 use Rattle.py_check_names.specs.Outline.{held_by, may_import_all}
 use Rattle.py_check_signatures.specs.Headers.{HeaderSorts, has_type, marked, returned, param_types, params_said, params_typed, header, header_said, all_of, signature_of}
-use Rattle.py_check_signatures.specs.Definitions.{own_count, repeated, are_marked, all_marked, body_fault, def_fault, no_marks, told, is_new, is_builtin_name, gives_value}
-use Rattle.py_check_definitions.specs.Definitions.{headed, marks_said, function_said, import_said, names_given, definition_said, definitions_said}
+use Rattle.py_check_signatures.specs.Definitions.{own_count, repeated, are_marked, all_marked, body_fault, def_fault, no_marks, def_said, told, is_new, is_builtin_name, gives_value}
+use Rattle.py_check_definitions.specs.Definitions.{headed, import_said, names_given}
 use Rattle.py_check_expressions_laws.specs.Laws.{is_voiceless}
 use Rattle.py_check_expressions_laws.proofs.Known.{known_left, known_right}
 use Rattle.py_check_expressions_laws.proofs.Loud.{none_before, none_behind}
@@ -33,6 +33,7 @@ use Rattle.py_check_laws.proofs.Whole.{quiet_got}
 use Rattle.py_check_laws.proofs.KnownParts.{AreKnown, annotation_reads}
 use Rattle.py_check_laws.proofs.Annotated.{loud_annotation, loud_return}
 use Rattle.py_check_laws.proofs.Meant.{is_heard, is_right}
+use Rattle.py_check_laws.proofs.Plain.{plain_said, all_plain_said}
 
 -- ---- what is said of definitions
 
@@ -45,15 +46,14 @@ told_none : (span : Span) (o : Option Message) → told span o ≡ [] → o ≡ 
 told_none span None h = refl
 told_none span (Some m) h = absurd (cc)
 
-fault_none : (span : Span) (name : List ℕ) (o : Option Message) (typed : Bool) (marks : List ExprTree) → typed ≡ true → (if typed && no_marks marks then told span o else []) ++ marks_said span name marks ≡ [] → (o ≡ None) × (marks ≡ [])
-fault_none span name o true [] t h = (told_none span o (none_before (told span o) [] h), refl)
-fault_none span name o true (mark ∷ marks) t h = absurd (cc)
-fault_none span name o false marks t h = absurd (cc)
+fault_none : (span : Span) (o : Option Message) (typed : Bool) → typed ≡ true → (if typed && true then told span o else []) ≡ [] → o ≡ None
+fault_none span o true t h = told_none span o h
+fault_none span o false t h = absurd (cc)
 
 module _ (roles : Roles) (meanings : List ℕ → Meaning) where
-  -- nothing is said of a function, whose name is new or not
+  -- nothing is said of a function itself, whose name is new or not
   abbrev pub QuietFunction : FuncTree → Type 0
-  QuietFunction f = (span : Span) × (fresh : Bool) × (function_said span fresh (headed roles meanings f) ≡ [])
+  QuietFunction f = (span : Span) × (fresh : Bool) × (def_said span fresh (own_count (function_scope roles f)) true f (header meanings f) ≡ [])
 
   pub record QuietThen (f : FuncTree) (Rest : Type 0) : Type 0 where
     pub here : QuietFunction f
@@ -67,38 +67,39 @@ module _ (roles : Roles) (meanings : List ℕ → Meaning) where
   quiet_two [] gs p q = q
   quiet_two (f ∷ fs) gs p q = record { here = p.here; rest = quiet_two fs gs p.rest q }
 
-  one_right : (earlier : List (List ℕ)) (x : StmtTree) → definition_said roles meanings earlier x ≡ [] → is_right x ≡ true
+  one_right : (earlier : List (List ℕ)) (x : StmtTree) → plain_said roles meanings earlier x ≡ [] → is_right x ≡ true
   one_right earlier (s.at (s.Def name params ret body marks) span) h = refl
   one_right earlier (s.at (s.ClassDef name bases body marks) span) h = absurd (cc)
   one_right earlier (s.at (s.Import name other) span) h = absurd (cc)
   one_right earlier (s.at (s.From name names) span) h = allowed (may_import_all name names) span h
   one_right earlier _ h = refl
 
-  one_quiet : (earlier : List (List ℕ)) (x : StmtTree) → definition_said roles meanings earlier x ≡ [] → AllQuiet (held_by x)
+  one_quiet : (earlier : List (List ℕ)) (x : StmtTree) → plain_said roles meanings earlier x ≡ [] → AllQuiet (held_by x)
   one_quiet earlier (s.at (s.Def name params ret body marks) span) h = record { here = (span, is_new earlier name, h); rest = tt }
   one_quiet earlier (s.at (s.ClassDef name bases body marks) span) h = absurd (cc)
   one_quiet earlier _ h = tt
 
   -- DEFINITIONS of which nothing is said
-  pub all_right : (earlier : List (List ℕ)) (ds : List StmtTree) → definitions_said roles meanings earlier ds ≡ [] → list_all is_right ds ≡ true
+  pub all_right : (earlier : List (List ℕ)) (ds : List StmtTree) → all_plain_said roles meanings earlier ds ≡ [] → list_all is_right ds ≡ true
   all_right earlier [] h = refl
   all_right earlier (x ∷ ds) h =
-      let rest = definitions_said roles meanings (earlier ++ names_given x) ds in
-      and_from (is_right x) (list_all is_right ds) (one_right earlier x (none_before (definition_said roles meanings earlier x) rest h)) (all_right (earlier ++ names_given x) ds (none_behind (definition_said roles meanings earlier x) rest h))
+      let rest = all_plain_said roles meanings (earlier ++ names_given x) ds in
+      and_from (is_right x) (list_all is_right ds) (one_right earlier x (none_before (plain_said roles meanings earlier x) rest h)) (all_right (earlier ++ names_given x) ds (none_behind (plain_said roles meanings earlier x) rest h))
 
-  pub all_quiet : (earlier : List (List ℕ)) (ds : List StmtTree) → definitions_said roles meanings earlier ds ≡ [] → AllQuiet (flat_map held_by ds)
+  pub all_quiet : (earlier : List (List ℕ)) (ds : List StmtTree) → all_plain_said roles meanings earlier ds ≡ [] → AllQuiet (flat_map held_by ds)
   all_quiet earlier [] h = tt
   all_quiet earlier (x ∷ ds) h =
-      let rest = definitions_said roles meanings (earlier ++ names_given x) ds in
-      quiet_two (held_by x) (flat_map held_by ds) (one_quiet earlier x (none_before (definition_said roles meanings earlier x) rest h)) (all_quiet (earlier ++ names_given x) ds (none_behind (definition_said roles meanings earlier x) rest h))
+      let rest = all_plain_said roles meanings (earlier ++ names_given x) ds in
+      quiet_two (held_by x) (flat_map held_by ds) (one_quiet earlier x (none_before (plain_said roles meanings earlier x) rest h)) (all_quiet (earlier ++ names_given x) ds (none_behind (plain_said roles meanings earlier x) rest h))
 
 -- ---- faults of definitions
 
-fault_parts : (fresh : Bool) (m : Message) (a b c : Option Message) → (if not fresh then Some m else option_or a (option_or b c)) ≡ None → (fresh ≡ true) × (a ≡ None) × (b ≡ None) × (c ≡ None)
-fault_parts false m a b c h = absurd (cc)
-fault_parts true m (Some x) b c h = absurd (cc)
-fault_parts true m None (Some x) c h = absurd (cc)
-fault_parts true m None None c h = (refl, refl, refl, h)
+fault_parts : (fresh plain : Bool) (m n : Message) (a b c : Option Message) → (if not fresh then Some m else (if not plain then Some n else option_or a (option_or b c))) ≡ None → (fresh ≡ true) × (a ≡ None) × (b ≡ None) × (c ≡ None)
+fault_parts false plain m n a b c h = absurd (cc)
+fault_parts true false m n a b c h = absurd (cc)
+fault_parts true true m n (Some x) b c h = absurd (cc)
+fault_parts true true m n None (Some x) c h = absurd (cc)
+fault_parts true true m n None None c h = (refl, refl, refl, h)
 
 body_parts : (marks many loose : Bool) (m n o : Message) → (if not marks then Some m else (if many then Some n else (if loose then Some o else None))) ≡ None → (marks ≡ true) × (many ≡ false) × (loose ≡ false)
 body_parts false many loose m n o h = absurd (cc)
@@ -116,7 +117,7 @@ pub record IsSound (own : ℕ) (f : FuncTree) (ret : Option Sort) : Type 0 where
 
 sound_is : (fresh : Bool) (own : ℕ) (f : FuncTree) (ret : Option Sort) → def_fault fresh own f ret ≡ None → IsSound own f ret
 sound_is fresh own f ret h =
-    let p = fault_parts fresh (Rattle.py_check_messages.specs.Messages.already_defined f.name) (option_map Rattle.py_check_messages.specs.Messages.duplicate_parameter (repeated [] (param_names f)))
+    let p = fault_parts fresh (no_marks f.marks) (Rattle.py_check_messages.specs.Messages.already_defined f.name) (Rattle.py_check_messages.specs.Messages.outside_profile f.name) (option_map Rattle.py_check_messages.specs.Messages.duplicate_parameter (repeated [] (param_names f)))
     (option_map Rattle.py_check_messages.specs.Messages.cannot_assign (Rattle.std.specs.Prelude.find is_builtin_name (param_names f))) (body_fault own f ret) h in
     let q = body_parts (all_marked f) (nat_lt 100 own) (gives_value ret && not (Rattle.py_check_flow.specs.Closed.is_closed f.body)) Rattle.py_check_messages.specs.Messages.missing_annotation (Rattle.py_check_messages.specs.Messages.too_many_names f.name) Rattle.py_check_messages.specs.Messages.missing_return p.3 in
     record { names = p.1; plain = p.2; marks = q.0; few = q.1; ends = q.2 }
@@ -181,20 +182,20 @@ module _ (meanings : List ℕ → Meaning) (all : (x : List ℕ) → is_untyped 
   faultless roles f q k h =
       let ps = params_have f.params (known_left meanings (params_reads f.params) (maybe_reads Annotation f.ret) k) (none_before (params_said meanings f.params) (returned meanings f.ret).said h) in
       let rs = result_typed f.ret (known_right meanings (params_reads f.params) (maybe_reads Annotation f.ret) k) (none_behind (params_said meanings f.params) (returned meanings f.ret).said h) in
-      (fault_none q.0 f.name (def_fault q.1 (own_count (headed roles meanings f).inside) f (header meanings f).ret) (header meanings f).typed f.marks (and_from (params_typed meanings f.params) (has_type f.ret (returned meanings f.ret).got) ps rs) q.2).0
+      fault_none q.0 (def_fault q.1 (own_count (headed roles meanings f).inside) f (header meanings f).ret) (header meanings f).typed (and_from (params_typed meanings f.params) (has_type f.ret (returned meanings f.ret).got) ps rs) q.2
 
   -- its name is new
   pub fresh_function : (roles : Roles) (f : FuncTree) (q : QuietFunction roles meanings f) → AreKnown meanings (annotation_reads f) → header_said meanings f ≡ [] → q.1 ≡ true
   fresh_function roles f q k h =
-      (fault_parts q.1 (Rattle.py_check_messages.specs.Messages.already_defined f.name) (option_map Rattle.py_check_messages.specs.Messages.duplicate_parameter (repeated [] (param_names f)))
+      (fault_parts q.1 (no_marks f.marks) (Rattle.py_check_messages.specs.Messages.already_defined f.name) (Rattle.py_check_messages.specs.Messages.outside_profile f.name) (option_map Rattle.py_check_messages.specs.Messages.duplicate_parameter (repeated [] (param_names f)))
       (option_map Rattle.py_check_messages.specs.Messages.cannot_assign (Rattle.std.specs.Prelude.find is_builtin_name (param_names f))) (body_fault (own_count (headed roles meanings f).inside) f (header meanings f).ret) (faultless roles f q k h)).0
 
   one_signed : (roles : Roles) (f : FuncTree) → QuietFunction roles meanings f → AreKnown meanings (annotation_reads f) → function_faults roles f ≡ [] → header_said meanings f ≡ [] → IsSigned roles f
   one_signed roles f q k n h =
       let ps = params_have f.params (known_left meanings (params_reads f.params) (maybe_reads Annotation f.ret) k) (none_before (params_said meanings f.params) (returned meanings f.ret).said h) in
       let rs = result_typed f.ret (known_right meanings (params_reads f.params) (maybe_reads Annotation f.ret) k) (none_behind (params_said meanings f.params) (returned meanings f.ret).said h) in
-      let g = fault_none q.0 f.name (def_fault q.1 (own_count (headed roles meanings f).inside) f (header meanings f).ret) (header meanings f).typed f.marks (and_from (params_typed meanings f.params) (has_type f.ret (returned meanings f.ret).got) ps rs) q.2 in
-      let d = sound_is q.1 (own_count (headed roles meanings f).inside) f (header meanings f).ret g.0 in
+      let g = fault_none q.0 (def_fault q.1 (own_count (headed roles meanings f).inside) f (header meanings f).ret) (header meanings f).typed (and_from (params_typed meanings f.params) (has_type f.ret (returned meanings f.ret).got) ps rs) q.2 in
+      let d = sound_is q.1 (own_count (headed roles meanings f).inside) f (header meanings f).ret g in
       record {
         sound = d;
         names = n;

@@ -40,7 +40,7 @@ use Rattle.py_check_expressions_laws.proofs.Sound.{sound_typing}
 use Rattle.py_check_expressions_laws.proofs.Telling.{told_typing, truth_tells, within_same}
 use Rattle.py_check_laws.specs.WellTyped.{is_filled, has_test, are_targets, is_stmt_written, is_act_written, is_suite_written, are_arms_written, IsScope, IsResult}
 use Rattle.py_check_laws.proofs.Given.{made_given, both_given, row_given}
-use Rattle.py_check_laws.proofs.Kept.{follows_target, follows_stmt, follows_block, follows_arms}
+use Rattle.py_check.proofs.Kept.{follows_target, follows_stmt, follows_block, follows_arms}
 use Rattle.py_check_laws.proofs.Whole.{definition_after}
 use Rattle.py_check_laws.proofs.Names.{within_without}
 use Rattle.py_check_laws.proofs.Shapes.{locals_two, targets_within, shape_block}

@@ -26,7 +26,6 @@ use Rattle.py_check_context.specs.Context.{Context, VarSort, unset, untyped, has
 use Rattle.py_check_flow.specs.Bindings.{name_in}
 use Rattle.py_check_coercions.specs.Values.{place_of, coerced}
 use Rattle.py_check_calls.specs.Callees.{is_variable}
-use Rattle.py_check_values.specs.Slots.{known}
 use Rattle.py_check_values.specs.Assignments.{first_refused, first_itemless}
 use Rattle.py_check_places.specs.Places.{Known, is_unset, fix, first_type, bind_variable, bind_name, bind_names}
 use Rattle.py_check_targets.specs.Targets.{Aim, held, first, barred, unwritten, misplaced, slot_of, targets_of, is_written, again_fault, parts_fault}
@@ -34,13 +33,14 @@ use Rattle.py_check_expressions_laws.specs.WellTyped as law
 use Rattle.py_check_expressions_laws.specs.WellTyped.{Describes, Within}
 use Rattle.py_check_expressions_laws.proofs.Types.{clash}
 use Rattle.py_check_expressions_laws.proofs.Stands.{parts_of_stands}
+use Rattle.py_check_laws.specs.Variables.{sort_in, is_there}
 use Rattle.py_check_laws.specs.WellTyped.{IsScope}
-use Rattle.py_check_laws.proofs.Kept.{fix_set, fix_open, fix_first, Follows, follows_on, follows_name, follows_names, is_open, bind_set}
+use Rattle.py_check.proofs.Kept.{fix_set, fix_open, fix_first, Follows, follows_on, follows_name, follows_names, is_open, bind_set}
 use Rattle.py_check_laws.proofs.Assigned.{first_none}
 use Rattle.py_check_laws.proofs.Names.{within_kept}
 use Rattle.py_check_laws.proofs.Aims.{beyond, AimsOf, Held, held_local, held_global, held_item, aim_held, First, first_local, first_global, aim_first, first_name, Aimed, held_aimed, first_aimed, aimed_bound, aimed_behind}
 use Rattle.py_check_laws.proofs.Values.{scene, declared_there, part_fits, item_at_place}
-use Rattle.py_check_laws.proofs.Closed.{is_there, scope_there, scope_on, open_follows}
+use Rattle.py_check_laws.proofs.Closed.{scope_there, scope_on, open_follows}
 
 -- ---- names
 
@@ -84,12 +84,6 @@ module _ (m : TypedModule) (locals : List Variable) (init : Option ℕ) where
       by false q = ap (λ (b : Bool). may_be_none (own_sort (if b then v else typed (node.Coerce v) t (place_of v)))) q ∙ p
 
 -- ---- what has been given to names of a row
-
--- the type of a variable
-abbrev pub sort_in : VarSorts → Meaning → VarSort
-sort_in V (meaning.Local i) = var_at V.locals i
-sort_in V (meaning.Global i) = var_at V.globals i
-sort_in V m = unset
 
 abbrev seen_sort : Option Sort → VarSort
 seen_sort None = unset

@@ -22,21 +22,21 @@ use Rattle.py_check_names.specs.Meanings.{is_own, own_names, said_in, module_mea
 use Rattle.py_check_places.specs.Places.{Known, is_unset}
 use Rattle.py_check_statements.specs.Bodies.{block_after}
 use Rattle.py_check_values.specs.Returns as ret
-use Rattle.py_typed.specs.WellTyped.{all_differ}
 use Rattle.py_check_definitions.specs.Definitions.{Headed, headed, headed_functions, signatures}
 use Rattle.py_check_definitions.specs.Starts.{given_sort, start_sort, or_param, own_sort}
-use Rattle.py_check.specs.Module.{Environment, context_in, return_of, function_start, module_start, own_statements, body, body_after, sorts_behind, sorts_behind_all, bodies_said, environment, said, diagnostics}
+use Rattle.py_check.specs.Module.{Environment, context_in, return_of, function_start, module_start, body, body_after, bodies_said, environment, said, diagnostics}
 use Rattle.py_check_expressions_laws.specs.Laws as law
 use Rattle.py_check_expressions_laws.proofs.Loud.{none_before, none_behind}
+use Rattle.py_check_laws.specs.Variables.{is_try_in_suite}
 use Rattle.py_check_laws.specs.WellTyped.{IsScope}
 use Rattle.py_check_laws.specs.Modules.{has_type, all_have_types, are_own_typed, are_variables_typed}
-use Rattle.py_check_laws.proofs.Kept.{Kept, Follows, follows_block, is_open}
+use Rattle.py_check.proofs.Kept.{Kept, Follows, follows_block, is_open}
 use Rattle.py_check_laws.proofs.Sights.{suite_binds}
-use Rattle.py_check_laws.proofs.Closed.{AllClosed}
-use Rattle.py_check_laws.proofs.Fixed.{suite_fixed}
-use Rattle.py_check_laws.proofs.NameRows.{sights_differ, differ_filter, number_at, at_place}
-use Rattle.py_check_laws.proofs.Owned.{there, filtered, filter_none, global_by, bound_closed, param_or_bound, param_found, own_means, scope_is}
-use Rattle.py_check_laws.proofs.Meant.{Fine, function_fine, scope_names, seen_means, module_bound, module_own}
+use Rattle.py_check_laws.proofs.Closed.{scope_there}
+use Rattle.py_check_laws.proofs.Fixed.{set_block, suite_no_try}
+use Rattle.py_check_laws.proofs.Owned.{there, filter_none, param_or_bound, param_found, own_means, scope_is}
+use Rattle.py_check_laws.proofs.Bindings.{names_same, module_fixes}
+use Rattle.py_check_laws.proofs.Meant.{Fine, function_fine, scope_names, module_own}
 use Rattle.py_check_laws.proofs.Signed.{HasTypes, AllSigned}
 use Rattle.py_check_laws.proofs.KnownParts.{AreKnown}
 use Rattle.py_check_laws.proofs.Whole.{quiet_block}
@@ -118,43 +118,34 @@ module _ (e : Environment) (roles : Roles) (meanings : List ℕ → Meaning) (al
     open_has : (i : ℕ) → is_open end.types (meaning.Local i) ≡ false → law.is_untyped (var_at end.types.locals i) ≡ false → has_type (var_at end.types.locals i) ≡ true
     open_has i h g = has_by (var_at end.types.locals i) h g
 
-    own_has : HasTypes hd.header → AllClosed C end.types (suite_bindings f.body) → ((i : ℕ) → law.is_untyped (var_at end.types.locals i) ≡ false) → (i : ℕ) → i < length own → has_type (var_at end.types.locals i) ≡ true
-    own_has types fixed typed i h =
+    own_has : length sorts ≡ length e.variables → HasTypes hd.header → is_try_in_suite f.body ≡ false → ((i : ℕ) → law.is_untyped (var_at end.types.locals i) ≡ false) → (i : ℕ) → i < length own → has_type (var_at end.types.locals i) ≡ true
+    own_has q types untried typed i h =
         let x = there own i h in
         let m = own_means e.said e.variables n (function_role roles f) (function_fine e.said e.variables n roles fine f) seen i x.0 x.1 in
         by x.0 x.1 m.0 (param_or_bound f roles others x.0 m.1)
       where
         by : (x : List ℕ) → slice_get own i ≡ Some x → C.meaning x ≡ meaning.Local i → (contains (param_names f) x ≡ true) ⊎ (contains (all_there bound_there (body_sights f)) x ≡ true) → has_type (var_at end.types.locals i) ≡ true
-        by x g q (inl p) = kept_has start.types.locals end.types.locals follows.locals i (ap has_type (mapped_at of_own own i x g) ∙ param_has types x p)
-        by x g q (inr p) =
-            open_has i (ap (is_open end.types) (sym q) ∙ bound_closed C end.types (suite_bindings f.body) fixed x (sym (ap (λ l. contains l x) (suite_binds InFunction f.body)) ∙ p)) (typed i)
+        by x g r (inl p) = kept_has start.types.locals end.types.locals follows.locals i (ap has_type (mapped_at of_own own i x g) ∙ param_has types x p)
+        by x g r (inr p) =
+            open_has i (ap (is_open end.types) (sym r) ∙ set_block C x start f.body (scope_there C start.types (scope q) x) untried (sym (ap (λ l. contains l x) (suite_binds InFunction f.body ∙ names_same (suite_bindings f.body))) ∙ p)) (typed i)
 
     function_has : length sorts ≡ length e.variables → HasTypes hd.header → ((i : ℕ) → law.is_untyped (var_at end.types.locals i) ≡ false) → (body C e.variables sorts hd).said ≡ [] → all_have_types end.types.locals 0 own ≡ true
-    function_has q types typed h = all_have_by end.types.locals 0 own (λ j g. own_has types (suite_fixed C (return_of hd.header.ret) false start (scope q) f.body h) typed j (from_zero j (length own) g))
+    function_has q types typed h = all_have_by end.types.locals 0 own (λ j g. own_has q types (suite_no_try C (return_of hd.header.ret) false start f.body h) typed j (from_zero j (length own) g))
       where
         from_zero : (j n : ℕ) → j < 0 + n → j < n
         from_zero j n g = omega arith
 
-  -- what holds of all functions, and of the module's variables behind them
-  pub record AllHave (sorts : List VarSort) (fs : List FuncTree) : Type 0 where
-    pub own : are_own_typed e sorts (map (headed roles meanings) fs) ≡ true
-    pub globals : (i : ℕ) → has_type (var_at sorts i) ≡ true → has_type (var_at (sorts_behind_all e sorts (map (headed roles meanings) fs)) i) ≡ true
-
-  pub functions_have : (sorts : List VarSort) → length sorts ≡ length e.variables → ((i : ℕ) → law.is_untyped (var_at sorts i) ≡ false) → (fs : List FuncTree) → AllSigned meanings all roles fs → bodies_said e sorts (map (headed roles meanings) fs) ≡ [] → AllHave sorts fs
-  functions_have sorts q before [] a h = record { own = refl; globals = λ i g. g }
+  -- and of all functions
+  pub functions_have : (sorts : List VarSort) → length sorts ≡ length e.variables → ((i : ℕ) → law.is_untyped (var_at sorts i) ≡ false) → (fs : List FuncTree) → AllSigned meanings all roles fs → bodies_said e sorts (map (headed roles meanings) fs) ≡ [] → are_own_typed e sorts (map (headed roles meanings) fs) ≡ true
+  functions_have sorts q before [] a h = refl
   functions_have sorts q before (f ∷ fs) a h =
       let hf = headed roles meanings f in
       let one = body (context_in e hf.inside) e.variables sorts hf in
-      let next = sorts_behind e sorts hf in
-      let more = bodies_said e next (map (headed roles meanings) fs) in
+      let more = bodies_said e sorts (map (headed roles meanings) fs) in
       let quiet = none_before one.said more h in
       let b = body_typed e sorts hf (names f) (inner f) (known f a.here.names) a.here.types before quiet in
-      let stays = follows f sorts in
-      let rest = functions_have next (stays.globals.size ∙ q) b.behind fs a.rest (none_behind one.said more h) in
-      record {
-        own = and_from (all_have_types (end f sorts).types.locals 0 (own_names hf.inside)) (are_own_typed e next (map (headed roles meanings) fs)) (function_has f sorts q a.here.types b.locals quiet) rest.own;
-        globals = λ i g. rest.globals i (kept_has sorts next stays.globals i g);
-      }
+      and_from (all_have_types (end f sorts).types.locals 0 (own_names hf.inside)) (are_own_typed e sorts (map (headed roles meanings) fs)) (function_has f sorts q a.here.types b.locals quiet)
+      (functions_have sorts q before fs a.rest (none_behind one.said more h))
 
 -- ---- the whole
 
@@ -186,38 +177,22 @@ module _ (m : Suite) (nothing : said m ≡ []) where
   pub top_scope : IsScope here first.types
   top_scope = scope_is (said_in m) e.variables size roles (whole.fine m nothing) sights (signatures m) [] first.types (sym (ap length none_own)) (length-map e.variables (start_sort (module_meaning m) (suite_bindings m)))
 
-  top_fixed : AllClosed here last.types (suite_bindings m)
-  top_fixed = suite_fixed here ret.outside false first top_scope m (whole.own_quiet m nothing)
-
   pub top_typed : (i : ℕ) → law.is_untyped (var_at last.types.globals i) ≡ false
   top_typed = (quiet_block here (whole.top_voiced m nothing) ret.outside refl InModule false first (whole.start_all m nothing) m (whole.top_known m nothing) (whole.own_quiet m nothing)).globals
 
   pub top_size : length last.types.globals ≡ length e.variables
   top_size = (follows_block here first m).globals.size ∙ length-map e.variables (start_sort (module_meaning m) (suite_bindings m))
 
-  variables_differ : all_differ e.variables ≡ true
-  variables_differ = ap all_differ (scope_names is_variable roles sights) ∙ differ_filter (λ y. is_variable (roles y)) (first_sights sights) (sights_differ sights)
-
-  open_has_type : (i : ℕ) → is_open last.types (meaning.Global i) ≡ false → has_type (var_at last.types.globals i) ≡ true
-  open_has_type i h = has_by (var_at last.types.globals i) h (top_typed i)
-
   pub global_has : (i : ℕ) → i < length e.variables → has_type (var_at last.types.globals i) ≡ true
-  global_has i h =
-      let x = there e.variables i h in
-      let r = filtered (λ y. is_variable (roles y)) (first_sights sights) x.0 (sym (ap (λ l. contains l x.0) (scope_names is_variable roles sights)) ∙ at_place e.variables i x.0 x.1) in
-      let means : here.meaning x.0 ≡ meaning.Global i =
-      seen_means (said_in m) e.variables size roles (whole.fine m nothing) sights x.0 r.1 ∙ global_by e.variables (own_names (module_scope m)) (said_in m) x.0 (roles x.0) r.0 ∙ ap meaning.Global (number_at e.variables i x.0 variables_differ x.1) in
-      let bound = module_bound m size (whole.right m nothing) (whole.count m nothing) x.0 r.0 in
-      open_has_type i (ap (is_open last.types) (sym means) ∙ bound_closed here last.types (suite_bindings m) top_fixed x.0 (sym (ap (λ l. contains l x.0) (suite_binds InModule m)) ∙ bound))
+  global_has i h = let x = there e.variables i h in has_by (var_at last.types.globals i) (module_fixes m i x.0 (suite_no_try here ret.outside false first m (whole.own_quiet m nothing)) x.1) (top_typed i)
 
   -- EACH VARIABLE has a type
   pub variables_typed : are_variables_typed m ≡ true
   variables_typed =
       let sorts = last.types.globals in
       let all = functions_have e roles (module_meaning m) (whole.typed_names m nothing) (λ f x. voiced (signatures m) (whole.signs m nothing) ((whole.inside m nothing f).meaning x) (whole.inner_heard m nothing f x)) (λ f x. heard_typed size ((whole.inside m nothing f).meaning x) (whole.inner_heard m nothing f x)) (whole.inner_known m nothing) size (whole.fine m nothing)
-      (module_own m size (whole.right m nothing) (whole.count m nothing)) sorts top_size top_typed (Rattle.py_binder.specs.Scope.functions m) (whole.all_functions m nothing) (none_behind (own_statements here e.variables m).said (bodies_said e sorts (headed_functions m)) (whole.statements m nothing)) in
-      and_from (all_have_types (sorts_behind_all e sorts (headed_functions m)) 0 e.variables) (are_own_typed e sorts (headed_functions m))
-      (all_have_by (sorts_behind_all e sorts (headed_functions m)) 0 e.variables (λ j g. all.globals j (global_has j (from_zero j (length e.variables) g)))) all.own
+      (module_own m size (whole.right m nothing) (whole.count m nothing)) sorts top_size top_typed (Rattle.py_binder.specs.Scope.functions m) (whole.all_functions m nothing) (whole.bodies_quiet m nothing) in
+      and_from (all_have_types sorts 0 e.variables) (are_own_typed e sorts (headed_functions m)) (all_have_by sorts 0 e.variables (λ j g. global_has j (from_zero j (length e.variables) g))) all
     where
       from_zero : (j n : ℕ) → j < 0 + n → j < n
       from_zero j n g = omega arith

@@ -50,7 +50,7 @@ use Rattle.py_check_expressions_laws.proofs.Inside.{either}
 use Rattle.py_check_expressions_laws.proofs.Loud.{IsLoud, loud_is, loud_fails, none_before, none_behind, both_say, loud_both, loud_made, loud_behind, loud_judged, loud_rule, loud_row, loud_positional, loud_typing, loud_arguments}
 use Rattle.py_check_laws.specs.Statements.{is_judged}
 use Rattle.py_check_laws.proofs.Given.{some_is, rule_given, both_given, made_given}
-use Rattle.py_check_laws.proofs.Kept.{fix_cases, is_open, bind_set}
+use Rattle.py_check.proofs.Kept.{fix_cases, is_open, bind_set}
 use Rattle.py_check_laws.proofs.Assigned.{single_bound, row_bound, name_no_row, aims_length, items_are, BoundTo, assigned_is, head_is}
 use Rattle.py_check_laws.proofs.Aims.{beyond}
 use Rattle.py_check_expressions_laws.proofs.Known.{known_left, known_right}

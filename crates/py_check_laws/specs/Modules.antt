@@ -11,7 +11,7 @@ use Rattle.py_check_context.specs.Context.{VarSort, has, var_at}
 use Rattle.py_check_names.specs.Meanings.{variables, own_names}
 use Rattle.py_check_signatures.specs.Headers.{signature_of}
 use Rattle.py_check_definitions.specs.Definitions.{Headed, headed_functions}
-use Rattle.py_check.specs.Module.{Environment, context_in, own_statements, body, body_after, sorts_behind, sorts_behind_all, global_sorts, environment, diagnostics, typed}
+use Rattle.py_check.specs.Module.{Environment, context_in, own_statements, body, body_after, global_sorts, environment, diagnostics, typed}
 use Rattle.py_check_laws.specs.WellTyped.{is_suite_written, is_filled}
 
 -- the signature of each function, what it returns and its body have a typed form
@@ -19,7 +19,7 @@ abbrev pub are_typed : Environment → List VarSort → List Headed → Bool
 are_typed e sorts [] = true
 are_typed e sorts (f ∷ more) =
     is_some (signature_of f.header) && is_some f.header.ret && is_some (body (context_in e f.inside) e.variables sorts f).got
-    && are_typed e (sorts_behind e sorts f) more
+    && are_typed e sorts more
 
 -- and so have the module's own statements
 abbrev pub is_typed_whole : Suite → Bool
@@ -46,23 +46,23 @@ all_have_types types i (name ∷ more) = has_type (var_at types i) && all_have_t
 abbrev pub are_own_typed : Environment → List VarSort → List Headed → Bool
 are_own_typed e sorts [] = true
 are_own_typed e sorts (f ∷ more) =
-    all_have_types (body_after (context_in e f.inside) e.variables sorts f).types.locals 0 (own_names f.inside) && are_own_typed e (sorts_behind e sorts f) more
+    all_have_types (body_after (context_in e f.inside) e.variables sorts f).types.locals 0 (own_names f.inside) && are_own_typed e sorts more
 
--- and those of the module, behind all
+-- and those of the module, behind its own statements
 abbrev pub are_variables_typed : Suite → Bool
 are_variables_typed m =
-    all_have_types (sorts_behind_all (environment m) (global_sorts (environment m) (module_scope m) (headed_functions m) m) (headed_functions m)) 0 (environment m).variables
+    all_have_types (global_sorts (environment m) (module_scope m) (headed_functions m) m) 0 (environment m).variables
     && are_own_typed (environment m) (global_sorts (environment m) (module_scope m) (headed_functions m) m) (headed_functions m)
 
 -- where nothing is said of a module, each of its variables has a type, and each variable of its functions has one
 abbrev pub QuietModuleTypesVariables : Type 0
 QuietModuleTypesVariables = (m : Suite) → diagnostics m ≡ [] → are_variables_typed m ≡ true
 
--- where nothing is said of a module, its own statements fix the types of its variables: the body of a function changes none
-abbrev pub QuietModuleFixesTypes : Type 0
-QuietModuleFixesTypes =
-    (m : Suite) → diagnostics m ≡ []
-    → sorts_behind_all (environment m) (global_sorts (environment m) (module_scope m) (headed_functions m) m) (headed_functions m) ≡ global_sorts (environment m) (module_scope m) (headed_functions m) m
+-- where nothing is said of a module, the body of a function changes the type of no variable of the module
+abbrev pub QuietBodiesFixNothing : Type 0
+QuietBodiesFixNothing =
+    (m : Suite) → diagnostics m ≡ [] → (f : Headed)
+    → (body_after (context_in (environment m) f.inside) (environment m).variables (global_sorts (environment m) (module_scope m) (headed_functions m) m) f).types.globals ≡ global_sorts (environment m) (module_scope m) (headed_functions m) m
 
 -- ---- what is typed is well typed
 

@@ -1,6 +1,8 @@
 //! The laws. The calls do nothing.
-ghost use Rattle.py_check_laws.specs.Modules.{QuietModuleFixesTypes, QuietModuleIsTyped, QuietModuleIsWellTyped, QuietModuleNamesDiffer, QuietModuleStands, QuietModuleTypesVariables};
+ghost use Rattle.py_check_laws.specs.Modules.{QuietBodiesFixNothing, QuietModuleIsTyped, QuietModuleIsWellTyped, QuietModuleNamesDiffer, QuietModuleStands, QuietModuleTypesVariables};
+ghost use Rattle.py_check_laws.specs.Placeholders.{FormlessBlockMeetsNoPlaceholder, FormlessModuleMeetsNoPlaceholder};
 ghost use Rattle.py_check_laws.specs.Statements.{QuietBlockIsTyped, TypedBlockIsWellTyped};
+ghost use Rattle.py_check_laws.specs.Variables.{AnnotationsGiveTypes, BindingsGiveTypes, FirstAssignmentsGiveTypes, ModuleFixesTypes, OnlyBindingsGiveTypes, TypesStay};
 
 /// Where no name in reach is without a type and each name in a block is known, a block of which nothing is said is typed whole, and no
 /// name is without a type behind it.
@@ -13,6 +15,48 @@ pub fn what_is_typed_in_a_block_is_well_typed()
     ensures { TypedBlockIsWellTyped }
 {}
 
+/// Of statements in which no form without typing rules stands nothing is said that stands for a rule that is not written yet.
+pub fn formless_statements_meet_no_placeholder()
+    ensures { FormlessBlockMeetsNoPlaceholder }
+{}
+
+/// Nor is anything of the kind said of a module in which no such form stands.
+pub fn formless_modules_meet_no_placeholder()
+    ensures { FormlessModuleMeetsNoPlaceholder }
+{}
+
+/// Behind any statements a variable that had a type, or had none for good, is as it was.
+pub fn variables_keep_their_types()
+    ensures { TypesStay }
+{}
+
+/// Statements that do not bind a name leave its variable as it is: with a variable that keeps what it has, its type is what its
+/// first binding in the text gives.
+pub fn only_bindings_give_types()
+    ensures { OnlyBindingsGiveTypes }
+{}
+
+/// Behind statements that bind the name of a variable, none of them a `try`, it has a type, or has none for good.
+pub fn bindings_give_types()
+    ensures { BindingsGiveTypes }
+{}
+
+/// A variable without a type that statements do not bind, and to whose name a value is assigned behind them, has the type of that
+/// value whatever comes then, or has none for good.
+pub fn first_assignments_give_types()
+    ensures { FirstAssignmentsGiveTypes }
+{}
+
+/// Behind the own statements of a module without a `try` each of its variables has a type, or has none for good.
+pub fn statements_of_a_module_fix_types()
+    ensures { ModuleFixesTypes }
+{}
+
+/// A variable of a module whose first binding is annotated has the type of that annotation.
+pub fn annotations_give_types()
+    ensures { AnnotationsGiveTypes }
+{}
+
 /// A module of which nothing is said is typed whole: no part of its typed tree stands for what has no typed form.
 pub fn what_is_not_typed_in_a_module_has_said_why()
     ensures { QuietModuleIsTyped }
@@ -23,9 +67,9 @@ pub fn variables_of_a_quiet_module_have_types()
     ensures { QuietModuleTypesVariables }
 {}
 
-/// In a module of which nothing is said the module's own statements fix the types of its variables: no body of a function changes one.
-pub fn statements_of_a_quiet_module_fix_types()
-    ensures { QuietModuleFixesTypes }
+/// In a module of which nothing is said the body of a function changes the type of no variable of the module.
+pub fn bodies_of_a_quiet_module_fix_no_types()
+    ensures { QuietBodiesFixNothing }
 {}
 
 /// In a module of which nothing is said the module's own statements and the bodies of its functions are well typed.

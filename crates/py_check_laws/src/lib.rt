@@ -1,14 +1,17 @@
 //! Laws of the typing of statements and of whole modules that no code needs.
 //!
-//! `specs/Statements.antt` and `specs/Modules.antt` state them over the definitions of `py_check_statements` and `py_check`, and `laws` has a
-//! function for each, which does nothing.
+//! `specs/Statements.antt`, `specs/Placeholders.antt`, `specs/Variables.antt` and `specs/Modules.antt` state them over the
+//! definitions of `py_check_statements` and `py_check`, and `laws` has a function for each, which does nothing.
 #![tactic(auto)]
 
 mod laws;
 
 pub use laws::{
-    a_quiet_module_is_well_typed, names_of_a_quiet_module_differ,
-    statements_of_a_quiet_module_are_well_typed, statements_of_a_quiet_module_fix_types,
+    a_quiet_module_is_well_typed, annotations_give_types, bindings_give_types,
+    bodies_of_a_quiet_module_fix_no_types, first_assignments_give_types,
+    formless_modules_meet_no_placeholder, formless_statements_meet_no_placeholder,
+    names_of_a_quiet_module_differ, only_bindings_give_types, statements_of_a_module_fix_types,
+    statements_of_a_quiet_module_are_well_typed, variables_keep_their_types,
     variables_of_a_quiet_module_have_types, what_is_not_typed_in_a_block_has_said_why,
     what_is_not_typed_in_a_module_has_said_why, what_is_typed_in_a_block_is_well_typed,
 };

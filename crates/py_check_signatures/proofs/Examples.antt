@@ -36,6 +36,16 @@ def names ret body = record {
 defined_before : def_fault false 1 (def (codes "x" ∷ codes "x" ∷ []) None passes) None ≡ Some (message.already_defined (codes "f"))
 defined_before = refl
 
+-- a decorator, before what is wrong with parameters
+abbrev under : ExprTree → FuncTree → FuncTree
+under mark f = record { name = f.name; params = f.params; ret = f.ret; body = f.body; marks = mark ∷ [] }
+
+decorated : def_fault true 1 (under (e.at (e.Name (codes "g")) place) (def (codes "x" ∷ codes "x" ∷ []) None passes)) None ≡ Some (message.outside_profile (codes "f"))
+decorated = refl
+
+decorated_again : def_fault false 1 (under (e.at (e.Name (codes "g")) place) (def [] none_mark passes)) None ≡ Some (message.already_defined (codes "f"))
+decorated_again = refl
+
 twice : def_fault true 1 (def (codes "x" ∷ codes "y" ∷ codes "x" ∷ codes "y" ∷ []) None passes) None ≡ Some (message.duplicate_parameter (codes "x"))
 twice = refl
 
@@ -64,8 +74,12 @@ nothing_typed x = Untyped
 no_signature : signature_of (header nothing_typed (def (codes "x" ∷ []) none_mark passes)) ≡ None
 no_signature = refl
 
-nothing_said : def_said place false 1 (def (codes "x" ∷ []) none_mark passes) (header nothing_typed (def (codes "x" ∷ []) none_mark passes)) ≡ []
+nothing_said : def_said place false 1 true (def (codes "x" ∷ []) none_mark passes) (header nothing_typed (def (codes "x" ∷ []) none_mark passes)) ≡ []
 nothing_said = refl
+
+-- nor where a decorator has none
+nothing_of_the_decorated : def_said place false 1 false (under (e.at (e.Name (codes "g")) place) (def [] none_mark passes)) (header nothing_typed (def [] none_mark passes)) ≡ []
+nothing_of_the_decorated = refl
 
 -- without parameters
 plain : signature_of (header nothing_typed (def [] none_mark passes)) ≡ Some (record { params = []; ret = sort.Nothing })

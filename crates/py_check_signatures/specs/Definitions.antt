@@ -1,9 +1,9 @@
 -- What is wrong with a function definition by itself (Python Language Reference, "Function definitions"; PEP 484).
 --
--- The first of these that holds: the name was defined before in the text, or is a builtin; two parameters have one name; a
--- parameter has the name of a builtin; an annotation is missing; the function has more than 100 names of its own; a value is
--- due and the end of the body can be reached. Annotations and decorators are parts of a definition: where one of them has no
--- type, nothing else is said. Decorators have no types yet.
+-- The first of these that holds: the name was defined before in the text, or is a builtin; there is a decorator; two parameters
+-- have one name; a parameter has the name of a builtin; an annotation is missing; the function has more than 100 names of its own;
+-- a value is due and the end of the body can be reached. Annotations and decorators are parts of a definition: where one of them
+-- has no type, nothing is said of the definition.
 use Rattle.std.specs.Prelude.{ℕ, Bool, true, false, not, ◌&&◌, if◌then◌else◌, nat_lt, List, [], ◌∷◌, ◌++◌, count_by, find, Option, Some, None, is_some}
 use Rattle.std.specs.List.{list_all}
 use Rattle.std.specs.Option.{option_or, option_map}
@@ -58,24 +58,26 @@ body_fault own f ret =
     if gives_value ret && not (is_closed f.body) then Some message.missing_return
     else None
 
+abbrev pub no_marks : List ExprTree → Bool
+no_marks [] = true
+no_marks (mark ∷ more) = false
+
 -- by the first parameter that stands twice
 abbrev pub fault_by : Bool → ℕ → FuncTree → Option (List ℕ) → Option Sort → Option Message
 fault_by fresh own f twice ret =
     if not fresh then Some (message.already_defined f.name) else
-    option_or (option_map message.duplicate_parameter twice)
+    if not (no_marks f.marks) then Some (message.outside_profile f.name)
+    else option_or (option_map message.duplicate_parameter twice)
     (option_or (option_map message.cannot_assign (find is_builtin_name (param_names f))) (body_fault own f ret))
 
 -- THE FAULT of a definition, whose name is new or not, of so many names of its own, and of what it returns
 abbrev pub def_fault : Bool → ℕ → FuncTree → Option Sort → Option Message
 def_fault fresh own f ret = fault_by fresh own f (repeated [] (param_names f)) ret
 
-abbrev pub no_marks : List ExprTree → Bool
-no_marks [] = true
-no_marks (mark ∷ more) = false
-
 abbrev pub told : Span → Option Message → List Diag
 told span None = []
 told span (Some m) = diag span m ∷ []
 
-abbrev pub def_said : Span → Bool → ℕ → FuncTree → HeaderSorts → List Diag
-def_said span fresh own f h = if h.typed && no_marks f.marks then told span (def_fault fresh own f h.ret) else []
+-- of one with these types of annotations, and whose decorators have types or not
+abbrev pub def_said : Span → Bool → ℕ → Bool → FuncTree → HeaderSorts → List Diag
+def_said span fresh own marked f h = if h.typed && marked then told span (def_fault fresh own f h.ret) else []

@@ -15,7 +15,7 @@ use py_binder::Scope;
 use py_check_flow::is_closed;
 use py_check_messages::{
     already_defined, cannot_assign, duplicate_parameter, missing_annotation, missing_return,
-    too_many_names,
+    outside_profile, too_many_names,
 };
 use py_check_names::{builtin_meaning, is_own};
 use py_syntax::{Expr, Func, Span};
@@ -28,6 +28,7 @@ use value_core::{Many, Memory, Name};
 #[derive(Clone, Copy)]
 pub(crate) enum DefFault<'a> {
     AlreadyDefined,
+    Decorated,
     DuplicateParameter(&'a Name),
     BuiltinName(&'a Name),
     MissingAnnotation,
@@ -63,19 +64,21 @@ pub fn own_count(inside: &Scope) -> usize
         .count()
 }
 
-/// Adds what is wrong with a definition, if its annotations have types and it has no decorators.
+/// Adds what is wrong with a definition of so many names of its own, whose name is new or not, if its annotations have types and its
+/// decorators do.
 pub fn add_def_fault(
     alloc: Global,
     span: Span,
     fresh: bool,
     own: usize,
+    marked: bool,
     f: &Func,
     header: &Header,
     faults: &mut Many<Diag>,
 ) -> Result<(), Memory>
-    ensures { IfOk result (λ done. faults.new ≡ faults.old ++ spec.def_said span fresh own (func_tree f.now) (header_sorts header.now)) }
+    ensures { IfOk result (λ done. faults.new ≡ faults.old ++ spec.def_said span fresh own marked (func_tree f.now) (header_sorts header.now)) }
 {
-    add_fault(alloc, span, fresh, own, f, header, faults)
+    add_fault(alloc, span, fresh, own, marked, f, header, faults)
 }
 
 fn add_fault(
@@ -83,13 +86,14 @@ fn add_fault(
     span: Span,
     fresh: bool,
     own: usize,
+    marked: bool,
     f: &Func,
     header: &Header,
     faults: &mut Many<Diag>,
 ) -> Result<(), Memory>
-    ensures { IfOk result (λ done. faults.new ≡ faults.old ++ spec.def_said span fresh own (parts f.now) (header_sorts header.now)) }
+    ensures { IfOk result (λ done. faults.new ≡ faults.old ++ spec.def_said span fresh own marked (parts f.now) (header_sorts header.now)) }
 {
-    if !(header.typed && no_marks(f.marks.as_slice())) {
+    if !(header.typed && marked) {
         return Ok(());
     }
     let twice = repeated(alloc, f)?;
@@ -121,6 +125,9 @@ fn def_fault<'a>(
 {
     if !fresh {
         return Some(DefFault::AlreadyDefined);
+    }
+    if !no_marks(f.marks.as_slice()) {
+        return Some(DefFault::Decorated);
     }
     if let Some(x) = twice {
         return Some(DefFault::DuplicateParameter(x));
@@ -228,6 +235,7 @@ fn say(
 {
     match fault {
         DefFault::AlreadyDefined => already_defined(alloc, span, name.as_str(), faults),
+        DefFault::Decorated => outside_profile(alloc, span, name.as_str(), faults),
         DefFault::DuplicateParameter(x) => duplicate_parameter(alloc, span, x.as_str(), faults),
         DefFault::BuiltinName(x) => cannot_assign(alloc, span, x.as_str(), faults),
         DefFault::MissingAnnotation => missing_annotation(alloc, span, faults),

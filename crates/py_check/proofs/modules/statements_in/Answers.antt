@@ -1,19 +1,18 @@
-use Rattle.std.proofs.Common.{◌∙◌, false, map, ap, subst}
+use Rattle.std.proofs.Common.{◌∙◌, ◌++◌, [], false, ap}
 use Rattle.py_syntax.specs.Statements.{body_tree}
-use Rattle.py_typed.specs.Statements.{typed_stmt}
 use Rattle.py_check_context.specs.Context.{context}
-use Rattle.py_check_messages.specs.Seen.{Tells}
 use Rattle.py_check_values.specs.Returns.{outside}
 use Rattle.py_check_places.specs.Places.{Known}
 use Rattle.py_check_statements.specs.Bodies.{block, block_after}
+use Rattle.py_check.specs.Parts.{walk_along}
 use Rattle.py_check.proofs.modules.statements_in.Goals as goal
 
 pub returns : goal.returns
 returns c =
     let C = context c.args.scope.now in
     let m = body_tree c.args.body.now in
-    let P : Known → Type 0 = λ k. Tells (map typed_stmt) c.in_ok-typed.typed c.args.faults.now c.block.new.faults (block C outside false k m) in
     record {
-      told = subst P c.in_ok-place.ensures c.in_ok-typed.ensures.told;
+      typed = c.in_ok-typed.ensures.typed ∙ ap (λ (k : Known). (block C outside false k m).got) c.in_ok-place.ensures;
+      told = c.in_ok-typed.ensures.told ∙ ap (λ (k : Known). c.args.faults.now ++ walk_along C k [] c.args.insides.now m) c.in_ok-place.ensures;
       known = ap (λ (k : Known). k.types.globals) (c.in_ok-typed.ensures.known ∙ ap (λ k. block_after C k m) c.in_ok-place.ensures);
     }

@@ -7,14 +7,15 @@ use Rattle.py_check_context.specs.Context.{VarSort}
 use Rattle.py_check_places.specs.Views.{known_at}
 use Rattle.py_check_statements.proofs.BodyLemmas.{always}
 use Rattle.py_check_definitions.specs.Views.{headed_of}
-use Rattle.py_check.specs.Module.{module_by, context_in, own_statements, fixed_sorts, bodies_said, typed_functions, sorts_behind_all, statements_said}
-use Rattle.py_check.specs.Parts.{environment_of}
+use Rattle.py_check.specs.Module.{module_by, context_in, own_statements, fixed_sorts, bodies_said, typed_functions}
+use Rattle.py_check.specs.Parts.{environment_of, own_along, statements_along}
 use Rattle.py_check.proofs.modules.typed_in.Goals as goal
 
 pub returns : goal.returns
 returns c =
     let e = environment_of c.args.environment.now in
-    let top = c.args.top.now in
+    let top = c.args.scopes.now.top in
+    let insides = c.args.scopes.now.funcs in
     let fs = map headed_of c.args.functions.now in
     let m = body_tree c.args.body.now in
     let own = own_statements (context_in e top) e.variables m in
@@ -24,9 +25,9 @@ returns c =
     let Q : Option (List TypedStmt) → Type 0 = P behind (map typed_func c.in_ok-funcs.funcs) in
     let R : List VarSort → List TypedFunc → Type 0 = λ sorts funcs. P sorts funcs own.got in
     record {
-      typed = subst₂ R (c.in_ok-funcs.ensures.known ∙ ap (λ (k : List VarSort). sorts_behind_all e k fs) fixed) (c.in_ok-funcs.ensures.typed ∙ ap (λ (k : List VarSort). typed_functions e k fs) fixed) (subst Q c.in_ok-own.ensures.told.0 c.with_functions.ensures);
-      told = always c.with_functions.result (c.typed_functions.new.faults ≡ c.args.faults.now ++ statements_said e top fs m)
+      typed = subst₂ R (c.in_ok-funcs.ensures.known ∙ fixed) (c.in_ok-funcs.ensures.typed ∙ ap (λ (k : List VarSort). typed_functions e k fs) fixed) (subst Q c.in_ok-own.ensures.typed c.with_functions.ensures);
+      told = always c.with_functions.result (c.typed_functions.new.faults ≡ c.args.faults.now ++ statements_along e top insides fs m)
           (c.in_ok-funcs.ensures.told
-          ∙ ap₂ (λ (l : List Diag) (k : List VarSort). l ++ bodies_said e k fs) c.in_ok-own.ensures.told.1 fixed
-          ∙ append_assoc c.args.faults.now own.said (bodies_said e (fixed_sorts (context_in e top) e.variables m) fs));
+          ∙ ap₂ (λ (l : List Diag) (k : List VarSort). l ++ bodies_said e k fs) c.in_ok-own.ensures.told fixed
+          ∙ append_assoc c.args.faults.now (own_along (context_in e top) e.variables insides m) (bodies_said e (fixed_sorts (context_in e top) e.variables m) fs));
     }
