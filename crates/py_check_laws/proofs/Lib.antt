@@ -9,6 +9,7 @@ mod Whole
 mod Names
 mod Aims
 mod Literals
+mod Looked
 mod Shapes
 mod Values
 mod Closed

@@ -33,18 +33,20 @@ use Rattle.py_check_coercions.specs.Several.{with_part}
 use Rattle.py_check_values.specs.Returns.{ReturnSort, bare_return, value_return}
 use Rattle.py_check_places.specs.Places.{Known, is_bound, locals_among, where_test, entering, Way, setting_out, behind_arm}
 use Rattle.py_check_places.specs.Shapes.{is_row, is_item, is_flat, leaves, node_leaves, row_leaves}
-use Rattle.py_check_targets.specs.Targets.{Aim, held, first, barred, unwritten, misplaced, target_of, targets_of, is_placed, name_aim, seen_aim, read_aim, assigned, declared, given, updated, annotation_fault, typed_at}
-use Rattle.py_check_targets.specs.Targets.{target_aims}
+use Rattle.py_check_values.specs.Aims.{Aim, held, first, barred, unwritten, misplaced}
+use Rattle.py_check_targets.specs.Targets.{target_of, targets_of, is_placed, name_aim, seen_aim, read_aim, assigned, declared, given, updated, annotation_fault, typed_at, target_aims, next_part, more_parts, beyond, aims_behind, bound_aims}
 use Rattle.py_check_assignments.specs.Assignments.{value_for, assigns, declares, annotated_value, gives_value, annotates_other, annotates, updates_one, updates_row, updates}
 use Rattle.py_check_loops.specs.Loops.{Course, numbers, value, course, head, loop_over, loop_of}
-use Rattle.py_check_loops.specs.Heads.{for_head, in_for}
+use Rattle.py_check_loops.specs.Heads.{for_head, in_for, some_items}
 use Rattle.py_check_statements.specs.Bodies.{is_definition, condition, after, block_after, arms_after, return_wanted, returns, in_loop, statement, node_statement, block, branches}
 use Rattle.py_check_expressions_laws.specs.WellTyped.{Within}
 use Rattle.py_check_expressions_laws.proofs.Inside.{within_none, within_append, in_left}
+use Rattle.std.specs.Option.{option_map}
+use Rattle.py_check_laws.proofs.Looked.{looked_at, looked_behind}
 use Rattle.py_check_laws.proofs.Given.{made_given, both_given, rule_given, row_given, unless_ok}
 use Rattle.py_check_laws.proofs.Assigned.{leaves_one, assigned_is, given_is, updated_is, head_is}
 use Rattle.py_check_laws.proofs.Names.{within_itself}
-use Rattle.py_check_laws.proofs.Aims.{AimAt, beyond, AimsOf, aims_are, Held, held_local, held_global, held_item, aim_held, First, first_local, first_global, aim_first}
+use Rattle.py_check_laws.proofs.Aims.{AimAt, AimsOf, Held, held_local, held_global, held_item, aim_held, First, first_local, first_global, aim_first}
 use Rattle.py_check_laws.proofs.Literals.{heads, truth_literal}
 
 -- ---- the names of targets
@@ -144,17 +146,17 @@ module _ (C : Context) where
   aim_within k e (unwritten s) h = within_none (locals_among C (leaf_bindings e))
   aim_within k e (misplaced s) h = within_none (locals_among C (leaf_bindings e))
 
-  aims_within : (k : Known) (es : List ExprTree) (l : List Aim) → AimsOf C k es l → Within (bound_by_all (targets_of l)) (locals_among C (flat_map leaf_bindings es))
-  aims_within k [] [] h = within_none []
-  aims_within k [] (a ∷ l) h = absurd h
-  aims_within k (e ∷ es) [] h = absurd h
-  aims_within k (e ∷ es) (a ∷ l) h =
+  aims_within : (k : Known) (ts : Option (List Sort)) (es : List ExprTree) (l : List Aim) → AimsOf C k ts es l → Within (bound_by_all (targets_of l)) (locals_among C (flat_map leaf_bindings es))
+  aims_within k ts [] [] h = within_none []
+  aims_within k ts [] (a ∷ l) h = absurd h
+  aims_within k ts (e ∷ es) [] h = absurd h
+  aims_within k ts (e ∷ es) (a ∷ l) h =
       subst (λ z. Within z (locals_among C (flat_map leaf_bindings (e ∷ es)))) (sym (flat_map-append bound_by (target_of a) (targets_of l)))
       (subst (Within (bound_by_all (target_of a) ++ bound_by_all (targets_of l))) (sym (locals_two (leaf_bindings e) (flat_map leaf_bindings es)))
-      (within_append (bound_by_all (target_of a)) (bound_by_all (targets_of l)) (locals_among C (leaf_bindings e)) (locals_among C (flat_map leaf_bindings es)) (aim_within k e a h.here) (aims_within (beyond C k e) es l h.rest)))
+      (within_append (bound_by_all (target_of a)) (bound_by_all (targets_of l)) (locals_among C (leaf_bindings e)) (locals_among C (flat_map leaf_bindings es)) (aim_within k e a h.here) (aims_within (beyond C k (name_in e) (next_part ts)) (more_parts ts) es l h.rest)))
 
-  pub targets_within : (k : Known) (target : ExprTree) (l : List Aim) → (target_aims C k target).got ≡ Some l → Within (bound_by_all (targets_of l)) (locals_among C (target_bindings target))
-  targets_within k target l g = subst (λ bs. Within (bound_by_all (targets_of l)) (locals_among C bs)) (sym (target_leaves target)) (aims_within k (leaves target) l (aims_are C k (leaves target) l g))
+  pub targets_within : (k : Known) (target : ExprTree) (l : List Aim) (ts : Option (List Sort)) → AimsOf C k ts (leaves target) l → Within (bound_by_all (targets_of l)) (locals_among C (target_bindings target))
+  targets_within k target l ts a = subst (λ bs. Within (bound_by_all (targets_of l)) (locals_among C bs)) (sym (target_leaves target)) (aims_within k ts (leaves target) l a)
 
   -- ---- statements
 
@@ -183,10 +185,13 @@ module _ (C : Context) where
 
   assign_shape : (k : Known) (span : Span) (target e : ExprTree) (a : TypedAct) → (assigns C k span target e).got ≡ Some a → ActShape (node.Assign target e) a
   assign_shape k span target e a h =
-      let r = rule_given span (assigned C.classes target) (both (target_aims C k target) (value_for C k target e)) a h in
-      let b = both_given (target_aims C k target) (value_for C k target e) r.0 r.1 in
+      let value = value_for C k target e in
+      let targets = bound_aims C k target (option_map type_of value.got) in
+      let r = rule_given span (assigned C.classes target) (both targets value) a h in
+      let b = both_given targets value r.0 r.1 in
       let d = assigned_is C.classes target r.0 a r.2 in
-      subst (ActShape (node.Assign target e)) d.is (record { closes = refl; breaks = refl; bound = targets_within k target r.0.0 b.0 })
+      let looked = looked_at C k target r.0.0 (option_map type_of value.got) (type_of r.0.1) b.0 (ap (option_map type_of) b.1) in
+      subst (ActShape (node.Assign target e)) d.is (record { closes = refl; breaks = refl; bound = targets_within k target r.0.0 looked.parts looked.aims })
 
   named_within : (target mark : ExprTree) (x : List ℕ) (xs : List ℕ) → name_in target ≡ Some x → Within xs (locals_among C (leaf_bindings target)) → Within xs (locals_among C (marked (name_in target) target mark))
   named_within target mark x xs n w = subst (Within xs) (ap (λ o. locals_among C (named o)) n ∙ sym (ap (λ o. locals_among C (marked o target mark)) n)) w
@@ -294,12 +299,15 @@ module _ (C : Context) where
 
     head_within : (k : Known) (span : Span) (target e : ExprTree) (p : List TypedTarget × Course) → (for_head C k span target e).got ≡ Some p → Within (bound_by_all p.0) (locals_among C (target_bindings target))
     head_within k span target e p h =
-        let parts = both (target_aims C k target) (course C k e) in
+        let over = course C k e in
+        let targets = aims_behind C k target (some_items over.got) in
+        let parts = both targets over in
         let q = made_given (λ (z : List Aim × Course). (targets_of z.0, z.1)) (rule span (head C.classes (is_flat target) (is_row target)) parts) p h in
         let g = rule_given span (head C.classes (is_flat target) (is_row target)) parts q.0 q.1 in
-        let b = both_given (target_aims C k target) (course C k e) g.0 g.1 in
+        let b = both_given targets over g.0 g.1 in
         let d = head_is C.classes target g.0 q.0 g.2 in
-        subst (λ (z : List TypedTarget × Course). Within (bound_by_all z.0) (locals_among C (target_bindings target))) (ap (λ (z : List Aim × Course). (targets_of z.0, z.1)) d.1 ∙ q.2) (targets_within k target g.0.0 b.0)
+        let looked = looked_behind C k target g.0.0 (some_items over.got) d.0.item b.0 (ap some_items b.1 ∙ d.0.items) in
+        subst (λ (z : List TypedTarget × Course). Within (bound_by_all z.0) (locals_among C (target_bindings target))) (ap (λ (z : List Aim × Course). (targets_of z.0, z.1)) d.1 ∙ q.2) (targets_within k target g.0.0 looked.parts looked.aims)
 
     suite_step : (s : StmtTree) (more : Suite) (same : Seen (List TypedStmt)) (one : Seen TypedStmt) (rest : Seen (List TypedStmt)) (ts : List TypedStmt) (b : Bool) → is_definition s ≡ b → (same.got ≡ Some ts → SuiteShape more (suite_of ts)) → ((t : TypedStmt) → one.got ≡ Some t → StmtShape s t)
         → ((l : List TypedStmt) → rest.got ≡ Some l → SuiteShape more (suite_of l)) → (if b then same else row_then one rest).got ≡ Some ts → SuiteShape (stmt_then s more) (suite_of ts)

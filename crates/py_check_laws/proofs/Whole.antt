@@ -37,10 +37,9 @@ use Rattle.py_check_expressions.specs.Typing.{arguments}
 use Rattle.py_check_values.specs.Returns as ret
 use Rattle.py_check_values.specs.Returns.{ReturnSort, bare_return, value_return, due}
 use Rattle.py_check_places.specs.Places.{Known, is_unset, fix, is_bound, bind_variable, bind_name, bind_names, where_test, entering, Way, setting_out, behind_arm}
-use Rattle.py_check_places.specs.Shapes.{is_row, is_item, is_flat, leaves, target_names}
-use Rattle.py_check_targets.specs.Targets.{Aim, name_aim, variable_aim, seen_aim, value_aim, read_aim, targets_of, assigned, declared, given, updated, typed_at, single_aim, aims}
-use Rattle.py_check_places.specs.Shapes.{bind_target}
-use Rattle.py_check_targets.specs.Targets.{target_aims}
+use Rattle.py_check_places.specs.Shapes.{is_row, is_item, is_flat, leaves, target_names, bind_target, parts_of}
+use Rattle.py_check_values.specs.Aims.{Aim}
+use Rattle.py_check_targets.specs.Targets.{name_aim, variable_aim, seen_aim, value_aim, read_aim, targets_of, assigned, declared, given, updated, typed_at, single_aim, aims, target_aims, next_part, more_parts, beyond, asked_sort, aims_behind, bound_aims}
 use Rattle.py_check_assignments.specs.Assignments.{value_for, assigns, binds, declares, annotated_value, gives_value, annotates_name, annotates_other, annotates, binds_annotated, updates_one, updates_row, updates}
 use Rattle.py_check_loops.specs.Loops.{value, range_call, is_range_name, range_arguments, span_of, course_by, course, head, loop_of}
 use Rattle.py_check_loops.specs.Heads.{some_items, for_head, in_for}
@@ -48,11 +47,11 @@ use Rattle.py_check_statements.specs.Bodies.{is_definition, condition, after, no
 use Rattle.py_check_expressions_laws.specs.Laws.{is_voiceless, is_untyped, AllHaveTypes}
 use Rattle.py_check_expressions_laws.proofs.Inside.{either}
 use Rattle.py_check_expressions_laws.proofs.Loud.{IsLoud, loud_is, loud_fails, none_before, none_behind, both_say, loud_both, loud_made, loud_behind, loud_judged, loud_rule, loud_row, loud_positional, loud_typing, loud_arguments}
+use Rattle.py_check_laws.proofs.Looked.{looked_at, looked_behind}
 use Rattle.py_check_laws.specs.Statements.{is_judged}
 use Rattle.py_check_laws.proofs.Given.{some_is, rule_given, both_given, made_given}
 use Rattle.py_check_laws.proofs.Kept.{fix_cases, is_open, bind_set}
-use Rattle.py_check_laws.proofs.Assigned.{single_bound, row_bound, name_no_row, aims_length, items_are, BoundTo, assigned_is, head_is}
-use Rattle.py_check_laws.proofs.Aims.{beyond}
+use Rattle.py_check_laws.proofs.Assigned.{single_bound, row_bound, name_no_row, items_are, BoundTo, assigned_is, head_is}
 use Rattle.py_check_expressions_laws.proofs.Known.{known_left, known_right}
 use Rattle.py_check_laws.proofs.KnownParts.{AreKnown, target_read, leaves_read}
 use Rattle.py_check_laws.proofs.Annotated.{loud_if, loud_annotation}
@@ -195,17 +194,27 @@ module _ (C : Context) where
     loud_single k all None e u = loud_made (value_aim (is_item e)) (typed_at C k free e) (loud_value k all free e u)
     loud_single k all (Some x) e u = loud_seen (name_aim k x (C.meaning x)) (aim_there k all x (C.meaning x))
 
-    loud_aims : (k : Known) → AllTyped k.types → (es : List ExprTree) → AreKnown C.meaning (list_reads Value es) → IsLoud (aims C k es)
-    loud_aims k all [] u = loud_is []
-    loud_aims k all (e ∷ more) u =
-        loud_row (single_aim C k (name_in e) e) (aims C (beyond C k e) more) (loud_single k all (name_in e) e (front (reads Value e) (list_reads Value more) u)) (loud_aims (beyond C k e) all more (back (reads Value e) (list_reads Value more) u))
+    loud_aims : (k : Known) → AllTyped k.types → (ts : Option (List Sort)) (es : List ExprTree) → AreKnown C.meaning (list_reads Value es) → IsLoud (aims C k ts es)
+    loud_aims k all ts [] u = loud_is []
+    loud_aims k all ts (e ∷ more) u =
+        let next = beyond C k (name_in e) (next_part ts) in
+        loud_row (single_aim C k (name_in e) e) (aims C next (more_parts ts) more) (loud_single k all (name_in e) e (front (reads Value e) (list_reads Value more) u)) (loud_aims next all (more_parts ts) more (back (reads Value e) (list_reads Value more) u))
 
     loud_targets : (k : Known) → AllTyped k.types → (target : ExprTree) → AreKnown C.meaning (target_sights target) → IsLoud (target_aims C k target)
-    loud_targets k all target u = loud_aims k all (leaves target) (leaves_read C.meaning target u)
+    loud_targets k all target u = loud_aims k all None (leaves target) (leaves_read C.meaning target u)
+
+    loud_late : (k : Known) → AllTyped k.types → (target : ExprTree) (t : Option Sort) → AreKnown C.meaning (target_sights target) → IsLoud (aims_behind C k target t)
+    loud_late k all target t u = loud_aims k all (Some (parts_of (is_row target) (length (leaves target)) t)) (leaves target) (leaves_read C.meaning target u)
+
+    loud_bound : (k : Known) → AllTyped k.types → (target : ExprTree) (t : Option Sort) → AreKnown C.meaning (target_sights target) → IsLoud (bound_aims C k target t)
+    loud_bound k all target t u =
+        loud_if (is_some (asked_sort (is_row target) (target_aims C k target).got)) (target_aims C k target) (aims_behind C k target t) (loud_targets k all target u) (loud_late k all target t u)
 
     loud_assigns : (k : Known) → AllTyped k.types → (span : Span) (target e : ExprTree) → AreKnown C.meaning (target_sights target ++ reads Value e) → IsLoud (assigns C k span target e)
     loud_assigns k all span target e u =
-        loud_rule span (assigned C.classes target) (both (target_aims C k target) (value_for C k target e)) (loud_both (target_aims C k target) (value_for C k target e) (loud_targets k all target (front (target_sights target) (reads Value e) u)) (loud_value k all _ e (back (target_sights target) (reads Value e) u)))
+        let value = value_for C k target e in
+        let targets = bound_aims C k target (option_map type_of value.got) in
+        loud_rule span (assigned C.classes target) (both targets value) (loud_both targets value (loud_bound k all target (option_map type_of value.got) (front (target_sights target) (reads Value e) u)) (loud_value k all _ e (back (target_sights target) (reads Value e) u)))
 
     loud_declares : (k : Known) → AllTyped k.types → (span : Span) (x : List ℕ) (mark : ExprTree) → AreKnown C.meaning (reads Annotation mark) → IsLoud (declares C k span x mark)
     loud_declares k all span x mark u =
@@ -273,9 +282,10 @@ module _ (C : Context) where
 
     loud_head : (k : Known) → AllTyped k.types → (span : Span) (target e : ExprTree) → AreKnown C.meaning (target_sights target) → AreKnown C.meaning (reads Value e) → IsLoud (for_head C k span target e)
     loud_head k all span target e ut u =
-        let parts = both (target_aims C k target) (course C k e) in
+        let targets = aims_behind C k target (some_items (course C k e).got) in
+        let parts = both targets (course C k e) in
         loud_made (λ p. (targets_of p.0, p.1)) (rule span (head C.classes (is_flat target) (is_row target)) parts)
-        (loud_rule span (head C.classes (is_flat target) (is_row target)) parts (loud_both (target_aims C k target) (course C k e) (loud_targets k all target ut) (loud_course k all (range_arguments C e) e refl u)))
+        (loud_rule span (head C.classes (is_flat target) (is_row target)) parts (loud_both targets (course C k e) (loud_late k all target (some_items (course C k e).got) ut) (loud_course k all (range_arguments C e) e refl u)))
 
     loud_condition : (k : Known) → AllTyped k.types → (e : ExprTree) → AreKnown C.meaning (reads Value e) → IsLoud (condition C k e)
     loud_condition k all e u = loud_made truth (typed_at C k test e) (loud_value k all test e u)
@@ -285,11 +295,13 @@ module _ (C : Context) where
     quiet_assign : (k : Known) → AllTyped k.types → (span : Span) (target e : ExprTree) → AreKnown C.meaning (target_sights target ++ reads Value e) → (assigns C k span target e).said ≡ [] → AllTyped (binds C k span target e).types
     quiet_assign k all span target e u h =
         let g = quiet_got (assigns C k span target e) (loud_assigns k all span target e u) h in
-        let r = rule_given span (assigned C.classes target) (both (target_aims C k target) (value_for C k target e)) g.0 g.1 in
-        let b = both_given (target_aims C k target) (value_for C k target e) r.0 r.1 in
+        let value = value_for C k target e in
+        let targets = bound_aims C k target (option_map type_of value.got) in
+        let r = rule_given span (assigned C.classes target) (both targets value) g.0 g.1 in
+        let b = both_given targets value r.0 r.1 in
         let a = assigned_is C.classes target r.0 g.0 r.2 in
         subst (λ (l : Known). AllTyped l.types) (sym (bound_same k target (is_some (assigns C k span target e).got) (option_map type_of (value_for C k target e).got) (type_of r.0.1) (some_is (assigns C k span target e).got g.0 g.1) (ap (option_map type_of) b.1)))
-        (typed_bound k all target r.0.0 (aims_length C k (leaves target) r.0.0 b.0) (type_of r.0.1) a.bound)
+        (typed_bound k all target r.0.0 (looked_at C k target r.0.0 (option_map type_of value.got) (type_of r.0.1) b.0 (ap (option_map type_of) b.1)).many (type_of r.0.1) a.bound)
 
     quiet_name : (k : Known) → AllTyped k.types → (span : Span) (x : List ℕ) (target mark : ExprTree) (e : Option ExprTree) → name_in target ≡ Some x → AreKnown C.meaning (reads Annotation mark ++ maybe_reads Value e) → (annotates_name C k span x mark e).said ≡ [] → AllTyped (binds_annotated C k span (Some x) target mark e).types
     quiet_name k all span x target mark None n u h =
@@ -329,14 +341,15 @@ module _ (C : Context) where
     quiet_head k all s span target e ut u h =
         let hd = for_head C k span target e in
         let g = quiet_got hd (loud_head k all span target e ut u) h in
-        let parts = both (target_aims C k target) (course C k e) in
+        let targets = aims_behind C k target (some_items (course C k e).got) in
+        let parts = both targets (course C k e) in
         let m = made_given (λ p. (targets_of p.0, p.1)) (rule span (head C.classes (is_flat target) (is_row target)) parts) g.0 g.1 in
         let r = rule_given span (head C.classes (is_flat target) (is_row target)) parts m.0 m.1 in
-        let b = both_given (target_aims C k target) (course C k e) r.0 r.1 in
+        let b = both_given targets (course C k e) r.0 r.1 in
         let d = head_is C.classes target r.0 m.0 r.2 in
         let l = entering C k s in
         subst (λ (z : Known). AllTyped z.types) (sym (bound_same l target (is_some hd.got) (some_items (course C k e).got) d.0.item (some_is hd.got g.0 g.1) (ap some_items b.1 ∙ d.0.items)))
-        (typed_bound l all target r.0.0 (aims_length C k (leaves target) r.0.0 b.0) d.0.item d.0.bound)
+        (typed_bound l all target r.0.0 (looked_behind C k target r.0.0 (some_items (course C k e).got) d.0.item b.0 (ap some_items b.1 ∙ d.0.items)).many d.0.item d.0.bound)
 
     -- ---- statements
 

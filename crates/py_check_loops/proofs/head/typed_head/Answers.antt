@@ -1,0 +1,23 @@
+use Rattle.std.proofs.Common.{◌≡◌, List, [], map, rules, subst}
+use Rattle.std.specs.Option.{option_map, option_copied}
+use Rattle.py_syntax.specs.Expressions.{expr_tree}
+use Rattle.py_syntax_diagnostics.specs.declared.diagnostic.Diag.{Diag}
+use Rattle.py_typed.specs.Sorts.{sort}
+use Rattle.py_check_context.specs.Context.{context}
+use Rattle.py_check_messages.specs.Seen.{Tells}
+use Rattle.py_check_places.specs.Views.{known_at}
+use Rattle.py_check_loops.specs.Loops.{course}
+use Rattle.py_check_loops.specs.Heads.{some_items}
+use Rattle.py_check_loops.specs.Views.{course_seen}
+use Rattle.py_check_loops.proofs.HeadLemmas.{head_says}
+use Rattle.py_check_loops.proofs.head.typed_head.Goals as goal
+
+pub returns-clause-told : goal.returns-clause-told
+returns-clause-told c =
+    let scope = context c.args.scope.now in
+    let known = known_at c.args.place.now in
+    let e = expr_tree c.args.e.now in
+    let Over : List Diag → Type 0 = λ l. Tells course_seen c.in_ok-gone_over.gone_over l c.course_of.new.faults (course scope known e) in
+    let type : option_map sort (option_copied c.as_deref.result) ≡ some_items (option_map course_seen c.in_ok-gone_over.gone_over) = search (rules, c.as_deref.ensures, c.in_ok-items.ensures) in
+    head_says scope known c.args.span (expr_tree c.args.target.now) e c.in_ok-gone_over.gone_over c.course_of.new.faults c.in_ok-aims.aims (option_map sort (option_copied c.as_deref.result)) c.in_ok-head.head c.args.faults.now c.aims_behind.new.faults c.put_behind.new.faults c.head_of.new.faults
+    (subst Over c.new-said.ensures c.in_ok-gone_over.ensures) type c.in_ok-aims.ensures c.in_ok-put_behind.ensures c.in_ok-head.ensures
