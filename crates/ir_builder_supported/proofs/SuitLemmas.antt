@@ -1,6 +1,6 @@
 -- A well typed expression in which nothing is said to be not compiled suits, in a function whose variables are numbers, bools and
 -- texts, where the signature of each function is that of its definition.
-use Rattle.ir_builder_supported.proofs.Common.{◌≡◌, refl, sym, ◌∙◌, ap, subst, ℕ, Bool, true, false, List, [], ◌∷◌, ◌++◌, Option, Some, None, ◌⊎◌, ⊎_elim, or_cases, ℤ, pos, negsuc, not, ◌&&◌, if◌then◌else◌, slice_get, option_map, Span, Sort, sorts_of, Signature, is_same_type, are_same_types, is_nothing, TypedExpr, typed, TypedNode, Int, Str, Flag, Local, Neg, Not, Truth, Arith, Concat, Compare, And, Or, Cond, At, Call, Input, Len, ToStr, Coerce, TypedExprs, no_exprs, expr_then, Comparisons, no_comparisons, comparison_then, type_of, Variable, TypedFunc, TypedModule, is_in, facts, stands, parts_typed, are_values, chain_typed, rule, types_of, is_type, indexed, is_literal, reads_as, declared, call_fits, is_empty_call, and_left, and_right, one_type, parameter_sorts, is_bool, is_int, is_text, is_scalar, is_result, is_pair, is_whole, Suits, NodeSuits, ArgumentsSuit, ComparisonsSuit, Unbuilt, unbuilt, node_form, or_parts, are_pairs, is_form, expression_forms, part_forms, row_forms, chain_forms}
+use Rattle.ir_builder_supported.proofs.Common.{◌≡◌, refl, sym, ◌∙◌, ap, subst, ℕ, Bool, true, false, List, [], ◌∷◌, ◌++◌, Option, Some, None, ◌⊎◌, ⊎_elim, or_cases, ℤ, pos, negsuc, not, if◌then◌else◌, slice_get, option_map, Span, Sort, sorts_of, Signature, is_same_type, are_same_types, is_nothing, TypedExpr, typed, TypedNode, Int, Str, Flag, Local, Neg, Not, Truth, Arith, Concat, Compare, And, Or, Cond, At, Call, Input, Len, ToStr, Coerce, TypedExprs, no_exprs, expr_then, Comparisons, no_comparisons, comparison_then, type_of, Variable, TypedFunc, TypedModule, is_in, facts, stands, parts_typed, are_values, chain_typed, rule, types_of, is_type, indexed, is_literal, reads_as, declared, call_fits, is_empty_call, and_left, and_right, one_type, parameter_sorts, is_bool, is_int, is_text, is_scalar, is_result, is_pair, is_whole, Suits, NodeSuits, ArgumentsSuit, ComparisonsSuit, Unbuilt, unbuilt, node_form, or_parts, are_pairs, is_form, expression_forms, part_forms, row_forms, chain_forms}
 use Rattle.value_core.specs.Arithmetic.{lies_within}
 use Rattle.py_typed.specs.Sorts as sort
 use Rattle.py_typed.specs.Expressions.{Global}
