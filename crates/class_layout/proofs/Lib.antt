@@ -1,2 +1,4 @@
 pub mod MergeLemmas
 pub mod OrderLemmas
+pub mod LawLemmas
+pub mod LayoutLemmas

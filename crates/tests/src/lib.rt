@@ -10,6 +10,8 @@ mod case;
 #[cfg(test)]
 mod cell_heap_tests;
 #[cfg(test)]
+mod class_layout_tests;
+#[cfg(test)]
 mod liveness_tests;
 #[cfg(test)]
 mod outside_core_tests;

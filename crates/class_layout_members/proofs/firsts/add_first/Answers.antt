@@ -1,0 +1,15 @@
+use Rattle.std.proofs.Common.{rules, ◌≡◌, ◌+◌, ◌∙◌, true, false, ◌||◌, ◌&&◌, Some, None, ℕ, List, [], ◌∷◌, ◌++◌, map, drop, length, get_or, is_some, option_map, sym, ap, refl, arith}
+use Rattle.std.specs.List.{list_all, list_any}
+use Rattle.std.specs.Map.{lookup}
+use Rattle.std.specs.Option.{option_or}
+use Rattle.std.specs.Str.{bytes_eq}
+use Rattle.class_layout_members.proofs.RowLemmas.{from_place}
+use Rattle.indexmap.specs.IndexMap.{get}
+use Rattle.class_layout_members.proofs.FirstLemmas.{noted_first}
+use Rattle.class_layout_members.proofs.firsts.add_first.Goals as goal
+
+pub returns : goal.returns
+returns g c =
+    let new : is_some (get bytes_eq c.args.firsts.now c.args.name.now) ≡ false = search (rules, c.contains_key.ensures, c.if-contains_key.false) in
+    let copied : c.in_ok-clone.field-0 ≡ c.args.name.now = search rules in
+    noted_first (get bytes_eq c.args.firsts.now) c.args.name.now c.args.value (get bytes_eq c.insert.new.self) c.in_ok-clone.field-0 new copied c.in_ok-insert.ensures.updates.0

@@ -1,0 +1,13 @@
+use Rattle.std.proofs.Common.{◌≡◌, ◌≤◌, ◌++◌, ◌||◌, ◌&&◌, not, true, Some, ℕ, List, [], map, drop, find, length, is_some, flat_map}
+use Rattle.std.specs.List.{list_all, list_any}
+use Rattle.std.specs.Map.{lookup}
+use Rattle.std.specs.Option.{option_or, option_map}
+use Rattle.std.specs.Str.{bytes_eq}
+use Rattle.py_typed.specs.ClassTables.{class_table}
+use Rattle.class_layout_members.specs.Clashes.{members_along}
+use Rattle.class_layout_members.specs.Views.{member}
+use Rattle.class_layout_members.proofs.member.members_of.Given as goal
+
+abbrev pub invariant-loop-class : goal.invariant-loop-class
+invariant-loop-class l =
+    map member l.members ++ members_along (class_table l.classes) (drop l.class-index l.row) ≡ members_along (class_table l.classes) l.row
