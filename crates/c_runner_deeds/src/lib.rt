@@ -6,7 +6,7 @@
 //! `cell_heap`, and its cells stand in a heap of that crate, whose contracts know a cell by its key, of a slot and a serial. The
 //! machine knows it by its number, the serial alone. These are the same where each key is one that this heap gave out: `Cells`
 //! keeps that of what the cells hold, and `State` of its variables, its globals and its pending exception (`specs/Ours.antt`).
-#![tactic(auto, using(crate::proofs::WordReads::reads))]
+#![tactic(auto)]
 
 mod arguments;
 mod boxes;
