@@ -1,6 +1,5 @@
 pub mod PlainLemmas
 pub mod CellsLemmas
-pub mod WordReads
 pub mod OursLemmas
 pub mod FrameLemmas
 pub mod StateLemmas

@@ -103,7 +103,7 @@ impl Heap {
     ///
     /// # Errors
     ///
-    /// `Dead` exactly where the key is not in the map.
+    /// `Dead` for a key that the map does not have, and for no other.
     pub fn take(&mut self, key: Key) -> Result<(), Dead>
         requires { count_at self.old (number_in self.old (name_of key)) + 1 < 2 ^ 128 }
         ensures there { is_ok result ≡ is_some (held_at self.old (name_of key)) }
@@ -123,7 +123,7 @@ impl Heap {
     ///
     /// # Errors
     ///
-    /// `Dead` exactly where the key is not in the map.
+    /// `Dead` for a key that the map does not have, and for no other.
     pub fn give(&mut self, key: Key) -> Result<(), Dead>
         ensures there { is_ok result ≡ is_some (held_at self.old (name_of key)) }
         ensures ok { OnOk result (self.new ≡ release (refs_under self.old) self.old (number_in self.old (name_of key) ∷ [])) }
@@ -142,7 +142,7 @@ impl Heap {
     ///
     /// # Errors
     ///
-    /// `Dead` exactly where the key is not in the map.
+    /// `Dead` for a key that the map does not have, and for no other.
     pub fn content(&self, key: Key) -> Result<&Content, Dead>
         ensures { MatchResult result (λ content. held_at self.now (name_of key) ≡ Some (content_named content.now)) (λ _. held_at self.now (name_of key) ≡ None) }
     {
@@ -156,7 +156,7 @@ impl Heap {
     ///
     /// # Errors
     ///
-    /// `Dead` exactly where the key is not in the map.
+    /// `Dead` for a key that the map does not have, and for no other.
     pub fn count(&self, key: Key) -> Result<u128, Dead>
         ensures there { is_ok result ≡ is_some (held_at self.now (name_of key)) }
         ensures count { IfOk result (λ count. count ≡ count_at self.now (number_in self.now (name_of key))) }
@@ -172,7 +172,7 @@ impl Heap {
     ///
     /// # Errors
     ///
-    /// `Dead` exactly where the key is not in the map.
+    /// `Dead` for a key that the map does not have, and for no other.
     pub fn word_at(&self, key: Key, place: usize) -> Result<Option<Word>, Dead>
         ensures there { is_ok result ≡ is_some (held_at self.now (name_of key)) }
         ensures word { IfOk result (λ word. option_map word_named word ≡ option_and_then (word_in place) (held_at self.now (name_of key))) }
@@ -189,7 +189,7 @@ impl Heap {
     ///
     /// # Errors
     ///
-    /// `Dead` exactly where the key is not in the map; then the heap is as before.
+    /// `Dead` for a key that the map does not have, and for no other; then the heap is as before.
     pub fn set_word(
         &mut self,
         key: Key,
@@ -212,7 +212,7 @@ impl Heap {
     ///
     /// # Errors
     ///
-    /// `Dead` exactly where the key is not in the map, and `Memory`; then the heap is as before.
+    /// `Dead` for a key that the map does not have and for no other, and `Memory`; then the heap is as before.
     pub fn push_word(&mut self, key: Key, word: Word) -> Result<(), HeapError>
         requires { IfSome (held_at self.old (name_of key)) (λ content. is_list content ≡ true) }
         ensures there { is_dead result ≡ is_none (held_at self.old (name_of key)) }
@@ -232,7 +232,7 @@ impl Heap {
     ///
     /// # Errors
     ///
-    /// `Dead` exactly where the key is not in the map; then the heap is as before.
+    /// `Dead` for a key that the map does not have, and for no other; then the heap is as before.
     pub fn pop_word(&mut self, key: Key) -> Result<Option<Word>, Dead>
         ensures there { is_ok result ≡ is_some (held_at self.old (name_of key)) }
         ensures ok { OnOk result (self.new ≡ refill_held without_last (name_of key) self.old) }
@@ -273,7 +273,7 @@ impl Heap {
     ///
     /// # Errors
     ///
-    /// `Dead` exactly where the key is not in the map, and `Memory`; then the heap is as before.
+    /// `Dead` for a key that the map does not have and for no other, and `Memory`; then the heap is as before.
     pub fn dict_push(&mut self, dict: Key, pair: (Word, Word)) -> Result<(), HeapError>
         requires { IfSome (held_at self.old (name_of dict)) (λ content. is_dict content ≡ true) }
         ensures there { is_dead result ≡ is_none (held_at self.old (name_of dict)) }
@@ -295,7 +295,7 @@ impl Heap {
     ///
     /// # Errors
     ///
-    /// `Dead` exactly where the key is not in the map; then the heap is as before.
+    /// `Dead` for a key that the map does not have, and for no other; then the heap is as before.
     pub fn dict_take(&mut self, dict: Key, place: usize) -> Result<Option<(Word, Word)>, Dead>
         ensures there { is_ok result ≡ is_some (held_at self.old (name_of dict)) }
         ensures ok { OnOk result (self.new ≡ refill_held (without_pair place) (name_of dict) self.old) }
