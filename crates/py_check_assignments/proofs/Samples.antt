@@ -12,20 +12,27 @@ use Rattle.py_typed.specs.Sorts.{no_sorts, sort_then}
 use Rattle.py_check_context.specs.declared.scope.Meaning.{Meaning}
 use Rattle.py_check_context.specs.declared.scope.Meaning.TheVariants as meaning
 use Rattle.py_check_context.specs.declared.scope.Builtin.TheVariants as builtin
-use Rattle.py_check_context.specs.Context.{Context, unset, untyped, has}
+use Rattle.py_check_context.specs.Context.{Context, VarSort, unset, untyped, has}
 use Rattle.py_check_messages.specs.Seen.{diag}
-use Rattle.py_check_messages.specs.Messages.{no_target, already_defined, wrong_assignment}
+use Rattle.py_check_messages.specs.Messages.{no_target, already_defined, wrong_assignment, invalid_index}
 use Rattle.py_check_places.specs.Places.{Known}
 use Rattle.py_check_assignments.specs.Assignments.{assigns, binds, annotates, binds_annotated}
 
 abbrev p : Span
 p = record { line = 1; col = 1 }
 
--- in a function f(x: Optional[int], w: tuple[int, str]) with two more names of its own, of which z is of no type for good
+-- in a function f(x: Optional[int], w: tuple[int, str], l: list[int], v: tuple[Optional[int], int]) with two more names of its own,
+-- of which z is of no type for good
 abbrev names : List (List ℕ × Meaning)
 names =
     (codes "x", meaning.Local 0) ∷ (codes "w", meaning.Local 1) ∷ (codes "y", meaning.Local 2) ∷ (codes "z", meaning.Local 3)
-    ∷ (codes "int", meaning.Builtin builtin.Int) ∷ []
+    ∷ (codes "l", meaning.Local 4) ∷ (codes "v", meaning.Local 5) ∷ (codes "int", meaning.Builtin builtin.Int) ∷ []
+
+-- the types of its names, with this one of y
+abbrev types_with : VarSort → List VarSort
+types_with y =
+    has (sort.Optional sort.Int) ∷ has (sort.TupleOf (sort_then sort.Int (sort_then sort.Str no_sorts))) ∷ y ∷ untyped
+    ∷ has (sort.ListOf sort.Int) ∷ has (sort.TupleOf (sort_then (sort.Optional sort.Int) (sort_then sort.Int no_sorts))) ∷ []
 
 abbrev c : Context
 c = record {
@@ -37,10 +44,10 @@ c = record {
 abbrev start : Known
 start = record {
   types = record {
-    locals = has (sort.Optional sort.Int) ∷ has (sort.TupleOf (sort_then sort.Int (sort_then sort.Str no_sorts))) ∷ unset ∷ untyped ∷ [];
+    locals = types_with unset;
     globals = [];
   };
-  locals_bound = 0 ∷ 1 ∷ [];
+  locals_bound = 0 ∷ 1 ∷ 4 ∷ 5 ∷ [];
   globals_bound = [];
   names = 0 ∷ [];
 }
@@ -71,6 +78,14 @@ twice = refl
 nested : says (pair (name (codes "x")) (pair (name (codes "y")) (name (codes "y")))) (name (codes "w")) ≡ diag p no_target ∷ []
 nested = refl
 
+-- `x, l[x] = 1, 1`: behind the first target x is an int
+known_behind : says (pair (name (codes "x")) (at (tree.Index (name (codes "l")) (name (codes "x"))) p)) (pair one one) ≡ []
+known_behind = refl
+
+-- `x, l[x] = v`: there it may be None
+unknown_behind : says (pair (name (codes "x")) (at (tree.Index (name (codes "l")) (name (codes "x"))) p)) (name (codes "v")) ≡ diag p (invalid_index [] (sort.Optional sort.Int) (sort.ListOf sort.Int) sort.Int) ∷ []
+unknown_behind = refl
+
 -- `1 = 1`
 no_name : says one one ≡ diag p no_target ∷ []
 no_name = refl
@@ -84,10 +99,10 @@ forgotten : (behind (name (codes "x")) nothing).names ≡ []
 forgotten = refl
 
 -- behind `y = 1` it is an int; behind `y = None` it has no type for good
-typed : (behind (name (codes "y")) one).types.locals ≡ has (sort.Optional sort.Int) ∷ has (sort.TupleOf (sort_then sort.Int (sort_then sort.Str no_sorts))) ∷ has sort.Int ∷ untyped ∷ []
+typed : (behind (name (codes "y")) one).types.locals ≡ types_with (has sort.Int)
 typed = refl
 
-refused : (behind (name (codes "y")) nothing).types.locals ≡ has (sort.Optional sort.Int) ∷ has (sort.TupleOf (sort_then sort.Int (sort_then sort.Str no_sorts))) ∷ untyped ∷ untyped ∷ []
+refused : (behind (name (codes "y")) nothing).types.locals ≡ types_with untyped
 refused = refl
 
 -- `x: int = 1` behind a parameter, and `1: int`

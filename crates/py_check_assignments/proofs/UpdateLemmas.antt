@@ -24,7 +24,8 @@ use Rattle.py_check_operators.specs.Operators.{arithmetic, arithmetic_type}
 use Rattle.py_check_coercions.proofs.PartLemmas.{type_at}
 use Rattle.py_check_operators.proofs.OperatorLemmas.{arithmetic_has_type}
 use Rattle.py_check_values.specs.Assignments.{binding_fault}
-use Rattle.py_check_targets.specs.Targets.{Aim, is_placed, slot_of, target_of, written_back, updated_to, of_operation, updated}
+use Rattle.py_check_values.specs.Aims.{Aim}
+use Rattle.py_check_targets.specs.Targets.{is_placed, target_of, written_back, updated_to, of_operation, updated}
 use Rattle.py_check_targets.specs.Views.{boxed_act}
 use Rattle.py_check_assignments.specs.Views.{boxed_sort}
 
@@ -92,7 +93,7 @@ no_target_says span o b s ts r old new is h =
 -- ---- the result is bound to a target, where that may be
 
 abbrev by_place : List ClassEntry → Aim → BinOp → TypedExpr → Sort → Bool → Result TypedAct Message
-by_place classes a o b s placed = if placed then written_back o b s (binding_fault classes (slot_of a) s) (target_of a) else Err no_target
+by_place classes a o b s placed = if placed then written_back o b s (binding_fault classes a s) (target_of a) else Err no_target
 
 pub misplaced_says : (classes : List ClassEntry) (span : Span) (a : Aim) (o : BinOp) (b : TypedExpr) (s : Sort) (r : Result (Option (Box TStmtKind Global)) Memory) (old new : List Diag) → is_placed a ≡ false → IfOk r (λ t. Tells boxed_act t old new (fails {A = TypedAct} span no_target)) → IfOk r (λ t. Tells boxed_act t old new (judged span (updated_to classes a o b s)))
 misplaced_says classes span a o b s r old new unplaced h =
@@ -103,10 +104,10 @@ fault_so : (span : Span) (o : BinOp) (b : TypedExpr) (s : Sort) (fault : Option 
 fault_so span o b s None ts right old new found wrong = absurd (let clash : true ≡ false = sym found.0 ∙ wrong in cc)
 fault_so span o b s (Some m) ts right old new found wrong = (refl, found.1)
 
-pub unbound_says : (classes : List ClassEntry) (span : Span) (a : Aim) (o : BinOp) (b : TypedExpr) (s : Sort) (right : Bool) (old new : List Diag) → is_placed a ≡ true → Finds right old new span (binding_fault classes (slot_of a) s) → right ≡ false → Tells boxed_act None old new (judged span (updated_to classes a o b s))
+pub unbound_says : (classes : List ClassEntry) (span : Span) (a : Aim) (o : BinOp) (b : TypedExpr) (s : Sort) (right : Bool) (old new : List Diag) → is_placed a ≡ true → Finds right old new span (binding_fault classes a s) → right ≡ false → Tells boxed_act None old new (judged span (updated_to classes a o b s))
 unbound_says classes span a o b s right old new placed found wrong =
     let P : Bool → Type 0 = λ p. Tells boxed_act None old new (judged span (by_place classes a o b s p)) in
-    subst P (sym placed) (fault_so span o b s (binding_fault classes (slot_of a) s) (target_of a) right old new found wrong)
+    subst P (sym placed) (fault_so span o b s (binding_fault classes a s) (target_of a) right old new found wrong)
 
 no_fault_so : (span : Span) (o : BinOp) (b : TypedExpr) (s : Sort) (fault : Option Message) (ts : List TypedTarget) (right : Bool) (r : Result (Option (Box TStmtKind Global)) Memory) (old mid new : List Diag) → Finds right old mid span fault → right ≡ true → IfOk r (λ t. Tells boxed_act t mid new (judged span (written_back o b s None ts))) → IfOk r (λ t. Tells boxed_act t old new (judged span (written_back o b s fault ts)))
 no_fault_so span o b s (Some m) ts right r old mid new found holds h = absurd (let clash : false ≡ true = sym found.0 ∙ holds in cc)
@@ -114,7 +115,7 @@ no_fault_so span o b s None ts right r old mid new found holds h =
     let P : List Diag → Type 0 = λ l. IfOk r (λ t. Tells boxed_act t l new (judged span (written_back o b s None ts))) in
     subst P found.1 h
 
-pub bound_says : (classes : List ClassEntry) (span : Span) (a : Aim) (o : BinOp) (b : TypedExpr) (s : Sort) (right : Bool) (r : Result (Option (Box TStmtKind Global)) Memory) (old mid new : List Diag) → is_placed a ≡ true → Finds right old mid span (binding_fault classes (slot_of a) s) → right ≡ true → IfOk r (λ t. Tells boxed_act t mid new (judged span (written_back o b s None (target_of a)))) → IfOk r (λ t. Tells boxed_act t old new (judged span (updated_to classes a o b s)))
+pub bound_says : (classes : List ClassEntry) (span : Span) (a : Aim) (o : BinOp) (b : TypedExpr) (s : Sort) (right : Bool) (r : Result (Option (Box TStmtKind Global)) Memory) (old mid new : List Diag) → is_placed a ≡ true → Finds right old mid span (binding_fault classes a s) → right ≡ true → IfOk r (λ t. Tells boxed_act t mid new (judged span (written_back o b s None (target_of a)))) → IfOk r (λ t. Tells boxed_act t old new (judged span (updated_to classes a o b s)))
 bound_says classes span a o b s right r old mid new placed found holds h =
     let P : Bool → Type 0 = λ p. IfOk r (λ t. Tells boxed_act t old new (judged span (by_place classes a o b s p))) in
-    subst P (sym placed) (no_fault_so span o b s (binding_fault classes (slot_of a) s) (target_of a) right r old mid new found holds h)
+    subst P (sym placed) (no_fault_so span o b s (binding_fault classes a s) (target_of a) right r old mid new found holds h)

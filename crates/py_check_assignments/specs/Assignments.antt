@@ -1,8 +1,9 @@
 -- Assignments, with an annotation or with an operation, and what they bind (Python Language Reference, "Assignment statements";
 -- PEP 526).
 --
--- All names of a target are bound, whether the whole holds or is refused. A value is asked for what its targets ask for.
-use Rattle.std.specs.Prelude.{ℕ, Bool, false, List, length, Option, Some, None, is_some, if◌then◌else◌}
+-- All names of a target are bound, whether the whole holds or is refused. A value is asked for the types that its targets have
+-- already.
+use Rattle.std.specs.Prelude.{ℕ, false, List, Option, Some, None, is_some, if◌then◌else◌}
 use Rattle.std.specs.Option.{option_map}
 use Rattle.py_syntax.specs.declared.token.Span.{Span}
 use Rattle.py_syntax.specs.declared.expression.BinOp.{BinOp}
@@ -19,7 +20,7 @@ use Rattle.py_check_annotations.specs.Annotations.{annotation}
 use Rattle.py_check_coercions.specs.Several.{with_part}
 use Rattle.py_check_places.specs.Places.{Known, variable_at, is_bound}
 use Rattle.py_check_places.specs.Shapes.{is_row, is_item, bind_target}
-use Rattle.py_check_targets.specs.Targets.{target_aims, asked_by, assigned, declared, given, updated, name_aim, read_aim, seen_aim, typed_at}
+use Rattle.py_check_targets.specs.Targets.{target_aims, bound_aims, asked_by, assigned, declared, given, updated, name_aim, read_aim, seen_aim, typed_at}
 
 -- what a variable asks of its value
 abbrev pub asked : VarSort → Wanted
@@ -34,7 +35,8 @@ module _ (c : Context) where
   value_for k target e = typed_at c k (asked_by (is_row target) (target_aims c k target).got) e
 
   abbrev pub assigns : Known → Span → ExprTree → ExprTree → Seen TypedAct
-  assigns k span target e = rule span (assigned c.classes target) (both (target_aims c k target) (value_for k target e))
+  assigns k span target e =
+      rule span (assigned c.classes target) (both (bound_aims c k target (option_map type_of (value_for k target e).got)) (value_for k target e))
 
   abbrev pub binds : Known → Span → ExprTree → ExprTree → Known
   binds k span target e = bind_target c (is_some (assigns k span target e).got) k target (option_map type_of (value_for k target e).got)

@@ -17,7 +17,8 @@ ghost use Rattle.py_check_places.specs.Places as places;
 ghost use Rattle.py_check_targets.specs.Targets as rule_of;
 ghost use Rattle.py_check_assignments.specs.Assignments as rules_of;
 ghost use Rattle.py_check_places.specs.Views.{known_at};
-ghost use Rattle.py_check_targets.specs.Views.{aim_seen, boxed_aim, boxed_act};
+ghost use Rattle.py_check_values.specs.Aims.{aim_seen};
+ghost use Rattle.py_check_targets.specs.Views.{boxed_aim, boxed_act};
 ghost use Rattle.py_check_assignments.specs.Views.{Shows};
 
 use crate::assignments::{Assignment, act_of, kept, put_target};
@@ -27,8 +28,8 @@ use py_check_context::{Context, Meaning, VarType, Want, meaning_of};
 use py_check_flow::name_in;
 use py_check_messages::{already_defined, cannot_assign};
 use py_check_places::{Place, bind_target};
-use py_check_targets::{Aim, in_box, name_aim, slot_of, typed_at, value_type};
-use py_check_values::assigned;
+use py_check_targets::{in_box, name_aim, typed_at, value_type};
+use py_check_values::{Aim, assigned};
 use py_syntax::{Expr, Span};
 use py_syntax_diagnostics::Diag;
 use py_typed::{Classes, TExpr, TStmtKind, Ty};
@@ -274,7 +275,7 @@ fn given_all(
     if !may_be_annotated(alloc, span, x, bound, &aim, faults)? {
         return Ok(None);
     }
-    let e = assigned(alloc, classes, span, slot_of(&aim), Some(e), faults)?;
+    let e = assigned(alloc, classes, span, &aim, Some(e), faults)?;
     act_on(alloc, aim, e)
 }
 

@@ -1,7 +1,7 @@
 //! Assignments.
 ghost use Rattle.std.specs.Prelude.{◌≡◌, [], ◌∷◌, ◌++◌, map, IfOk, MatchOption};
 ghost use Rattle.std.specs.List.{list_all};
-ghost use Rattle.std.specs.Option.{option_map, option_zip};
+ghost use Rattle.std.specs.Option.{option_copied, option_map, option_zip};
 ghost use Rattle.py_syntax.specs.Expressions.{expr_tree};
 ghost use Rattle.py_typed.specs.Sorts.{sort};
 ghost use Rattle.py_typed.specs.Classes.{class_entry};
@@ -9,21 +9,24 @@ ghost use Rattle.py_typed.specs.Expressions.{type_of};
 ghost use Rattle.py_typed.specs.Statements as acts;
 ghost use Rattle.py_typed.specs.Statements.{typed_target};
 ghost use Rattle.py_check_context.specs.Context.{context};
-ghost use Rattle.py_check_messages.specs.Seen.{Tells, fails, judged, ruled};
+ghost use Rattle.py_check_messages.specs.Seen.{Tells, both, fails, judged, rule, ruled};
 ghost use Rattle.py_check_messages.specs.Messages as message;
 ghost use Rattle.py_check_coercions.specs.Boxes.{boxed};
 ghost use Rattle.py_check_coercions.specs.Several.{unless};
+ghost use Rattle.py_check_values.specs.Aims.{aim_seen};
+ghost use Rattle.py_check_places.specs.Shapes as shapes;
 ghost use Rattle.py_check_targets.specs.Targets as rule_of;
 ghost use Rattle.py_check_assignments.specs.Assignments as rules_of;
 ghost use Rattle.py_check_places.specs.Views.{known_at};
-ghost use Rattle.py_check_targets.specs.Views.{aim_seen, boxed_act};
+ghost use Rattle.py_check_targets.specs.Views.{aims_seen, boxed_act};
+ghost use Rattle.py_check_assignments.specs.Views.{value_seen};
 
 use crate::parts::refused;
 use py_check_context::Context;
 use py_check_messages::no_target;
 use py_check_places::{Place, bind_target, is_flat, is_row};
-use py_check_targets::{Aim, binds_several, slot_of, target_aims, value_for, value_type};
-use py_check_values::assigned;
+use py_check_targets::{binds_several, bound_aims, put_behind, target_aims, value_for, value_type};
+use py_check_values::{Aim, assigned};
 use py_syntax::{Expr, Span};
 use py_syntax_diagnostics::Diag;
 use py_typed::{Classes, TExpr, TStmtKind, Target, Ty};
@@ -71,16 +74,50 @@ fn typed_assignment(
     ensures told { IfOk result (λ a. Tells boxed_act a.kind faults.old faults.new (rules_of.assigns (context scope.now) (known_at place.now) span (expr_tree target.now) (expr_tree e.now))) }
     ensures value { IfOk result (λ a. option_map sort a.value ≡ option_map type_of (rules_of.value_for (context scope.now) (known_at place.now) (expr_tree target.now) (expr_tree e.now)).got) }
 {
-    let aims = target_aims(alloc, scope, place, target, faults)?;
-    let e = value_for(alloc, scope, place, is_row(target), &aims, e, faults)?;
+    let mut said = Many::new(alloc);
+    let early = target_aims(alloc, scope, place, target, &mut said)?;
+    let mut of_value = Many::new(alloc);
+    let e = value_for(
+        alloc,
+        scope,
+        place,
+        is_row(target),
+        &early,
+        e,
+        &mut of_value,
+    )?;
     let value = value_type(alloc, &e)?;
-    match assigned_to(alloc, scope.classes, span, target, aims, e, faults) {
+    let t = value.as_ref();
+    match behind_value(
+        alloc, scope, place, span, target, early, said, e, of_value, t, faults,
+    ) {
         Ok(kind) => Ok(Assignment { kind, value }),
         Err(memory) => {
             drop(value);
             Err(memory)
         }
     }
+}
+
+// A value, of this type if it has one, that is assigned to targets which were looked at before it.
+fn behind_value(
+    alloc: Global,
+    scope: &Context<'_>,
+    place: &Place,
+    span: Span,
+    target: &Expr,
+    early: Option<Many<Aim<'_>>>,
+    said: Many<Diag>,
+    e: Option<Box<TExpr>>,
+    of_value: Many<Diag>,
+    t: Option<&Ty>,
+    faults: &mut Many<Diag>,
+) -> Result<Option<Box<TStmtKind>>, Memory>
+    ensures { IfOk result (λ r. Tells boxed_act r faults.old faults.new (rule span (rule_of.assigned (context scope.now).classes (expr_tree target.now)) (both (rule_of.settled (shapes.is_row (expr_tree target.now)) (aims_seen early.entry said) (rule_of.aims_behind (context scope.now) (known_at place.now) (expr_tree target.now) (option_map sort (option_copied t.entry)))) (value_seen e of_value)))) }
+{
+    let aims = bound_aims(alloc, scope, place, target, early, said, t, faults)?;
+    put_behind(faults, of_value)?;
+    assigned_to(alloc, scope.classes, span, target, aims, e, faults)
 }
 
 // A value that is assigned to these targets.
@@ -203,7 +240,7 @@ fn one_assigned(
     ensures { IfOk result (λ t. Tells boxed t faults.old faults.new (judged span (rule_of.one_assigned (map class_entry classes.now.list) (map aim_seen aims.now) (boxed e)))) }
 {
     match aims {
-        [a] => assigned(alloc, classes, span, slot_of(a), Some(e), faults),
+        [a] => assigned(alloc, classes, span, a, Some(e), faults),
         [] => not_single(alloc, span, faults),
         [_, _, ..] => not_single(alloc, span, faults),
     }

@@ -16,7 +16,9 @@ ghost use Rattle.py_check_places.specs.Shapes as shapes;
 ghost use Rattle.py_check_targets.specs.Targets as targets;
 ghost use Rattle.py_check_assignments.specs.Assignments as rules_of;
 ghost use Rattle.py_check_places.specs.Views.{known_at};
-ghost use Rattle.py_check_targets.specs.Views.{aim_seen, boxed_aim, boxed_act};
+ghost use Rattle.py_check_values.specs.Aims as aims;
+ghost use Rattle.py_check_values.specs.Aims.{aim_seen};
+ghost use Rattle.py_check_targets.specs.Views.{boxed_aim, boxed_act};
 ghost use Rattle.py_check_assignments.specs.Views.{boxed_sort};
 
 use crate::assignments::{is_placed, kept, written};
@@ -25,8 +27,8 @@ use py_check_context::{Context, Meaning, Want, meaning_of};
 use py_check_flow::name_in;
 use py_check_operators::arithmetic_type;
 use py_check_places::{Place, bind_target, is_item, is_row};
-use py_check_targets::{Aim, name_aim, slot_of, typed_at, value_aim};
-use py_check_values::binds;
+use py_check_targets::{name_aim, typed_at, value_aim};
+use py_check_values::{Aim, binds};
 use py_syntax::{BinOp, Expr, Span};
 use py_syntax_diagnostics::Diag;
 use py_typed::{Classes, TExpr, TStmtKind, Target, Ty};
@@ -193,7 +195,7 @@ fn read_name<'a>(
     meaning: Meaning,
     read: Box<TExpr>,
 ) -> Result<Box<Aim<'a>>, Memory>
-    ensures { IfOk result (λ a. boxed_aim a ≡ unwrap_or (targets.name_aim (known_at place.now) x.now meaning) (targets.misplaced (type_of (boxed read)))) }
+    ensures { IfOk result (λ a. boxed_aim a ≡ unwrap_or (targets.name_aim (known_at place.now) x.now meaning) (aims.misplaced (type_of (boxed read)))) }
 {
     match name_aim(alloc, place, x, meaning)? {
         Some(aim) => in_box(alloc, aim),
@@ -223,7 +225,7 @@ fn updated_to(
     if !is_placed(&aim) {
         return refused(alloc, span, faults);
     }
-    if !binds(alloc, classes, span, slot_of(&aim), &ty, faults)? {
+    if !binds(alloc, classes, span, &aim, &ty, faults)? {
         return Ok(None);
     }
     written_back(alloc, span, aim, op, e, ty, faults)

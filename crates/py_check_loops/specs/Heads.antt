@@ -2,7 +2,8 @@
 -- statement").
 --
 -- What is gone over is evaluated where the loop is entered, and the names that the loop binds are dropped behind that. All names of
--- the target are bound, whether the head holds or is refused.
+-- the target are bound, whether the head holds or is refused. Nothing is asked of what is gone over, and the targets are looked at
+-- with what its items make known.
 use Rattle.std.specs.Prelude.{List, Option, Some, None, is_some}
 use Rattle.py_syntax.specs.declared.token.Span.{Span}
 use Rattle.py_syntax.specs.Expressions.{ExprTree}
@@ -12,12 +13,11 @@ use Rattle.py_typed.specs.Statements.{TypedTarget}
 use Rattle.py_check_context.specs.Context.{Context}
 use Rattle.py_check_messages.specs.Seen.{Seen, both, rule, made}
 use Rattle.py_check_places.specs.Places.{Known, entering}
-use Rattle.py_check_places.specs.Shapes.{is_row, is_flat}
-use Rattle.py_check_targets.specs.Targets.{targets_of}
-use Rattle.py_check_places.specs.Shapes.{bind_target}
-use Rattle.py_check_targets.specs.Targets.{target_aims}
+use Rattle.py_check_places.specs.Shapes.{is_row, is_flat, bind_target}
+use Rattle.py_check_targets.specs.Targets.{targets_of, aims_behind}
 use Rattle.py_check_loops.specs.Loops.{Course, course, course_items, head}
 
+-- the type of the items, if there are such
 abbrev pub some_items : Option Course → Option Sort
 some_items None = None
 some_items (Some w) = course_items w
@@ -26,7 +26,7 @@ module _ (c : Context) where
   -- the targets, and what is gone over
   abbrev pub for_head : Known → Span → ExprTree → ExprTree → Seen (List TypedTarget × Course)
   for_head k span target e =
-      made (λ p. (targets_of p.0, p.1)) (rule span (head c.classes (is_flat target) (is_row target)) (both (target_aims c k target) (course c k e)))
+      made (λ p. (targets_of p.0, p.1)) (rule span (head c.classes (is_flat target) (is_row target)) (both (aims_behind c k target (some_items (course c k e).got)) (course c k e)))
 
   -- what is known where the body begins
   abbrev pub in_for : Known → StmtTree → Span → ExprTree → ExprTree → Known

@@ -26,9 +26,10 @@ use Rattle.py_check_coercions.specs.Several.{unless}
 use Rattle.py_check_calls.specs.Callees.{has_key}
 use Rattle.py_check_calls.specs.Calls.{positional}
 use Rattle.py_check_expressions.specs.Typing.{arguments}
+use Rattle.py_check_values.specs.Aims.{Aim}
 use Rattle.py_check_values.specs.Assignments.{binding_fault}
 use Rattle.py_check_places.specs.Places.{Known}
-use Rattle.py_check_targets.specs.Targets.{Aim, slot_of, is_name_aim, several_fault, typed_at}
+use Rattle.py_check_targets.specs.Targets.{is_name_aim, several_fault, typed_at}
 
 -- the bounds of a range, or a value
 pub data Course : Type 0 where
@@ -107,7 +108,7 @@ module _ (c : Context) where
 -- what is wrong where items of a type are bound to targets
 abbrev pub items_fault : List ClassEntry → Bool → List Aim → Sort → Option Message
 items_fault classes true aims t = several_fault classes aims t
-items_fault classes false (a ∷ []) t = binding_fault classes (slot_of a) t
+items_fault classes false (a ∷ []) t = binding_fault classes a t
 items_fault classes false aims t = Some no_target
 
 abbrev pub are_names : Bool → List Aim → Bool

@@ -13,7 +13,8 @@ ghost use Rattle.py_check_coercions.specs.Boxes.{boxed};
 ghost use Rattle.py_check_places.specs.Places as places;
 ghost use Rattle.py_check_targets.specs.Targets as targets;
 ghost use Rattle.py_check_places.specs.Views.{known_at};
-ghost use Rattle.py_check_targets.specs.Views.{aim_seen, boxed_act};
+ghost use Rattle.py_check_values.specs.Aims.{aim_seen};
+ghost use Rattle.py_check_targets.specs.Views.{boxed_act};
 ghost use Rattle.py_check_loops.specs.Loops as loops;
 ghost use Rattle.py_check_loops.specs.Heads as rule_of;
 ghost use Rattle.py_check_loops.specs.Views.{boxed_head, boxed_sort, course_seen};
@@ -22,8 +23,8 @@ use crate::course::{Course, course_items, course_of, course_type};
 use py_check_context::Context;
 use py_check_messages::{no_target, not_iterable};
 use py_check_places::{Place, bind_target, enter, is_flat, is_row};
-use py_check_targets::{Aim, binds_several, slot_of, target_aims};
-use py_check_values::binds;
+use py_check_targets::{aims_behind, binds_several, put_behind};
+use py_check_values::{Aim, binds};
 use py_syntax::{Expr, Span, Stmt};
 use py_syntax_diagnostics::Diag;
 use py_typed::{Classes, TExpr, TStmt, TStmtKind, Target, Ty, copy_of};
@@ -86,9 +87,11 @@ fn typed_head(
     ensures told { IfOk result (λ found. Tells boxed_head found.head faults.old faults.new (rule_of.for_head (context scope.now) (known_at place.now) span (expr_tree target.now) (expr_tree e.now))) }
     ensures items { IfOk result (λ found. option_map boxed_sort found.items ≡ rule_of.some_items (loops.course (context scope.now) (known_at place.now) (expr_tree e.now)).got) }
 {
-    let aims = target_aims(alloc, scope, place, target, faults)?;
-    let gone_over = course_of(alloc, scope, place, e, faults)?;
+    let mut said = Many::new(alloc);
+    let gone_over = course_of(alloc, scope, place, e, &mut said)?;
     let items = items_copied(alloc, &gone_over)?;
+    let aims = aims_behind(alloc, scope, place, target, items.as_deref(), faults)?;
+    put_behind(faults, said)?;
     let head = head_of(
         alloc,
         scope.classes,
@@ -226,7 +229,7 @@ fn binds_items(
         return binds_several(alloc, classes, span, aims, t, faults);
     }
     match aims {
-        [a] => binds(alloc, classes, span, slot_of(a), t, faults),
+        [a] => binds(alloc, classes, span, a, t, faults),
         [] | [_, _, ..] => {
             no_target(alloc, span, faults)?;
             Ok(false)

@@ -50,6 +50,11 @@ is_plain (Some t) = not (may_be_none t)
 abbrev pub rebound : ℕ → Option Sort → List ℕ → List ℕ
 rebound i t names = if is_plain t then i ∷ without (i ∷ []) names else without (i ∷ []) names
 
+-- the names that are known behind the binding of a variable: one of the module's own is not among them
+abbrev pub names_behind : Meaning → Option Sort → List ℕ → List ℕ
+names_behind (meaning.Local i) t names = rebound i t names
+names_behind m t names = names
+
 -- to a value of this type, if it has one
 abbrev pub bind_variable : Bool → Known → Meaning → Option Sort → Known
 bind_variable ok k (meaning.Local i) t = record {
@@ -84,6 +89,11 @@ module _ (c : Context) where
   abbrev pub bind_name : Bool → Known → Option (List ℕ) → Option Sort → Known
   bind_name ok k None t = k
   bind_name ok k (Some x) t = bind_variable ok k (c.meaning x) t
+
+  -- the names that are known behind a target with this name, if it is one
+  abbrev pub known_behind : Option (List ℕ) → Option Sort → List ℕ → List ℕ
+  known_behind None t names = names
+  known_behind (Some x) t names = names_behind (c.meaning x) t names
 
   -- to the parts of a value, as far as these are known
   abbrev pub bind_names : Bool → Known → List (Option (List ℕ)) → List Sort → Known

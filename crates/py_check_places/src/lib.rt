@@ -10,6 +10,6 @@ mod places;
 mod shapes;
 
 pub use names::bind_target;
-pub use parts::some_parts;
-pub use places::{Place, all_known, bind_name, enter, learn, meet, put_local, without};
+pub use parts::{parts_of, some_parts};
+pub use places::{Place, all_known, bind_name, enter, known_behind, learn, meet};
 pub use shapes::{is_flat, is_item, is_row, leaves};

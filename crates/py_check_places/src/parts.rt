@@ -9,7 +9,7 @@ use py_typed::Ty;
 use std::slice::from_ref;
 
 /// The types of the parts of a value for so many targets, as far as there are such.
-pub(crate) fn parts_of(several: bool, n: usize, t: Option<&Ty>) -> &[Ty]
+pub fn parts_of(several: bool, n: usize, t: Option<&Ty>) -> &[Ty]
     ensures { map sort result.now ≡ shapes.parts_of several n (option_map sort (option_copied t.entry)) }
 {
     match t {

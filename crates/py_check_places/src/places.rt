@@ -68,8 +68,8 @@ fn locals_among(
     Ok(found)
 }
 
-/// Puts a variable of the function's own, if it is one, behind those that there are.
-pub fn put_local(found: &mut Vec<usize>, meaning: Meaning) -> Result<(), Memory>
+// Puts a variable of the function's own, if it is one, behind those that there are.
+fn put_local(found: &mut Vec<usize>, meaning: Meaning) -> Result<(), Memory>
     ensures { IfOk result (λ done. found.new.items ≡ found.old.items ++ local_of meaning) }
 {
     if let Meaning::Local(i) = meaning {
@@ -147,6 +147,37 @@ fn bind_variable(
     }
 }
 
+/// The names that are known to be not None behind a target with this name, if it is one, that is bound to a value of this type, if
+/// it has one.
+pub fn known_behind(
+    alloc: Global,
+    scope: &Context<'_>,
+    x: Option<&Name>,
+    t: Option<&Ty>,
+    names: &[usize],
+) -> Result<Vec<usize>, Memory>
+    ensures { IfOk result (λ v. v.items ≡ rule_of.known_behind (context scope.now) (option_copied x.entry) (option_map sort (option_copied t.entry)) names.now) }
+{
+    match x {
+        None => Ok(Vec::from_slice(alloc, names)?),
+        Some(x) => names_behind(alloc, meaning_of(scope, x), t, names),
+    }
+}
+
+fn names_behind(
+    alloc: Global,
+    meaning: Meaning,
+    t: Option<&Ty>,
+    names: &[usize],
+) -> Result<Vec<usize>, Memory>
+    ensures { IfOk result (λ v. v.items ≡ rule_of.names_behind meaning (option_map sort (option_copied t.entry)) names.now) }
+{
+    match meaning {
+        Meaning::Local(i) => rebound(alloc, i, t, names),
+        _ => Ok(Vec::from_slice(alloc, names)?),
+    }
+}
+
 // The first assignment fixes a variable's type.
 fn fix(
     alloc: Global,
@@ -211,8 +242,8 @@ fn rebound(alloc: Global, i: usize, t: Option<&Ty>, names: &[usize]) -> Result<V
     Ok(others)
 }
 
-/// The names that are not among these.
-pub fn without(alloc: Global, gone: &[usize], names: &[usize]) -> Result<Vec<usize>, Memory>
+// The names that are not among these.
+fn without(alloc: Global, gone: &[usize], names: &[usize]) -> Result<Vec<usize>, Memory>
     ensures { IfOk result (λ v. v.items ≡ narrowing.without gone.now names.now) }
 {
     let found = names

@@ -2,8 +2,10 @@
 --
 -- A target is a name, an item, or a flat tuple of these. The rule of an item, which is an expression, is asked before that of the
 -- assignment. No name of a target is read by it. Where a target is a variable without a type nothing is said of what holds it.
--- Targets are bound one behind the other, so an item is looked at with what is known once the names before it are bound.
-use Rattle.std.specs.Prelude.{ℕ, Bool, true, false, not, ◌&&◌, if◌then◌else◌, List, [], ◌∷◌, ◌++◌, map, length, Option, Some, None, unwrap_or, Result, Ok, Err}
+-- Targets are bound one behind the other, so an item is looked at with what is known once the names before it are bound. Where each
+-- of the targets has a type already, the value is asked for these. Else it is asked for nothing, and the targets are looked at with
+-- what its parts make known.
+use Rattle.std.specs.Prelude.{ℕ, Bool, true, false, not, ◌&&◌, if◌then◌else◌, List, [], ◌∷◌, ◌++◌, length, Option, Some, None, is_some, unwrap_or, Result, Ok, Err}
 use Rattle.std.specs.List.{list_all, flat_map}
 use Rattle.std.specs.Option.{option_map}
 use Rattle.std.specs.Map.{lookup}
@@ -16,7 +18,6 @@ use Rattle.py_typed.specs.Sorts.{Sort, sorts_of}
 use Rattle.py_typed.specs.Sorts as sort
 use Rattle.py_typed.specs.Classes.{ClassEntry}
 use Rattle.py_typed.specs.Fits.{fits}
-use Rattle.py_typed.specs.Narrowing.{without}
 use Rattle.py_typed.specs.Expressions as node
 use Rattle.py_typed.specs.Expressions.{TypedExpr, typed, type_of}
 use Rattle.py_typed.specs.Statements as act
@@ -25,29 +26,19 @@ use Rattle.py_check_context.specs.declared.scope.Meaning.{Meaning}
 use Rattle.py_check_context.specs.declared.scope.Meaning.TheVariants as meaning
 use Rattle.py_check_context.specs.Context.{Context, VarSort, unset, untyped, has, var_at, Wanted, free, wants_some}
 use Rattle.py_check_flow.specs.Bindings.{name_in}
-use Rattle.py_check_places.specs.Shapes.{is_item, is_row, is_flat, leaves, some_parts}
+use Rattle.py_check_places.specs.Shapes.{is_item, is_row, is_flat, leaves, some_parts, parts_of}
 use Rattle.py_check_messages.specs.Seen.{Seen, Message, is, made}
 use Rattle.py_check_messages.specs.Rows.{row_then}
 use Rattle.py_check_messages.specs.Messages.{no_target, cannot_assign, already_defined, wrong_assignment}
-use Rattle.py_check_operators.specs.Facts.{local_of}
 use Rattle.py_check_coercions.specs.Rows.{first_of}
 use Rattle.py_check_coercions.specs.Several.{unless}
 use Rattle.py_check_operators.specs.Operators.{arithmetic}
 use Rattle.py_check_expressions.specs.Typing.{typing}
-use Rattle.py_check_values.specs.Slots.{SlotSort, known, fresh, refused, itemless}
+use Rattle.py_check_values.specs.Aims.{Aim, held, first, barred, unwritten, misplaced}
 use Rattle.py_check_values.specs.Assignments.{assignment, binding_fault, unpacking_fault, items_for}
-use Rattle.py_check_places.specs.Places.{Known, with_names}
+use Rattle.py_check_places.specs.Places.{Known, with_names, known_behind}
 
 -- ---- single targets
-
--- what a value is bound to: something of a type; a variable that has none yet; a name that nothing is assigned to; an item of what
--- has none that is assigned; or an expression of this type, which is no target
-pub data Aim : Type 0 where
-  held : TypedTarget → Sort → Aim
-  first : TypedTarget → List ℕ → Aim
-  barred : List ℕ → Aim
-  unwritten : Sort → Aim
-  misplaced : Sort → Aim
 
 -- a variable, by its type so far; there is none where that hangs on what has no type
 abbrev pub variable_aim : TypedTarget → List ℕ → VarSort → Option Aim
@@ -81,13 +72,6 @@ item_aim e = misplaced (type_of e)
 -- any other expression
 abbrev pub value_aim : Bool → TypedExpr → Aim
 value_aim written e = if written then item_aim e else misplaced (type_of e)
-
-abbrev pub slot_of : Aim → SlotSort
-slot_of (held target t) = known t
-slot_of (first target x) = fresh x
-slot_of (barred x) = refused x
-slot_of (unwritten t) = itemless t
-slot_of (misplaced t) = itemless t
 
 abbrev pub target_of : Aim → List TypedTarget
 target_of (held target t) = target ∷ []
@@ -135,6 +119,23 @@ asked_sort several (Some aims) = sort_for several aims
 abbrev pub asked_by : Bool → Option (List Aim) → Wanted
 asked_by several aims = wants_some (asked_sort several aims)
 
+-- the parts of a value that targets take one behind the other: nothing is known of them yet, or they have these types. A part of
+-- which nothing is known may be None; one that the value does not have is without a type
+abbrev pub next_part : Option (List Sort) → Option Sort
+next_part None = Some sort.Nothing
+next_part (Some []) = None
+next_part (Some (t ∷ ts)) = Some t
+
+abbrev pub more_parts : Option (List Sort) → Option (List Sort)
+more_parts None = None
+more_parts (Some []) = Some []
+more_parts (Some (t ∷ ts)) = Some ts
+
+-- targets that have their types before anything is known of the value ask it for these and keep them; else they are what they are
+-- behind the value
+abbrev pub settled : Bool → Seen (List Aim) → Seen (List Aim) → Seen (List Aim)
+settled several early late = if is_some (asked_sort several early.got) then early else late
+
 -- ---- a value for targets
 
 abbrev pub targets_of : List Aim → List TypedTarget
@@ -168,10 +169,10 @@ parts_fault classes seen aims ss = None
 -- what is wrong where a value of a type is bound to several targets
 abbrev pub several_fault : List ClassEntry → List Aim → Sort → Option Message
 several_fault classes aims t =
-    first_of (unpacking_fault classes (map slot_of aims) t) (parts_fault classes [] aims (some_parts (items_for t (length aims))))
+    first_of (unpacking_fault classes aims t) (parts_fault classes [] aims (some_parts (items_for t (length aims))))
 
 abbrev pub one_assigned : List ClassEntry → List Aim → TypedExpr → Result TypedExpr Message
-one_assigned classes (a ∷ []) e = assignment classes (slot_of a) e
+one_assigned classes (a ∷ []) e = assignment classes a e
 one_assigned classes aims e = Err no_target
 
 abbrev pub value_assigned : List ClassEntry → Bool → List Aim → TypedExpr → Result TypedExpr Message
@@ -200,7 +201,7 @@ declared x bound p = unless (annotation_fault x bound p.0) act.Pass
 
 abbrev pub given_after : List ClassEntry → Option Message → Aim → TypedExpr → Result TypedAct Message
 given_after classes (Some m) a e = Err m
-given_after classes None a e = act_of (target_of a) (assignment classes (slot_of a) e)
+given_after classes None a e = act_of (target_of a) (assignment classes a e)
 
 abbrev pub given : List ClassEntry → List ℕ → Bool → (Aim × Sort) × TypedExpr → Result TypedAct Message
 given classes x bound p = given_after classes (annotation_fault x bound p.0.0) p.0.0 p.1
@@ -215,7 +216,7 @@ written_back o b s None [] = Err no_target
 
 abbrev pub updated_to : List ClassEntry → Aim → BinOp → TypedExpr → Sort → Result TypedAct Message
 updated_to classes a o b s =
-    if is_placed a then written_back o b s (binding_fault classes (slot_of a) s) (target_of a) else Err no_target
+    if is_placed a then written_back o b s (binding_fault classes a s) (target_of a) else Err no_target
 
 abbrev pub of_operation : List ClassEntry → Aim → BinOp → TypedExpr → Result TypedExpr Message → Result TypedAct Message
 of_operation classes a o b (Ok r) = updated_to classes a o b (type_of r)
@@ -234,18 +235,25 @@ module _ (c : Context) where
   single_aim k (Some x) e = seen_aim (name_aim k x (c.meaning x))
   single_aim k None e = made (value_aim (is_item e)) (typed_at k free e)
 
-  -- a name is bound before the targets behind it are reached: what was known of it is forgotten there
-  abbrev pub forgotten : Option (List ℕ) → List ℕ → List ℕ
-  forgotten None names = names
-  forgotten (Some x) names = without (local_of (c.meaning x)) names
+  -- behind a target with this name, if it is one, which takes a part of a value
+  abbrev pub beyond : Known → Option (List ℕ) → Option Sort → Known
+  beyond k x t = with_names k (known_behind c x t k.names)
 
-  abbrev pub aims : Known → List ExprTree → Seen (List Aim)
-  aims k [] = is []
-  aims k (e ∷ more) = row_then (single_aim k (name_in e) e) (aims (with_names k (forgotten (name_in e) k.names)) more)
+  abbrev pub aims : Known → Option (List Sort) → List ExprTree → Seen (List Aim)
+  aims k ts [] = is []
+  aims k ts (e ∷ more) = row_then (single_aim k (name_in e) e) (aims (beyond k (name_in e) (next_part ts)) (more_parts ts) more)
 
-  -- the single targets of a target
+  -- the single targets of a target, where nothing is known of the value yet
   abbrev pub target_aims : Known → ExprTree → Seen (List Aim)
-  target_aims k target = aims k (leaves target)
+  target_aims k target = aims k None (leaves target)
+
+  -- and behind a value of this type, if it has one
+  abbrev pub aims_behind : Known → ExprTree → Option Sort → Seen (List Aim)
+  aims_behind k target t = aims k (Some (parts_of (is_row target) (length (leaves target)) t)) (leaves target)
+
+  -- as the value is bound to them
+  abbrev pub bound_aims : Known → ExprTree → Option Sort → Seen (List Aim)
+  bound_aims k target t = settled (is_row target) (target_aims k target) (aims_behind k target t)
 
   -- one that was read
   abbrev pub read_aim : Known → Option (List ℕ) → Bool → TypedExpr → Aim

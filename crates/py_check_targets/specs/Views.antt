@@ -1,27 +1,30 @@
--- What the program's targets stand for, and its new names among several.
-use Rattle.std.specs.Prelude.{ℕ, List}
+-- What targets on the heap, statements and new names stand for, and what is left of the parts of a value.
+use Rattle.std.specs.Prelude.{ℕ, List, map, drop, Option}
+use Rattle.std.specs.Option.{option_map}
 use Rattle.std.specs.declared.boxed.Box.{Box}
 use Rattle.std.specs.declared.alloc.Global.{Global}
+use Rattle.py_syntax_diagnostics.specs.declared.diagnostic.Diag.{Diag}
 use Rattle.py_typed.specs.declared.statement.TStmtKind.{TStmtKind}
 use Rattle.py_typed.specs.Sorts.{Sort, sort}
-use Rattle.py_typed.specs.Statements.{TypedAct, typed_act, typed_target}
+use Rattle.py_typed.specs.Statements.{TypedAct, typed_act}
+use Rattle.py_check_messages.specs.Seen.{Seen}
+use Rattle.py_check_values.specs.declared.aims.Aim as declared
+use Rattle.py_check_values.specs.Aims.{Aim, aim_seen}
 use Rattle.py_check_targets.specs.declared.several.NewName.{NewName}
-use Rattle.py_check_targets.specs.declared.targets.Aim as declared
-use Rattle.py_check_targets.specs.declared.targets.Aim.TheVariants as case
-use Rattle.py_check_targets.specs.Targets.{Aim, held, first, barred, unwritten, misplaced}
-
-abbrev pub aim_seen : declared.Aim → Aim
-aim_seen (case.Held target t) = held (typed_target target) (sort t)
-aim_seen (case.First target x) = first (typed_target target) x.now
-aim_seen (case.Barred x) = barred x.now
-aim_seen (case.Unwritten t) = unwritten (sort t)
-aim_seen (case.Misplaced t) = misplaced (sort t)
 
 abbrev pub boxed_aim : Box declared.Aim Global → Aim
 boxed_aim a = aim_seen a.value
+
+-- targets, and what was said of them
+abbrev pub aims_seen : Option (List declared.Aim) → List Diag → Seen (List Aim)
+aims_seen found said = record { got = option_map (map aim_seen) found; said = said }
 
 abbrev pub boxed_act : Box TStmtKind Global → TypedAct
 boxed_act a = typed_act a.value
 
 abbrev pub part_seen : NewName → List ℕ × Sort
 part_seen part = (part.name.now, sort part.ty.now)
+
+-- the parts from one of this number on
+abbrev pub parts_from : ℕ → Option (List Sort) → Option (List Sort)
+parts_from i parts = option_map (λ ts. drop i ts) parts

@@ -8,5 +8,7 @@ mod targets;
 mod values;
 
 pub use several::binds_several;
-pub use targets::{Aim, aims, in_box, name_aim, slot_of, target_aims, typed_at, value_aim};
+pub use targets::{
+    aims_behind, bound_aims, in_box, name_aim, put_behind, target_aims, typed_at, value_aim,
+};
 pub use values::{value_for, value_type};

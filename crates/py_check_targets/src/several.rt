@@ -6,14 +6,13 @@ ghost use Rattle.std.specs.Str.{bytes_eq};
 ghost use Rattle.py_typed.specs.Sorts.{sort};
 ghost use Rattle.py_typed.specs.Classes.{class_entry};
 ghost use Rattle.py_check_messages.specs.Seen.{Finds};
-ghost use Rattle.py_check_values.specs.Slots.{slot_sort};
+ghost use Rattle.py_check_values.specs.Aims.{aim_seen};
 ghost use Rattle.py_check_targets.specs.Targets as rule_of;
-ghost use Rattle.py_check_targets.specs.Views.{aim_seen, part_seen};
+ghost use Rattle.py_check_targets.specs.Views.{part_seen};
 
-use crate::targets::{Aim, slot_of};
 use py_check_messages::wrong_assignment;
 use py_check_places::some_parts;
-use py_check_values::{Slot, items_for, unpacks};
+use py_check_values::{Aim, items_for, unpacks};
 use py_syntax::Span;
 use py_syntax_diagnostics::Diag;
 use py_typed::{Classes, Ty, fits};
@@ -31,23 +30,11 @@ pub fn binds_several(
 ) -> Result<bool, Memory>
     ensures { IfOk result (λ right. Finds right faults.old faults.new span (rule_of.several_fault (map class_entry classes.now.list) (map aim_seen aims.now) (sort t.now))) }
 {
-    let slots = slots_of(alloc, aims)?;
-    if !unpacks(alloc, classes, span, slots.as_slice(), t, faults)? {
+    if !unpacks(alloc, classes, span, aims, t, faults)? {
         return Ok(false);
     }
     let parts = some_parts(items_for(t, aims.len()));
     fit_parts(alloc, classes, span, aims, parts, faults)
-}
-
-// What targets are for values.
-fn slots_of<'a>(alloc: Global, aims: &'a [Aim<'_>]) -> Result<Vec<Slot<'a>>, Memory>
-    ensures { IfOk result (λ slots. map slot_sort slots.items ≡ map rule_of.slot_of (map aim_seen aims.now)) }
-{
-    let mut slots = Vec::new(alloc);
-    for a in aims {
-        slots.push(slot_of(a))?;
-    }
-    Ok(slots)
 }
 
 /// A new name, with the type of the part that it takes.

@@ -1,48 +1,34 @@
 //! What is assigned to.
-ghost use Rattle.std.specs.Prelude.{◌≡◌, map, IfOk};
+ghost use Rattle.std.specs.Prelude.{◌≡◌, ◌++◌, map, IfOk};
 ghost use Rattle.std.specs.Option.{option_map, option_copied};
 ghost use Rattle.py_syntax.specs.Expressions.{expr_tree};
 ghost use Rattle.py_typed.specs.Sorts.{sort};
 ghost use Rattle.py_typed.specs.Expressions.{type_of};
-ghost use Rattle.py_typed.specs.Narrowing as narrowing;
 ghost use Rattle.py_typed.specs.Statements.{typed_target};
 ghost use Rattle.py_check_context.specs.Context.{context, var_sort, var_of, wanted};
 ghost use Rattle.py_check_flow.specs.Bindings as bindings;
 ghost use Rattle.py_check_messages.specs.Seen.{Tells};
 ghost use Rattle.py_check_messages.specs.Rows.{kept};
 ghost use Rattle.py_check_coercions.specs.Boxes.{boxed};
-ghost use Rattle.py_check_operators.specs.Facts.{local_of};
-ghost use Rattle.py_check_values.specs.Slots.{slot_sort};
+ghost use Rattle.py_check_values.specs.Aims.{aim_seen};
+ghost use Rattle.py_check_places.specs.Places as places;
 ghost use Rattle.py_check_places.specs.Places.{with_names};
+ghost use Rattle.py_check_places.specs.Shapes as shapes;
 ghost use Rattle.py_check_targets.specs.Targets as rule_of;
 ghost use Rattle.py_check_places.specs.Views.{known_at, trees};
-ghost use Rattle.py_check_targets.specs.Views.{aim_seen, boxed_aim};
+ghost use Rattle.py_check_targets.specs.Views.{boxed_aim, aims_seen, parts_from};
 
+use crate::values::asks;
 use py_check_context::{Context, Meaning, VarType, Want, meaning_of};
 use py_check_expressions::expression;
 use py_check_flow::name_in;
-use py_check_places::{Place, is_item, leaves, put_local, without};
-use py_check_values::Slot;
+use py_check_places::{Place, is_item, is_row, known_behind, leaves, parts_of};
+use py_check_values::Aim;
 use py_syntax::Expr;
 use py_syntax_diagnostics::Diag;
 use py_typed::{TExpr, TKind, Target, Ty, copy_of};
 use std::alloc::Global;
 use value_core::{Many, Memory, Name};
-
-/// What a value is bound to.
-#[derive(Drop)]
-pub enum Aim<'a> {
-    /// Something of this type.
-    Held(Target, Ty),
-    /// A variable that has no type yet.
-    First(Target, &'a Name),
-    /// A name that nothing is assigned to.
-    Barred(&'a Name),
-    /// An item of what has none that is assigned, by the type of that.
-    Unwritten(Ty),
-    /// An expression of this type, which is no target.
-    Misplaced(Ty),
-}
 
 /// An expression at a place.
 pub fn typed_at(
@@ -206,27 +192,50 @@ pub fn in_box<'a>(alloc: Global, a: Option<Aim<'a>>) -> Result<Option<Box<Aim<'a
     Ok(Some(Box::new(alloc, a)?))
 }
 
-/// The single targets of a target, each by what it is.
-pub fn aims<'a>(
+// The single targets in a row, each by what it is, behind those that took their parts of a value.
+fn aims<'a>(
     alloc: Global,
     scope: &Context<'_>,
     place: &Place,
+    parts: Option<&[Ty]>,
     leaves: &[&'a Expr],
     faults: &mut Many<Diag>,
 ) -> Result<Option<Many<Aim<'a>>>, Memory>
-    ensures { IfOk result (λ found. Tells (map aim_seen) found faults.old faults.new (rule_of.aims (context scope.now) (known_at place.now) (trees leaves.now))) }
+    ensures { IfOk result (λ found. Tells (map aim_seen) found faults.old faults.new (rule_of.aims (context scope.now) (known_at place.now) (option_map (map sort) (option_copied parts.entry)) (trees leaves.now))) }
 {
     let mut found = Some(Many::new(alloc));
     let mut names = Vec::from_slice(alloc, place.names.as_slice())?;
-    for e in leaves {
+    for (i, e) in leaves.iter().enumerate() {
         let one = single_aim(alloc, scope, place, names.as_slice(), *e, faults)?;
         found = with_aim(found, one)?;
-        names = forgotten(alloc, scope, names.as_slice(), *e)?;
+        names = beyond(alloc, scope, names.as_slice(), *e, parts, i)?;
     }
     Ok(found)
 }
 
-/// The single targets of a target, each by what it is.
+// The names that are known to be not None behind a target that took the part of this number.
+fn beyond(
+    alloc: Global,
+    scope: &Context<'_>,
+    names: &[usize],
+    e: &Expr,
+    parts: Option<&[Ty]>,
+    i: usize,
+) -> Result<Vec<usize>, Memory>
+    ensures { IfOk result (λ v. v.items ≡ places.known_behind (context scope.now) (bindings.name_in (expr_tree e.now)) (rule_of.next_part (parts_from i (option_map (map sort) (option_copied parts.entry)))) names.now) }
+{
+    match parts {
+        Some(ts) => known_behind(alloc, scope, name_in(e), ts.get(i), names),
+        None => {
+            let unknown = Ty::Nothing;
+            let known = known_behind(alloc, scope, name_in(e), Some(&unknown), names);
+            drop(unknown);
+            known
+        }
+    }
+}
+
+/// The single targets of a target, each by what it is, where nothing is known of the value yet.
 pub fn target_aims<'a>(
     alloc: Global,
     scope: &Context<'_>,
@@ -237,30 +246,56 @@ pub fn target_aims<'a>(
     ensures { IfOk result (λ found. Tells (map aim_seen) found faults.old faults.new (rule_of.target_aims (context scope.now) (known_at place.now) (expr_tree target.now))) }
 {
     let targets = leaves(alloc, target)?;
-    aims(alloc, scope, place, targets.as_slice(), faults)
+    aims(alloc, scope, place, None, targets.as_slice(), faults)
 }
 
-// The names that are known behind a target, once it is bound.
-fn forgotten(
+/// The single targets of a target, each by what it is, behind a value of this type, if it has one.
+pub fn aims_behind<'a>(
     alloc: Global,
     scope: &Context<'_>,
-    names: &[usize],
-    e: &Expr,
-) -> Result<Vec<usize>, Memory>
-    ensures { IfOk result (λ v. v.items ≡ rule_of.forgotten (context scope.now) (bindings.name_in (expr_tree e.now)) names.now) }
+    place: &Place,
+    target: &'a Expr,
+    t: Option<&Ty>,
+    faults: &mut Many<Diag>,
+) -> Result<Option<Many<Aim<'a>>>, Memory>
+    ensures { IfOk result (λ found. Tells (map aim_seen) found faults.old faults.new (rule_of.aims_behind (context scope.now) (known_at place.now) (expr_tree target.now) (option_map sort (option_copied t.entry)))) }
 {
-    match name_in(e) {
-        Some(x) => without_own(alloc, meaning_of(scope, x), names),
-        None => Ok(Vec::from_slice(alloc, names)?),
-    }
+    let targets = leaves(alloc, target)?;
+    let parts = parts_of(is_row(target), targets.len(), t);
+    aims(alloc, scope, place, Some(parts), targets.as_slice(), faults)
 }
 
-fn without_own(alloc: Global, meaning: Meaning, names: &[usize]) -> Result<Vec<usize>, Memory>
-    ensures { IfOk result (λ v. v.items ≡ narrowing.without (local_of meaning) names.now) }
+/// The single targets of a target as a value of this type, if it has one, is bound to them: those that were looked at before it,
+/// with what was said of them, or, where not each of these has a type, those behind the value.
+pub fn bound_aims<'a>(
+    alloc: Global,
+    scope: &Context<'_>,
+    place: &Place,
+    target: &'a Expr,
+    early: Option<Many<Aim<'a>>>,
+    said: Many<Diag>,
+    t: Option<&Ty>,
+    faults: &mut Many<Diag>,
+) -> Result<Option<Many<Aim<'a>>>, Memory>
+    ensures { IfOk result (λ found. Tells (map aim_seen) found faults.old faults.new (rule_of.settled (shapes.is_row (expr_tree target.now)) (aims_seen early.entry said) (rule_of.aims_behind (context scope.now) (known_at place.now) (expr_tree target.now) (option_map sort (option_copied t.entry))))) }
 {
-    let mut own = Vec::new(alloc);
-    put_local(&mut own, meaning)?;
-    without(alloc, own.as_slice(), names)
+    if asks(is_row(target), &early) {
+        put_behind(faults, said)?;
+        return Ok(early);
+    }
+    drop(early);
+    drop(said);
+    aims_behind(alloc, scope, place, target, t, faults)
+}
+
+/// Diagnostics behind others.
+pub fn put_behind(faults: &mut Many<Diag>, more: Many<Diag>) -> Result<(), Memory>
+    ensures { IfOk result (λ done. faults.new ≡ faults.old ++ more) }
+{
+    for fault in more.into_vec() {
+        faults.push(fault)?;
+    }
+    Ok(())
 }
 
 fn with_aim<'a>(
@@ -277,17 +312,4 @@ fn with_aim<'a>(
     };
     found.push(Box::into_inner(a))?;
     Ok(Some(found))
-}
-
-/// What a target is for a value.
-pub fn slot_of<'a>(a: &'a Aim<'_>) -> Slot<'a>
-    ensures { slot_sort result ≡ rule_of.slot_of (aim_seen a.now) }
-{
-    match a {
-        Aim::Held(_, t) => Slot::Known(t),
-        Aim::First(_, x) => Slot::Fresh(x),
-        Aim::Barred(x) => Slot::Refused(x),
-        Aim::Unwritten(t) => Slot::Itemless(t),
-        Aim::Misplaced(t) => Slot::Itemless(t),
-    }
 }

@@ -1,5 +1,5 @@
 //! Values that are assigned, and what targets ask of them.
-ghost use Rattle.std.specs.Prelude.{◌≡◌, ◌∷◌, [], map, IfOk};
+ghost use Rattle.std.specs.Prelude.{◌≡◌, ◌∷◌, [], map, is_some, IfOk};
 ghost use Rattle.std.specs.Option.{option_map, option_copied};
 ghost use Rattle.py_syntax.specs.Expressions.{expr_tree};
 ghost use Rattle.py_typed.specs.Sorts.{sort};
@@ -9,11 +9,12 @@ ghost use Rattle.py_check_messages.specs.Seen.{Tells};
 ghost use Rattle.py_check_coercions.specs.Boxes.{boxed};
 ghost use Rattle.py_check_targets.specs.Targets as rule_of;
 ghost use Rattle.py_check_places.specs.Views.{known_at};
-ghost use Rattle.py_check_targets.specs.Views.{aim_seen};
+ghost use Rattle.py_check_values.specs.Aims.{aim_seen};
 
-use crate::targets::{Aim, typed_at};
+use crate::targets::typed_at;
 use py_check_context::{Context, Want};
 use py_check_places::Place;
+use py_check_values::Aim;
 use py_syntax::Expr;
 use py_syntax_diagnostics::Diag;
 use py_typed::{TExpr, Ty, copy_of};
@@ -105,6 +106,48 @@ fn held_types(alloc: Global, aims: &[Aim<'_>]) -> Result<Option<Many<Ty>>, Memor
         types.push(copy_of(alloc, t)?)?;
     }
     Ok(Some(types))
+}
+
+/// Whether each target has a type, for which they ask.
+pub(crate) fn asks(several: bool, aims: &Option<Many<Aim<'_>>>) -> bool
+    ensures { result ≡ is_some (rule_of.asked_sort several (option_map (map aim_seen) aims.now)) }
+{
+    match aims {
+        Some(aims) => has_types(several, aims.as_slice()),
+        None => false,
+    }
+}
+
+fn has_types(several: bool, aims: &[Aim<'_>]) -> bool
+    ensures { result ≡ is_some (rule_of.sort_for several (map aim_seen aims.now)) }
+{
+    if several {
+        all_held(aims)
+    } else {
+        one_held(aims)
+    }
+}
+
+fn one_held(aims: &[Aim<'_>]) -> bool
+    ensures { result ≡ is_some (rule_of.single_sort (map aim_seen aims.now)) }
+{
+    match aims {
+        [] => false,
+        [a] => held_type(a).is_some(),
+        [_, _, ..] => false,
+    }
+}
+
+#[tactic(auto, using(crate::proofs::AimLemmas::mapped_there))]
+fn all_held(aims: &[Aim<'_>]) -> bool
+    ensures { result ≡ is_some (option_map rule_of.tuple_sort (rule_of.held_sorts (map aim_seen aims.now))) }
+{
+    for a in aims {
+        if held_type(a).is_none() {
+            return false;
+        }
+    }
+    true
 }
 
 // The type of a target, if it has one.

@@ -1,14 +1,15 @@
 -- Values that are bound and returned, and some that are not.
-use Rattle.std.proofs.Common.{◌≡◌, [], ◌∷◌, Some, None, Ok, Err, refl, codes}
+use Rattle.std.proofs.Common.{◌≡◌, ℕ, List, [], ◌∷◌, Some, None, Ok, Err, refl, codes}
 use Rattle.std.specs.Prelude.{pos}
 use Rattle.py_syntax.specs.declared.token.Span.{Span}
 use Rattle.py_typed.specs.Sorts as sort
-use Rattle.py_typed.specs.Sorts.{sorts_of, TupleOf, Optional}
+use Rattle.py_typed.specs.Sorts.{Sort, sorts_of, TupleOf, Optional}
 use Rattle.py_typed.specs.Expressions as node
 use Rattle.py_typed.specs.Expressions.{TypedExpr, typed, type_of, exprs_of}
+use Rattle.py_typed.specs.Statements.{LocalTarget}
 use Rattle.py_check_messages.specs.Seen.{is, silent, fails}
 use Rattle.py_check_messages.specs.Messages.{wrong_assignment, needs_annotation, cannot_unpack, cannot_assign, wrong_return, no_return_expected, return_outside, return_expected}
-use Rattle.py_check_values.specs.Slots.{known, fresh, refused}
+use Rattle.py_check_values.specs.Aims.{Aim, held, first, barred}
 use Rattle.py_check_values.specs.Assignments.{assignment, unpacking_fault}
 use Rattle.py_check_values.specs.Returns.{bare_return, value_return, outside, untyped, gives}
 
@@ -24,25 +25,32 @@ nothing = typed node.Nothing sort.Nothing place
 abbrev pair : TypedExpr
 pair = typed (node.TupleOf (exprs_of (one ∷ one ∷ []))) (TupleOf (sorts_of (sort.Int ∷ sort.Int ∷ []))) place
 
+-- a variable of this type, and one that has none yet
+abbrev of_type : Sort → Aim
+of_type t = held (LocalTarget 0) t
+
+abbrev new_name : List ℕ → Aim
+new_name x = first (LocalTarget 0) x
+
 -- `x: i64 = 1`, `x: str = 1`, and `x = None`
-changed : assignment [] (known sort.I64) one ≡ Ok (typed (node.Coerce one) sort.I64 place)
+changed : assignment [] (of_type sort.I64) one ≡ Ok (typed (node.Coerce one) sort.I64 place)
 changed = refl
 
-misfit : assignment [] (known sort.Str) one ≡ Err (wrong_assignment [] sort.Int sort.Str)
+misfit : assignment [] (of_type sort.Str) one ≡ Err (wrong_assignment [] sort.Int sort.Str)
 misfit = refl
 
-first_none : assignment [] (fresh (codes "x")) nothing ≡ Err (needs_annotation (codes "x"))
+first_none : assignment [] (new_name (codes "x")) nothing ≡ Err (needs_annotation (codes "x"))
 first_none = refl
 
 -- a tuple of two for two targets, and for three
-two_targets : unpacking_fault [] (known (Optional sort.Int) ∷ fresh (codes "b") ∷ []) (type_of pair) ≡ None
+two_targets : unpacking_fault [] (of_type (Optional sort.Int) ∷ new_name (codes "b") ∷ []) (type_of pair) ≡ None
 two_targets = refl
 
-three_targets : unpacking_fault [] (fresh (codes "a") ∷ fresh (codes "b") ∷ fresh (codes "c") ∷ []) (type_of pair) ≡ Some (cannot_unpack [] (type_of pair) 3)
+three_targets : unpacking_fault [] (new_name (codes "a") ∷ new_name (codes "b") ∷ new_name (codes "c") ∷ []) (type_of pair) ≡ Some (cannot_unpack [] (type_of pair) 3)
 three_targets = refl
 
 -- a name that cannot be assigned comes before the number
-names_first : unpacking_fault [] (known sort.Str ∷ refused (codes "len") ∷ []) sort.Int ≡ Some (cannot_assign (codes "len"))
+names_first : unpacking_fault [] (of_type sort.Str ∷ barred (codes "len") ∷ []) sort.Int ≡ Some (cannot_assign (codes "len"))
 names_first = refl
 
 returned : value_return [] place (gives sort.I64) one ≡ is (typed (node.Coerce one) sort.I64 place)

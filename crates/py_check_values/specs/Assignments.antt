@@ -15,37 +15,40 @@ use Rattle.py_check_messages.specs.Messages.{cannot_assign, index_target, cannot
 use Rattle.py_check_coercions.specs.Values.{coerced}
 use Rattle.py_check_coercions.specs.Rows.{first_of}
 use Rattle.py_check_coercions.specs.Several.{unless}
-use Rattle.py_check_values.specs.Slots.{SlotSort, known, fresh, refused, itemless}
+use Rattle.py_check_values.specs.Aims.{Aim, held, first, barred, unwritten, misplaced}
 
 -- ---- one target
 
--- what is wrong where a value of a type is bound to it
-abbrev pub binding_fault : List ClassEntry → SlotSort → Sort → Option Message
-binding_fault classes (known t) s = if fits classes s t then None else Some (wrong_assignment classes s t)
-binding_fault classes (fresh x) s = if is_nothing s then Some (needs_annotation x) else None
-binding_fault classes (refused x) s = Some (cannot_assign x)
-binding_fault classes (itemless t) s = Some (index_target classes t)
+-- what is wrong where a value of a type is bound to it. An expression that is no target has a rule of its own, which is asked first;
+-- here it counts as an item that is not assigned
+abbrev pub binding_fault : List ClassEntry → Aim → Sort → Option Message
+binding_fault classes (held target t) s = if fits classes s t then None else Some (wrong_assignment classes s t)
+binding_fault classes (first target x) s = if is_nothing s then Some (needs_annotation x) else None
+binding_fault classes (barred x) s = Some (cannot_assign x)
+binding_fault classes (unwritten t) s = Some (index_target classes t)
+binding_fault classes (misplaced t) s = Some (index_target classes t)
 
 -- the value as it is bound
-abbrev pub as_bound : SlotSort → TypedExpr → TypedExpr
-as_bound (known t) e = coerced t e
-as_bound slot e = e
+abbrev pub as_bound : Aim → TypedExpr → TypedExpr
+as_bound (held target t) e = coerced t e
+as_bound a e = e
 
-abbrev pub assignment : List ClassEntry → SlotSort → TypedExpr → Result TypedExpr Message
-assignment classes slot e = unless (binding_fault classes slot (type_of e)) (as_bound slot e)
+abbrev pub assignment : List ClassEntry → Aim → TypedExpr → Result TypedExpr Message
+assignment classes a e = unless (binding_fault classes a (type_of e)) (as_bound a e)
 
 -- ---- several targets
 
 -- the first name that cannot be assigned, and the first item that cannot
-abbrev pub first_refused : List SlotSort → Option (List ℕ)
-first_refused [] = None
-first_refused (refused x ∷ slots) = Some x
-first_refused (slot ∷ slots) = first_refused slots
+abbrev pub first_barred : List Aim → Option (List ℕ)
+first_barred [] = None
+first_barred (barred x ∷ aims) = Some x
+first_barred (a ∷ aims) = first_barred aims
 
-abbrev pub first_itemless : List SlotSort → Option Sort
-first_itemless [] = None
-first_itemless (itemless t ∷ slots) = Some t
-first_itemless (slot ∷ slots) = first_itemless slots
+abbrev pub first_unwritten : List Aim → Option Sort
+first_unwritten [] = None
+first_unwritten (unwritten t ∷ aims) = Some t
+first_unwritten (misplaced t ∷ aims) = Some t
+first_unwritten (a ∷ aims) = first_unwritten aims
 
 -- the types of a tuple's items, if there are so many
 abbrev pub as_many : List Sort → ℕ → Option (List Sort)
@@ -61,8 +64,8 @@ items_fault classes n s None = Some (cannot_unpack classes s n)
 items_fault classes n s (Some ss) = None
 
 -- what is wrong where a value of a type is taken apart for them, whatever its items are
-abbrev pub unpacking_fault : List ClassEntry → List SlotSort → Sort → Option Message
-unpacking_fault classes slots s =
-    first_of (option_map cannot_assign (first_refused slots))
-    (first_of (option_map (index_target classes) (first_itemless slots))
-    (items_fault classes (length slots) s (items_for s (length slots))))
+abbrev pub unpacking_fault : List ClassEntry → List Aim → Sort → Option Message
+unpacking_fault classes aims s =
+    first_of (option_map cannot_assign (first_barred aims))
+    (first_of (option_map (index_target classes) (first_unwritten aims))
+    (items_fault classes (length aims) s (items_for s (length aims))))

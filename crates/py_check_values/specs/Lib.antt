@@ -1,3 +1,3 @@
-pub mod Slots
+pub mod Aims
 pub mod Assignments
 pub mod Returns

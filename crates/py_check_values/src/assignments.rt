@@ -1,14 +1,14 @@
 //! Assignments.
-ghost use Rattle.std.specs.Prelude.{◌≡◌, map, length, IfOk};
+ghost use Rattle.std.specs.Prelude.{◌≡◌, ◌∷◌, [], map, length, IfOk};
 ghost use Rattle.std.specs.Option.{option_map, option_copied};
 ghost use Rattle.py_typed.specs.Sorts.{sort};
 ghost use Rattle.py_typed.specs.Classes.{class_entry};
 ghost use Rattle.py_check_messages.specs.Seen.{Tells, Finds, ruled};
 ghost use Rattle.py_check_coercions.specs.Boxes.{boxed};
-ghost use Rattle.py_check_values.specs.Slots.{slot_sort};
+ghost use Rattle.py_check_values.specs.Aims.{aim_seen};
 ghost use Rattle.py_check_values.specs.Assignments as rule_of;
 
-use crate::slots::Slot;
+use crate::aims::Aim;
 use py_check_coercions::coerced;
 use py_check_messages::{
     cannot_assign, cannot_unpack, index_target, needs_annotation, wrong_assignment,
@@ -24,30 +24,31 @@ pub fn assigned(
     alloc: Global,
     classes: &Classes,
     span: Span,
-    slot: Slot<'_>,
+    aim: &Aim<'_>,
     e: Option<Box<TExpr>>,
     faults: &mut Many<Diag>,
 ) -> Result<Option<Box<TExpr>>, Memory>
-    ensures { IfOk result (λ t. Tells boxed t faults.old faults.new (ruled span (rule_of.assignment (map class_entry classes.now.list) (slot_sort slot.entry)) (option_map boxed e))) }
+    ensures { IfOk result (λ t. Tells boxed t faults.old faults.new (ruled span (rule_of.assignment (map class_entry classes.now.list) (aim_seen aim.now)) (option_map boxed e))) }
 {
     let Some(e) = e else {
         return Ok(None);
     };
-    if !binds(alloc, classes, span, slot, &e.ty, faults)? {
+    if !binds(alloc, classes, span, aim, &e.ty, faults)? {
         return Ok(None);
     }
-    let e = as_bound(alloc, slot, e)?;
+    let e = as_bound(alloc, aim, e)?;
     Ok(Some(e))
 }
 
-fn as_bound(alloc: Global, slot: Slot<'_>, e: Box<TExpr>) -> Result<Box<TExpr>, Memory>
-    ensures { IfOk result (λ r. boxed r ≡ rule_of.as_bound (slot_sort slot.entry) (boxed e)) }
+fn as_bound(alloc: Global, aim: &Aim<'_>, e: Box<TExpr>) -> Result<Box<TExpr>, Memory>
+    ensures { IfOk result (λ r. boxed r ≡ rule_of.as_bound (aim_seen aim.now) (boxed e)) }
 {
-    match slot {
-        Slot::Known(t) => coerced(alloc, e, t),
-        Slot::Fresh(_) => Ok(e),
-        Slot::Refused(_) => Ok(e),
-        Slot::Itemless(_) => Ok(e),
+    match aim {
+        Aim::Held(_, t) => coerced(alloc, e, t),
+        Aim::First(_, _) => Ok(e),
+        Aim::Barred(_) => Ok(e),
+        Aim::Unwritten(_) => Ok(e),
+        Aim::Misplaced(_) => Ok(e),
     }
 }
 
@@ -56,27 +57,28 @@ pub fn binds(
     alloc: Global,
     classes: &Classes,
     span: Span,
-    slot: Slot<'_>,
+    aim: &Aim<'_>,
     s: &Ty,
     faults: &mut Many<Diag>,
 ) -> Result<bool, Memory>
-    ensures { IfOk result (λ right. Finds right faults.old faults.new span (rule_of.binding_fault (map class_entry classes.now.list) (slot_sort slot.entry) (sort s.now))) }
+    ensures { IfOk result (λ right. Finds right faults.old faults.new span (rule_of.binding_fault (map class_entry classes.now.list) (aim_seen aim.now) (sort s.now))) }
 {
-    match slot {
-        Slot::Known(t) => {
+    match aim {
+        Aim::Held(_, t) => {
             if fits(s, t, classes) {
                 return Ok(true);
             }
             wrong_assignment(alloc, classes, span, s, t, faults)?;
         }
-        Slot::Fresh(x) => {
+        Aim::First(_, x) => {
             if !is_nothing(s) {
                 return Ok(true);
             }
             needs_annotation(alloc, span, x.as_str(), faults)?;
         }
-        Slot::Refused(x) => cannot_assign(alloc, span, x.as_str(), faults)?,
-        Slot::Itemless(t) => index_target(alloc, classes, span, t, faults)?,
+        Aim::Barred(x) => cannot_assign(alloc, span, x.as_str(), faults)?,
+        Aim::Unwritten(t) => index_target(alloc, classes, span, t, faults)?,
+        Aim::Misplaced(t) => index_target(alloc, classes, span, t, faults)?,
     }
     Ok(false)
 }
@@ -86,33 +88,33 @@ pub fn unpacks(
     alloc: Global,
     classes: &Classes,
     span: Span,
-    slots: &[Slot<'_>],
+    aims: &[Aim<'_>],
     s: &Ty,
     faults: &mut Many<Diag>,
 ) -> Result<bool, Memory>
-    ensures { IfOk result (λ right. Finds right faults.old faults.new span (rule_of.unpacking_fault (map class_entry classes.now.list) (map slot_sort slots.entry.now) (sort s.now))) }
+    ensures { IfOk result (λ right. Finds right faults.old faults.new span (rule_of.unpacking_fault (map class_entry classes.now.list) (map aim_seen aims.now) (sort s.now))) }
 {
-    if let Some(x) = first_refused(slots) {
+    if let Some(x) = first_barred(aims) {
         cannot_assign(alloc, span, x.as_str(), faults)?;
         return Ok(false);
     }
-    if let Some(t) = first_itemless(slots) {
+    if let Some(t) = first_unwritten(aims) {
         index_target(alloc, classes, span, t, faults)?;
         return Ok(false);
     }
-    let Some(_) = items_for(s, slots.len()) else {
-        cannot_unpack(alloc, classes, span, s, slots.len(), faults)?;
+    let Some(_) = items_for(s, aims.len()) else {
+        cannot_unpack(alloc, classes, span, s, aims.len(), faults)?;
         return Ok(false);
     };
     Ok(true)
 }
 
 /// The first name that cannot be assigned.
-fn first_refused<'a>(slots: &[Slot<'a>]) -> Option<&'a Name>
-    ensures { option_copied result ≡ rule_of.first_refused (map slot_sort slots.entry.now) }
+fn first_barred<'a>(aims: &[Aim<'a>]) -> Option<&'a Name>
+    ensures { option_copied result ≡ rule_of.first_barred (map aim_seen aims.now) }
 {
-    for slot in slots {
-        if let Slot::Refused(x) = slot {
+    for a in aims {
+        if let Aim::Barred(x) = a {
             return Some(x);
         }
     }
@@ -120,15 +122,27 @@ fn first_refused<'a>(slots: &[Slot<'a>]) -> Option<&'a Name>
 }
 
 /// The type of what the first item that cannot be assigned is one of.
-fn first_itemless<'a>(slots: &[Slot<'a>]) -> Option<&'a Ty>
-    ensures { option_map sort (option_copied result) ≡ rule_of.first_itemless (map slot_sort slots.entry.now) }
+fn first_unwritten<'a>(aims: &'a [Aim<'_>]) -> Option<&'a Ty>
+    ensures { option_map sort (option_copied result) ≡ rule_of.first_unwritten (map aim_seen aims.now) }
 {
-    for slot in slots {
-        if let Slot::Itemless(t) = slot {
+    for a in aims {
+        if let Some(t) = unwritten_type(a) {
             return Some(t);
         }
     }
     None
+}
+
+fn unwritten_type<'a>(a: &'a Aim<'_>) -> Option<&'a Ty>
+    ensures { option_map sort (option_copied result) ≡ rule_of.first_unwritten (aim_seen a.now ∷ []) }
+{
+    match a {
+        Aim::Unwritten(t) => Some(t),
+        Aim::Misplaced(t) => Some(t),
+        Aim::Held(_, _) => None,
+        Aim::First(_, _) => None,
+        Aim::Barred(_) => None,
+    }
 }
 
 /// The types of a tuple's items, if there are so many.

@@ -5,10 +5,10 @@
 //! says nothing. `specs/Assignments.antt` and `specs/Returns.antt` have the rules.
 #![tactic(auto)]
 
+mod aims;
 mod assignments;
 mod returns;
-mod slots;
 
+pub use aims::Aim;
 pub use assignments::{assigned, binds, items_for, unpacks};
 pub use returns::{Returns, returned, returned_nothing};
-pub use slots::Slot;

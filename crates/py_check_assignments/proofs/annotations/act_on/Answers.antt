@@ -3,8 +3,9 @@ use Rattle.std.specs.Option.{option_map}
 use Rattle.py_typed.specs.Statements as act
 use Rattle.py_typed.specs.Statements.{TypedTarget, typed_target}
 use Rattle.py_check_coercions.specs.Boxes.{boxed}
+use Rattle.py_check_values.specs.Aims.{aim_seen}
 use Rattle.py_check_targets.specs.Targets.{target_of}
-use Rattle.py_check_targets.specs.Views.{aim_seen, boxed_act}
+use Rattle.py_check_targets.specs.Views.{boxed_act}
 use Rattle.py_check_assignments.proofs.annotations.act_on.Goals as goal
 
 pub returns : goal.returns

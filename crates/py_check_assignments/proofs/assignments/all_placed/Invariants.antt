@@ -1,7 +1,7 @@
 use Rattle.std.proofs.Common.{◌≡◌, map, drop}
 use Rattle.std.specs.List.{list_all}
+use Rattle.py_check_values.specs.Aims.{aim_seen}
 use Rattle.py_check_targets.specs.Targets.{is_placed}
-use Rattle.py_check_targets.specs.Views.{aim_seen}
 use Rattle.py_check_assignments.proofs.assignments.all_placed.Given as goal
 
 abbrev pub invariant-loop-a : goal.invariant-loop-a

@@ -3,8 +3,8 @@ use Rattle.std.specs.Option.{option_map}
 use Rattle.py_syntax.specs.Expressions.{expr_tree}
 use Rattle.py_typed.specs.Classes.{class_entry}
 use Rattle.py_check_coercions.specs.Boxes.{boxed}
+use Rattle.py_check_values.specs.Aims.{aim_seen}
 use Rattle.py_check_targets.specs.Targets.{assigned}
-use Rattle.py_check_targets.specs.Views.{aim_seen}
 use Rattle.py_check_assignments.proofs.AssignmentLemmas.{parts_typed}
 use Rattle.py_check_assignments.proofs.assignments.assigned_to.Goals as goal
 

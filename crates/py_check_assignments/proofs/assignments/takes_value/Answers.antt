@@ -5,9 +5,9 @@ use Rattle.py_typed.specs.Statements.{typed_target}
 use Rattle.py_check_messages.specs.Seen.{Tells, judged}
 use Rattle.py_check_coercions.specs.Boxes.{boxed}
 use Rattle.py_check_places.specs.Shapes.{is_flat}
-use Rattle.py_check_targets.specs.declared.targets.Aim as declared
+use Rattle.py_check_values.specs.declared.aims.Aim as declared
+use Rattle.py_check_values.specs.Aims.{aim_seen}
 use Rattle.py_check_targets.specs.Targets.{are_placed, value_assigned}
-use Rattle.py_check_targets.specs.Views.{aim_seen}
 use Rattle.py_check_assignments.proofs.AssignmentLemmas.{misplaced_says, assigned_says}
 use Rattle.py_check_assignments.proofs.assignments.takes_value.Goals as goal
 

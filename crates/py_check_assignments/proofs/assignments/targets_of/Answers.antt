@@ -1,7 +1,7 @@
 use Rattle.std.proofs.Common.{map}
 use Rattle.py_typed.specs.Statements.{typed_target}
+use Rattle.py_check_values.specs.Aims.{aim_seen}
 use Rattle.py_check_targets.specs.Targets.{targets_of}
-use Rattle.py_check_targets.specs.Views.{aim_seen}
 use Rattle.py_check_assignments.proofs.AssignmentLemmas.{target_step}
 use Rattle.py_check_assignments.proofs.assignments.targets_of.Goals as goal
 

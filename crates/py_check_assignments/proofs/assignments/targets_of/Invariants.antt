@@ -1,8 +1,8 @@
 use Rattle.std.proofs.Common.{◌≡◌, ◌++◌, length, map, reverse}
 use Rattle.std.specs.List.{flat_map}
 use Rattle.py_typed.specs.Statements.{typed_target}
+use Rattle.py_check_values.specs.Aims.{aim_seen}
 use Rattle.py_check_targets.specs.Targets.{target_of}
-use Rattle.py_check_targets.specs.Views.{aim_seen}
 use Rattle.py_check_assignments.proofs.assignments.targets_of.Given as goal
 
 abbrev pub invariant-loop-a : goal.invariant-loop-a

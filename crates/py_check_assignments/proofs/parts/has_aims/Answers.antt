@@ -2,8 +2,8 @@ use Rattle.std.proofs.Common.{map}
 use Rattle.py_syntax.specs.Expressions.{expr_tree}
 use Rattle.py_check_context.specs.Context.{context}
 use Rattle.py_check_places.specs.Views.{known_at}
+use Rattle.py_check_values.specs.Aims.{aim_seen}
 use Rattle.py_check_targets.specs.Targets.{target_aims}
-use Rattle.py_check_targets.specs.Views.{aim_seen}
 use Rattle.py_check_assignments.proofs.RefusalLemmas.{shown}
 use Rattle.py_check_assignments.proofs.parts.has_aims.Goals as goal
 

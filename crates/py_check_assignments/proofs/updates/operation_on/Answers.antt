@@ -9,7 +9,8 @@ use Rattle.py_check_flow.specs.Bindings.{name_in}
 use Rattle.py_check_messages.specs.Seen.{Tells, judged}
 use Rattle.py_check_operators.specs.Operators.{arithmetic_type}
 use Rattle.py_check_places.specs.Shapes.{is_item}
-use Rattle.py_check_targets.specs.Targets.{Aim, read_aim}
+use Rattle.py_check_values.specs.Aims.{Aim}
+use Rattle.py_check_targets.specs.Targets.{read_aim}
 use Rattle.py_check_places.specs.Views.{known_at}
 use Rattle.py_check_targets.specs.Views.{boxed_aim}
 use Rattle.py_check_assignments.specs.Views.{boxed_sort}

@@ -2,7 +2,7 @@ use Rattle.std.proofs.Common.{◌≡◌, ◌++◌, map, length}
 use Rattle.std.specs.Vec.Iter.{into_iter_items, into_iter_len}
 use Rattle.py_typed.specs.Statements.{typed_target}
 use Rattle.py_check_targets.specs.Targets.{targets_of}
-use Rattle.py_check_targets.specs.Views.{aim_seen}
+use Rattle.py_check_values.specs.Aims.{aim_seen}
 use Rattle.py_check_loops.proofs.head.targets_of.Given as goal
 
 abbrev pub invariant-loop-a : goal.invariant-loop-a

@@ -1,8 +1,9 @@
 use Rattle.std.proofs.Common.{◌≡◌, [], map, drop}
 use Rattle.py_typed.specs.Sorts.{sort}
 use Rattle.py_typed.specs.Classes.{class_entry}
+use Rattle.py_check_values.specs.Aims.{aim_seen}
 use Rattle.py_check_targets.specs.Targets.{parts_fault}
-use Rattle.py_check_targets.specs.Views.{aim_seen, part_seen}
+use Rattle.py_check_targets.specs.Views.{part_seen}
 use Rattle.py_check_targets.proofs.several.fit_parts.Given as goal
 
 abbrev pub invariant-loop-i : goal.invariant-loop-i

@@ -2,7 +2,7 @@ use Rattle.std.proofs.Common.{◌≡◌, ◌++◌, map, drop}
 use Rattle.std.specs.Option.{option_map}
 use Rattle.py_typed.specs.Sorts.{sort}
 use Rattle.py_check_targets.specs.Targets.{held_sorts}
-use Rattle.py_check_targets.specs.Views.{aim_seen}
+use Rattle.py_check_values.specs.Aims.{aim_seen}
 use Rattle.py_check_targets.proofs.values.held_types.Given as goal
 
 abbrev pub invariant-loop-a : goal.invariant-loop-a
