@@ -1,2 +1,3 @@
 pub mod DisplayLemmas
+pub mod EntryLemmas
 pub mod PlaceLemmas

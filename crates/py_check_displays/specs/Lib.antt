@@ -1,3 +1,5 @@
 pub mod Displays
+pub mod Dicts
+pub mod Entries
 pub mod Indexing
 pub mod Literals
