@@ -1,24 +1,27 @@
 -- Arguments and values, one by one from the front.
-use Rattle.std.proofs.Common.{◌≡◌, ◌<◌, ◌≤◌, ℕ, zero, suc, ◌+◌, false, ◌||◌, List, [], ◌∷◌, ◌++◌, length, map, drop, get_or, Option, Some, None, refl, ap, sym, ◌∙◌, arith, drop-cons, add-one, length-append, eq-eqb, Err, if◌then◌else◌}
+use Rattle.std.proofs.Common.{◌≡◌, ℕ, suc, ◌||◌, List, [], ◌∷◌, ◌++◌, length, map, Option, Some, None, refl, ap, sym, ◌∙◌, arith, length-append, eq-eqb, Err, if◌then◌else◌}
 use Rattle.std.specs.Prelude.{is_some}
 use Rattle.std.specs.Option.{option_map}
 use Rattle.std.specs.Fmt.{decimal}
+use Rattle.std.specs.declared.boxed.Box.{Box}
+use Rattle.std.specs.declared.alloc.Global.{Global}
+use Rattle.value_core.specs.declared.exception.ExcClass.{ExcClass}
 use Rattle.py_syntax.specs.declared.token.Span.{Span}
-use Rattle.py_syntax.specs.declared.expression.Arg.{Arg, out-Arg}
-use Rattle.py_syntax.specs.Expressions.{ExprTree, ArgTree, Arguments, expr_tree, arg_tree, arguments_of, with_key}
-use Rattle.py_syntax.proofs.ExpressionLemmas.{arg_tree_at}
+use Rattle.py_syntax.specs.Expressions.{ExprTree, Arguments, with_key}
 use Rattle.py_typed.specs.declared.expression.TExpr.{TExpr}
+use Rattle.py_typed.specs.declared.expression.TKind as kind
 use Rattle.py_typed.specs.declared.classes.Sig.{Sig}
-use Rattle.py_typed.specs.Sorts.{sort}
+use Rattle.py_typed.specs.Sorts.{sort, Exc}
 use Rattle.py_typed.specs.Classes.{ClassEntry, signature}
 use Rattle.py_check_context.specs.Context.{Wanted, along}
 use Rattle.py_check_messages.specs.Messages.{wrong_number}
 use Rattle.py_check_coercions.specs.Rows.{unfit}
-use Rattle.py_typed.specs.Expressions.{typed_expr, type_of}
-use Rattle.py_typed.specs.WellTypedExpr.{is_printable}
-use Rattle.py_check_coercions.proofs.PartLemmas.{type_at}
+use Rattle.py_check_coercions.specs.Boxes.{boxed}
+use Rattle.py_typed.specs.Expressions.{typed, typed_expr, typed_node}
+use Rattle.py_typed.proofs.ExpressionLemmas.{typed_node-MakeExc}
 use Rattle.py_check_calls.specs.Callees.{has_key}
-use Rattle.py_check_calls.specs.Builtins.{the_only, unprintable}
+use Rattle.py_check_calls.specs.Builtins.{the_only}
+use Rattle.py_check_calls.specs.Exceptions.{exception_made, exception_given, exception_call}
 use Rattle.py_check_calls.specs.Calls.{function_given, function_call}
 
 -- ---- a list of one
@@ -53,3 +56,13 @@ pub numbers_agree : (classes : List ClassEntry) (w : Wanted) (span : Span) (f : 
 numbers_agree classes w span f i s es e =
     ap (λ b. if b then function_given classes w span f i (signature s) (map typed_expr es) (unfit classes (along (signature s).params) 0 (map typed_expr es)) else Err (wrong_number f (decimal (length (signature s).params))))
     (eq-eqb (length (map typed_expr es)) (length (map sort s.params)) (count_map typed_expr es ∙ e ∙ sym (count_map sort s.params)))
+
+-- ---- exceptions
+
+pub exception_node : (span : Span) (x : ExcClass) (text : Option (Box TExpr Global)) → typed (typed_node (kind.MakeExc x text)) (Exc x) span ≡ exception_made span x (option_map boxed text)
+exception_node span x text = ap (λ n. typed n (Exc x) span) (typed_node-MakeExc x text)
+
+-- one with an argument
+pub given_some : (classes : List ClassEntry) (span : Span) (x : ExcClass) (es : List TExpr) → (es ≡ [] → ⊥) → exception_call classes span x (map typed_expr es) ≡ exception_given classes span x (the_only (map typed_expr es))
+given_some classes span x [] h = absurd (h refl)
+given_some classes span x (e ∷ es) h = refl

@@ -1,9 +1,10 @@
 -- What is called (Python Language Reference, "Calls").
 --
--- A name that is called is not typed itself: a function that has a signature, or a builtin that is called; a variable is read
--- like everywhere, and any other expression is typed, though neither is callable. Of a name without a type nothing is said, nor
+-- A name that is called is not typed itself: a function that has a signature, a builtin that is called, or an exception class; a
+-- variable is read like everywhere, and any other expression is typed, though neither is callable. Of a name without a type nothing is said, nor
 -- of a function without a signature; nor of a name that is not known, of which binding says so.
 use Rattle.std.specs.Prelude.{ℕ, Bool, true, false, not, List, Option, Some, None, slice_get}
+use Rattle.value_core.specs.declared.exception.ExcClass.{ExcClass}
 use Rattle.py_syntax.specs.Expressions as tree
 use Rattle.py_syntax.specs.Expressions.{ExprTree, ExprNode, at, Arguments, no_arguments, argument_then, keyed_then}
 use Rattle.py_typed.specs.Classes.{Signature}
@@ -25,6 +26,8 @@ pub data Callee : Type 0 where
   range : Callee
   -- a builtin that takes one value
   single : Single → Callee
+  -- an exception class
+  exception : ExcClass → Callee
   -- of a value, by its name
   method : List ℕ → Callee
   -- nothing is said of it
@@ -61,6 +64,7 @@ module _ (c : Context) where
   name_called x (meaning.Function i) = function_called x i (some_signature (slice_get c.signatures i))
   name_called x (meaning.Builtin b) = builtin_called b
   name_called x (meaning.Import i) = import_called i
+  name_called x (meaning.Exception e) = exception e
   name_called x (meaning.Local i) = value
   name_called x (meaning.Global i) = value
   name_called x meaning.Unknown = voiceless

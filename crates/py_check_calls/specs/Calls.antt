@@ -14,8 +14,9 @@ use Rattle.py_check_messages.specs.Seen.{Seen, Message, silent, ruled, rule}
 use Rattle.py_check_messages.specs.Messages.{keyword_argument, not_callable, range_outside_for, wrong_number, wrong_argument}
 use Rattle.py_check_coercions.specs.Several.{with_part}
 use Rattle.py_check_coercions.specs.Rows.{Misfit, unfit, changed_row}
-use Rattle.py_check_calls.specs.Callees.{Callee, function, print, input, range, single, method, voiceless, uncalled, value}
+use Rattle.py_check_calls.specs.Callees.{Callee, function, print, input, range, single, exception, method, voiceless, uncalled, value}
 use Rattle.py_check_calls.specs.Builtins.{as_value, print_call, input_call, single_call}
+use Rattle.py_check_calls.specs.Exceptions.{exception_call}
 use Rattle.py_check_calls.specs.Methods.{item_of, method_row, method_call}
 
 -- what the arguments are there for
@@ -61,6 +62,7 @@ module _ (classes : List ClassEntry) where
   called w span keyed input part args = rule span (input_call span) (positional span keyed args)
   called w span keyed range part args = rule span (refused range_outside_for) (positional span keyed args)
   called w span keyed (single f) part args = rule span (single_call classes f span) (positional span keyed args)
+  called w span keyed (exception x) part args = rule span (exception_call classes span x) (positional span keyed args)
   called w span keyed (method m) part args = with_part part (λ e. rule span (method_call classes w span m e) (positional span keyed args))
   called w span keyed voiceless part args = silent
   called w span keyed uncalled part args = rule span (refused not_callable) (positional span keyed args)

@@ -10,7 +10,7 @@ ghost use Rattle.py_check_calls.specs.CalleesSeen.{callee_seen};
 use py_check_context::{Builtin, Context, Imported, Meaning, meaning_of, signature_at};
 use py_syntax::{Expr, ExprKind};
 use py_typed::Sig;
-use value_core::Name;
+use value_core::{ExcClass, Name};
 
 /// A builtin that takes one value.
 #[derive(Clone, Copy, PartialEq, Eq)]
@@ -30,6 +30,8 @@ pub enum Callee<'a> {
     Input,
     Range,
     Single(Single),
+    /// An exception class.
+    Exception(ExcClass),
     /// The method of a value, by its name.
     Method(&'a Name),
     /// Nothing is said of it.
@@ -60,7 +62,8 @@ fn name_called<'a>(scope: &Context<'a>, x: &'a Name) -> Callee<'a>
         Meaning::Import(i) => import_called(i),
         Meaning::Local(_) | Meaning::Global(_) => Callee::Value,
         Meaning::Unknown | Meaning::Untyped | Meaning::UntypedClass => Callee::Voiceless,
-        Meaning::Class(_) | Meaning::Exception(_) | Meaning::ModuleName => Callee::Uncalled,
+        Meaning::Exception(class) => Callee::Exception(class),
+        Meaning::Class(_) | Meaning::ModuleName => Callee::Uncalled,
     }
 }
 

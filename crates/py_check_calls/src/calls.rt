@@ -14,6 +14,7 @@ ghost use Rattle.py_check_calls.specs.Calls as rule_of;
 use crate::arguments::positional;
 use crate::builtins::{gives_value, input_call, print_call, single_call};
 use crate::callees::Callee;
+use crate::exceptions::exception_call;
 use crate::methods::method_call;
 use py_check_coercions::{changed_row, kept, unfit};
 use py_check_context::{Row, Want};
@@ -60,6 +61,10 @@ pub fn called(
         Callee::Single(f) => {
             let es = positional(alloc, span, keyed, es, faults)?;
             single_call(alloc, classes, span, f, es, faults)
+        }
+        Callee::Exception(class) => {
+            let es = positional(alloc, span, keyed, es, faults)?;
+            exception_call(alloc, classes, span, class, es, faults)
         }
         Callee::Method(m) => {
             let Some(e) = part else {

@@ -8,6 +8,7 @@ mod arguments;
 mod builtins;
 mod callees;
 mod calls;
+mod exceptions;
 mod methods;
 
 pub use arguments::{arguments_row, has_key, positional};

@@ -1,0 +1,81 @@
+//! Calls of exception classes.
+ghost use Rattle.std.specs.Prelude.{◌≡◌, map, IfOk, Some};
+ghost use Rattle.std.specs.Option.{option_map};
+ghost use Rattle.py_typed.specs.Sorts.{sort};
+ghost use Rattle.py_typed.specs.Classes.{class_entry};
+ghost use Rattle.py_typed.specs.Expressions.{typed_expr};
+ghost use Rattle.py_check_messages.specs.Seen.{Tells, judged, ruled};
+ghost use Rattle.py_check_coercions.specs.Boxes.{boxed};
+ghost use Rattle.py_check_calls.specs.Exceptions as rule_of;
+
+use crate::builtins::the_only;
+use py_check_coercions::kept;
+use py_check_messages::{wrong_argument, wrong_number};
+use py_syntax::Span;
+use py_syntax_diagnostics::Diag;
+use py_typed::{Classes, TExpr, TKind, Ty};
+use std::alloc::Global;
+use value_core::{ExcClass, Many, Memory};
+
+/// A call of an exception class (Python Library Reference, "Built-in Exceptions").
+#[tactic(auto, using(crate::proofs::CallLemmas::given_some))]
+pub(crate) fn exception_call(
+    alloc: Global,
+    classes: &Classes,
+    span: Span,
+    class: ExcClass,
+    es: Option<Many<TExpr>>,
+    faults: &mut Many<Diag>,
+) -> Result<Option<Box<TExpr>>, Memory>
+    ensures { IfOk result (λ t. Tells boxed t faults.old faults.new (ruled span (rule_of.exception_call (map class_entry classes.now.list) span class) (option_map (map typed_expr) es))) }
+{
+    let Some(es) = es else {
+        return Ok(None);
+    };
+    if es.is_empty() {
+        let e = exception_made(alloc, span, class, None)?;
+        return Ok(Some(e));
+    }
+    let Some(e) = the_only(alloc, es)? else {
+        wrong_number(alloc, span, class.name(), "0 or 1", faults)?;
+        return Ok(None);
+    };
+    exception_given(alloc, classes, span, class, e, faults)
+}
+
+// The same with its one argument.
+fn exception_given(
+    alloc: Global,
+    classes: &Classes,
+    span: Span,
+    class: ExcClass,
+    e: Box<TExpr>,
+    faults: &mut Many<Diag>,
+) -> Result<Option<Box<TExpr>>, Memory>
+    ensures { IfOk result (λ t. Tells boxed t faults.old faults.new (judged span (rule_of.exception_given (map class_entry classes.now.list) span class (Some (boxed e))))) }
+{
+    if !is_text(&e.ty) {
+        wrong_argument(alloc, classes, span, 1, class.name(), &e.ty, "str", faults)?;
+        return Ok(None);
+    }
+    let e = exception_made(alloc, span, class, Some(e))?;
+    Ok(Some(e))
+}
+
+fn is_text(t: &Ty) -> bool
+    ensures { result ≡ rule_of.is_text (sort t.now) }
+{
+    matches!(t, Ty::Str)
+}
+
+#[tactic(auto, using(crate::proofs::CallLemmas::exception_node))]
+fn exception_made(
+    alloc: Global,
+    span: Span,
+    class: ExcClass,
+    text: Option<Box<TExpr>>,
+) -> Result<Box<TExpr>, Memory>
+    ensures { IfOk result (λ e. boxed e ≡ rule_of.exception_made span class (option_map boxed text)) }
+{
+    kept(alloc, TKind::MakeExc(class, text), Ty::Exc(class), span)
+}

@@ -1,0 +1,2 @@
+pub mod RaiseLemmas
+pub mod HandlerLemmas

@@ -1,0 +1,3 @@
+pub mod Raises
+pub mod Handlers
+pub mod Views
