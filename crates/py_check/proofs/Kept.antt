@@ -2,24 +2,26 @@
 use Rattle.std.proofs.Common.{◌≡◌, ℕ, zero, suc, ◌<◌, Bool, true, false, List, [], ◌∷◌, length, slice_set, Option, Some, None, refl, ap, sym, ◌∙◌, subst, if◌then◌else◌, ◌⊎◌, inl, inr, length-set, arith}
 use Rattle.std.specs.Prelude.{is_some}
 use Rattle.std.specs.Option.{option_map}
+use Rattle.value_core.specs.declared.exception.ExcClass.TheVariants.{Exception}
 use Rattle.py_syntax.specs.declared.token.Span.{Span}
 use Rattle.py_syntax.specs.Expressions.{ExprTree}
 use Rattle.py_syntax.specs.Statements as node
-use Rattle.py_syntax.specs.Statements.{StmtTree, StmtNode, Suite, no_stmts, stmt_then, Arms, no_arms, arm_then}
-use Rattle.py_typed.specs.Sorts.{Sort}
+use Rattle.py_syntax.specs.Statements.{StmtTree, StmtNode, Suite, no_stmts, stmt_then, Arms, no_arms, arm_then, Handlers, no_handlers, handler_then, MaybeSuite, no_suite, some_suite}
+use Rattle.py_typed.specs.Sorts.{Sort, Exc}
 use Rattle.py_typed.specs.Expressions.{type_of}
 use Rattle.py_check_context.specs.declared.scope.Meaning.{Meaning}
 use Rattle.py_check_context.specs.declared.scope.Meaning.TheVariants as meaning
 use Rattle.py_check_context.specs.Context.{Context, VarSort, VarSorts, var_at}
 use Rattle.py_check_flow.specs.Bindings.{name_in}
 use Rattle.py_check_flow.specs.Closed.{is_closed}
-use Rattle.py_check_places.specs.Places.{Known, is_unset, fix, first_type, bind_variable, bind_name, bind_names, where_test, entering, Way, setting_out, behind_arm}
+use Rattle.py_check_places.specs.Places.{Known, is_unset, fix, first_type, bind_variable, bind_name, bind_names, with_names, where_test, entering, Way, setting_out, behind_arm}
 use Rattle.py_check_places.specs.Shapes.{is_row, leaves, target_names, parts_of}
 use Rattle.py_check_places.specs.Shapes.{bind_target}
 use Rattle.py_check_assignments.specs.Assignments.{value_for, assigns, annotates_name, value_sort, binds_annotated}
 use Rattle.py_check_loops.specs.Loops.{course}
 use Rattle.py_check_loops.specs.Heads.{some_items, for_head, in_for}
-use Rattle.py_check_statements.specs.Bodies.{after, node_after, block_after, arms_after}
+use Rattle.py_check_exceptions.specs.Handlers.{handler_head, in_handler}
+use Rattle.py_check_statements.specs.Bodies.{after, node_after, block_after, arms_after, outside_try, handlers_after, last_after, is_last}
 
 true_false : (b : Bool) → b ≡ true → b ≡ false → ⊥
 true_false b p q = cc
@@ -156,7 +158,26 @@ module _ (C : Context) where
         let s = node.at (node.For target e body) span in
         let l = in_for C k s span target e in
         follows_on k.types l.types (block_after C l body).types (follows_target (is_some (for_head C k span target e).got) (entering C k s) target (some_items (course C k e).got)) (follows_block l body)
+    follows_node k span (node.Try body clauses last) =
+        let names = outside_try C k (node.at (node.Try body clauses last) span) in
+        let first = block_after C k body in
+        let handled = handlers_after C names first clauses in
+        follows_on k.types handled.types (last_after C names handled last).types
+        (follows_on k.types first.types handled.types (follows_block k body) (follows_clauses names first clauses)) (follows_last names handled last)
     follows_node k span _ = follows_itself k.types
+
+    pub follows_clauses : (names : List ℕ) (k : Known) (clauses : Handlers) → Follows k.types (handlers_after C names k clauses).types
+    follows_clauses names k no_handlers = follows_itself k.types
+    follows_clauses names k (handler_then e x body span more) =
+        let begun = in_handler C (with_names k names) span e x (is_last more) in
+        let end = block_after C begun body in
+        follows_on k.types end.types (handlers_after C names end more).types
+        (follows_on k.types begun.types end.types (follows_name (is_some (handler_head C (with_names k names) span e x (is_last more)).got) (with_names k names) x (Some (Exc Exception))) (follows_block begun body))
+        (follows_clauses names end more)
+
+    pub follows_last : (names : List ℕ) (k : Known) (last : MaybeSuite) → Follows k.types (last_after C names k last).types
+    follows_last names k no_suite = follows_itself k.types
+    follows_last names k (some_suite body) = follows_block (with_names k names) body
 
     pub follows_block : (k : Known) (body : Suite) → Follows k.types (block_after C k body).types
     follows_block k no_stmts = follows_itself k.types

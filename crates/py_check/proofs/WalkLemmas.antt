@@ -18,7 +18,7 @@ use Rattle.py_check_messages.specs.Rows.{appended, row_then}
 use Rattle.py_check_names.specs.Outline.{held_by, stmt_definitions, suite_definitions}
 use Rattle.py_check_values.specs.Returns.{outside}
 use Rattle.py_check_places.specs.Places.{Known}
-use Rattle.py_check_statements.specs.Bodies.{is_definition, after, statement, block, block_after}
+use Rattle.py_check_statements.specs.Bodies.{nothing_around, is_definition, after, statement, block, block_after}
 use Rattle.py_check_definitions.specs.Definitions.{names_given, definitions_said}
 use Rattle.py_check_definitions.specs.Views.{said_along, names_behind, scopes_behind}
 use Rattle.py_check_definitions.proofs.DefinitionLemmas.{Same, walk_says, names_left, scopes_left}
@@ -65,18 +65,18 @@ one_and_rest (Some a) (Some l) = refl
 module _ (C : Context) where
   -- one statement, and no more
   abbrev alone : Known → StmtTree → Seen (List TypedStmt)
-  alone k s = block C outside false k (stmt_then s no_stmts)
+  alone k s = block C outside nothing_around k (stmt_then s no_stmts)
 
   abbrev left : Known → Suite → Seen (List TypedStmt)
-  left k more = block C outside false k more
+  left k more = block C outside nothing_around k more
 
   -- the typed form of a statement, and of those behind it
   pub block_splits : (k : Known) (s : StmtTree) (more : Suite) → (left k (stmt_then s more)).got ≡ appended (alone k s).got (left (after C k s) more).got
   block_splits k s more = by (is_definition s) refl
     where
-      by : (b : Bool) → is_definition s ≡ b → (if b then left k more else row_then (statement C outside false k s) (left (after C k s) more)).got ≡ appended (if b then left k no_stmts else row_then (statement C outside false k s) (left (after C k s) no_stmts)).got (left (after C k s) more).got
+      by : (b : Bool) → is_definition s ≡ b → (if b then left k more else row_then (statement C outside nothing_around k s) (left (after C k s) more)).got ≡ appended (if b then left k no_stmts else row_then (statement C outside nothing_around k s) (left (after C k s) no_stmts)).got (left (after C k s) more).got
       by true d = ap (λ x. (left x more).got) (sym (stays C k s d)) ∙ nothing_before (left (after C k s) more).got
-      by false d = one_and_rest (statement C outside false k s).got (left (after C k s) more).got
+      by false d = one_and_rest (statement C outside nothing_around k s).got (left (after C k s) more).got
 
   -- ---- a step of the walk
 
@@ -138,7 +138,7 @@ module _ (roles : Roles) (c : Context) where
       let ds = stmt_definitions s in
       let behind = map (function_scope roles) (flat_map held_by (suite_definitions more)) ++ rest in
       let split : rs ≡ map (function_scope roles) (flat_map held_by ds) ++ behind = is ∙ row_splits roles ds (suite_definitions more) rest in
-      ap₂ (λ (p q : List Diag). (p ++ (block c outside false k (stmt_then s no_stmts)).said) ++ q)
+      ap₂ (λ (p q : List Diag). (p ++ (block c outside nothing_around k (stmt_then s no_stmts)).said) ++ q)
       (ap (λ l. said_along c k a l ds) split ∙ walk_says roles c k a b same ds behind)
       (walk_whole (after c k s) (names_behind a ds) (b ++ flat_map names_given ds) (names_left a b same ds) more rest (scopes_behind rs ds)
       (ap (λ l. scopes_behind l ds) split ∙ scopes_left roles ds behind))

@@ -28,7 +28,7 @@ use Rattle.py_check_names.specs.Meanings.{variables, own_names, number, meaning_
 use Rattle.py_check_values.specs.Returns as ret
 use Rattle.py_check_values.specs.Returns.{ReturnSort}
 use Rattle.py_check_places.specs.Places.{Known}
-use Rattle.py_check_statements.specs.Bodies.{after, block, block_after}
+use Rattle.py_check_statements.specs.Bodies.{nothing_around, after, block, block_after}
 use Rattle.py_check_definitions.specs.Definitions.{Headed, headed_functions, signatures, names_given, definitions_said, inner_definitions_said, or_refused}
 use Rattle.py_check_definitions.specs.Starts.{start_sort, own_sort}
 use Rattle.py_check_definitions.specs.Variables.{typed_variables, numbers_from}
@@ -90,7 +90,7 @@ module _ (c : Context) (names : List (List ℕ)) (m : Suite) where
   }
 
   abbrev pub own_statements : Seen (List TypedStmt)
-  own_statements = block c ret.outside false module_start m
+  own_statements = block c ret.outside nothing_around module_start m
 
   -- the types of the module's variables behind them
   abbrev pub fixed_sorts : List VarSort
@@ -104,7 +104,7 @@ module _ (roles : Roles) (c : Context) where
   abbrev pub walk_said : Known → List (List ℕ) → Suite → List Diag
   walk_said k earlier no_stmts = []
   walk_said k earlier (stmt_then s more) =
-      definitions_said roles c k earlier (stmt_definitions s) ++ (block c ret.outside false k (stmt_then s no_stmts)).said
+      definitions_said roles c k earlier (stmt_definitions s) ++ (block c ret.outside nothing_around k (stmt_then s no_stmts)).said
       ++ walk_said (after c k s) (earlier ++ flat_map names_given (stmt_definitions s)) more
 
 -- ---- a function's body
@@ -128,7 +128,7 @@ module _ (c : Context) (names : List (List ℕ)) (sorts : List VarSort) (f : Hea
   }
 
   abbrev pub body : Seen (List TypedStmt)
-  body = block c (return_of f.header.ret) false function_start f.tree.body
+  body = block c (return_of f.header.ret) nothing_around function_start f.tree.body
 
   abbrev pub body_after : Known
   body_after = block_after c function_start f.tree.body

@@ -13,7 +13,7 @@ use Rattle.py_check_names.specs.Outline.{stmt_definitions}
 use Rattle.py_check_signatures.specs.Headers.{signature_of}
 use Rattle.py_check_values.specs.Returns.{outside}
 use Rattle.py_check_places.specs.Places.{Known}
-use Rattle.py_check_statements.specs.Bodies.{after, block}
+use Rattle.py_check_statements.specs.Bodies.{nothing_around, after, block}
 use Rattle.py_check_definitions.specs.declared.environments.Environment as declared
 use Rattle.py_check_definitions.specs.Definitions.{Headed}
 use Rattle.py_check_definitions.specs.Views.{said_along, names_behind, scopes_behind}
@@ -41,7 +41,7 @@ module _ (c : Context) where
   abbrev pub walk_along : Known → List (List ℕ) → List Scope → Suite → List Diag
   walk_along k earlier insides no_stmts = []
   walk_along k earlier insides (stmt_then s more) =
-      said_along c k earlier insides (stmt_definitions s) ++ (block c outside false k (stmt_then s no_stmts)).said
+      said_along c k earlier insides (stmt_definitions s) ++ (block c outside nothing_around k (stmt_then s no_stmts)).said
       ++ walk_along (after c k s) (names_behind earlier (stmt_definitions s)) (scopes_behind insides (stmt_definitions s)) more
 
 -- from where the module begins

@@ -21,7 +21,7 @@ use py_check_definitions::{
 };
 use py_check_names::{names_in, own_names};
 use py_check_places::Place;
-use py_check_statements::block;
+use py_check_statements::{Around, block};
 use py_check_values::Returns;
 use py_syntax_diagnostics::Diag;
 use py_typed::{TFunc, TStmt, Ty};
@@ -158,7 +158,10 @@ fn body_in(
         scope,
         f.tree.body.as_slice(),
         returns_of(&f.header.ret),
-        false,
+        Around {
+            looping: false,
+            handling: false,
+        },
         place,
         faults,
     )

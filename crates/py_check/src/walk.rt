@@ -19,7 +19,7 @@ use py_check_context::Context;
 use py_check_definitions::add_definitions;
 use py_check_names::definitions_in;
 use py_check_places::Place;
-use py_check_statements::block;
+use py_check_statements::{Around, block};
 use py_check_values::Returns;
 use py_syntax::Stmt;
 use py_syntax_diagnostics::Diag;
@@ -38,7 +38,7 @@ pub(crate) fn walk(
     place: &mut Place,
     faults: &mut Many<Diag>,
 ) -> Result<Option<Many<TStmt>>, Memory>
-    ensures typed { IfOk result (λ t. option_map (map typed_stmt) t ≡ (bodies.block (context scope.now) outside false (known_at place.old) (body_tree body.now)).got) }
+    ensures typed { IfOk result (λ t. option_map (map typed_stmt) t ≡ (bodies.block (context scope.now) outside bodies.nothing_around (known_at place.old) (body_tree body.now)).got) }
     ensures told { IfOk result (λ t. faults.new ≡ faults.old ++ views.walk_along (context scope.now) (known_at place.old) [] insides.now (body_tree body.now)) }
     ensures known { IfOk result (λ t. known_at place.new ≡ bodies.block_after (context scope.now) (known_at place.old) (body_tree body.now)) }
 {
@@ -87,7 +87,7 @@ fn statement(
     place: &mut Place,
     faults: &mut Many<Diag>,
 ) -> Result<Option<Many<TStmt>>, Memory>
-    ensures told { IfOk result (λ t. Tells (map typed_stmt) t faults.old faults.new (bodies.block (context scope.now) outside false (known_at place.old) (stmt_then (stmt_tree s.now) no_stmts))) }
+    ensures told { IfOk result (λ t. Tells (map typed_stmt) t faults.old faults.new (bodies.block (context scope.now) outside bodies.nothing_around (known_at place.old) (stmt_then (stmt_tree s.now) no_stmts))) }
     ensures known { IfOk result (λ t. known_at place.new ≡ bodies.after (context scope.now) (known_at place.old) (stmt_tree s.now)) }
 {
     block(
@@ -95,7 +95,10 @@ fn statement(
         scope,
         from_ref(s),
         Returns::Outside,
-        false,
+        Around {
+            looping: false,
+            handling: false,
+        },
         place,
         faults,
     )

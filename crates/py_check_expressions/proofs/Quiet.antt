@@ -4,7 +4,7 @@ use Rattle.std.specs.Option.{option_map, option_zip}
 use Rattle.py_syntax.specs.declared.token.Span.{Span}
 use Rattle.py_syntax.specs.declared.expression.CmpOp.{CmpOp}
 use Rattle.py_syntax.specs.Expressions as tree
-use Rattle.py_syntax.specs.Expressions.{ExprTree, ExprNode, at, ExprTrees, no_exprs, expr_then, Comparisons, no_comparisons, comparison_then, Arguments, no_arguments, argument_then, keyed_then}
+use Rattle.py_syntax.specs.Expressions.{ExprTree, ExprNode, at, ExprTrees, no_exprs, expr_then, Comparisons, no_comparisons, comparison_then, Entries, no_entries, entry_then, Arguments, no_arguments, argument_then, keyed_then}
 use Rattle.py_typed.specs.Expressions.{TypedExpr, TypedNode}
 use Rattle.py_typed.specs.Classes.{ClassEntry}
 use Rattle.py_check_context.specs.declared.scope.Meaning.{Meaning}
@@ -20,10 +20,11 @@ use Rattle.py_check_operators.specs.Chains.{all_typed, chain_of}
 use Rattle.py_check_operators.proofs.ChainLemmas.{chain_right, chain_operands}
 use Rattle.py_check_operators.specs.Choices.{operand}
 use Rattle.py_check_displays.specs.Displays.{item_sort, items_row, parts_row}
-use Rattle.py_check_calls.specs.Callees.{Callee, function, print, input, range, single, method, voiceless, uncalled, value, callee, has_key, is_named, is_variable, name_called}
+use Rattle.py_check_displays.specs.Dicts.{entry_sorts, key_wanted, value_wanted}
+use Rattle.py_check_calls.specs.Callees.{Callee, function, print, input, range, single, exception, method, voiceless, uncalled, value, callee, has_key, is_named, is_variable, name_called}
 use Rattle.py_check_messages.specs.Messages.{range_outside_for, not_callable}
 use Rattle.py_check_calls.specs.Calls.{arguments_row, positional, no_keys, refused, called}
-use Rattle.py_check_expressions.specs.Typing.{typing, node_typing, items, operands, each_operand, arguments, part, receiver, count}
+use Rattle.py_check_expressions.specs.Typing.{typing, node_typing, items, entries, operands, each_operand, arguments, part, receiver, count}
 use Rattle.py_check_expressions.proofs.RowLemmas.{operands_got}
 
 pub record IsQuiet {A : Type 0} (s : Seen A) : Type 0 where
@@ -113,6 +114,7 @@ quiet_called classes w span keyed print p args = quiet_rule span _ (positional s
 quiet_called classes w span keyed input p args = quiet_rule span _ (positional span keyed args) (quiet_positional span keyed args)
 quiet_called classes w span keyed range p args = quiet_rule span (refused range_outside_for) (positional span keyed args) (quiet_positional span keyed args)
 quiet_called classes w span keyed (single f) p args = quiet_rule span _ (positional span keyed args) (quiet_positional span keyed args)
+quiet_called classes w span keyed (exception x) p args = quiet_rule span _ (positional span keyed args) (quiet_positional span keyed args)
 quiet_called classes w span keyed (method m) p args = quiet_with_part p _ (λ e. quiet_rule span _ (positional span keyed args) (quiet_positional span keyed args))
 quiet_called classes w span keyed voiceless p args = quiet_silent
 quiet_called classes w span keyed uncalled p args = quiet_rule span (refused not_callable) (positional span keyed args) (quiet_positional span keyed args)
@@ -187,6 +189,7 @@ called_none classes w span keyed print p b e = cc
 called_none classes w span keyed input p b e = cc
 called_none classes w span keyed range p b e = cc
 called_none classes w span keyed (single f) p b e = cc
+called_none classes w span keyed (exception x) p b e = cc
 called_none classes w span keyed (method m) None b e = cc
 called_none classes w span keyed (method m) (Some a) b e = cc
 called_none classes w span keyed voiceless p b e = cc
@@ -232,11 +235,17 @@ module _ (C : Context) (V : VarSorts) where
         (λ p. quiet_after (arguments C V (arguments_row (callee C f) p) 0 known args) (called C.classes w span (has_key args) (callee C f) p) (quiet_arguments (arguments_row (callee C f) p) 0 known args) (λ es. quiet_called C.classes w span (has_key args) (callee C f) p es) (λ none b e. absurd (called_none C.classes w span (has_key args) (callee C f) p b e)))
         (λ none b e. call_unsaid C V known f args w span (lost C V known f) b e)
     quiet_node w known span (tree.Attr e a) = quiet_rule span _ (typing C V free known e) (quiet_typing free known e)
-    quiet_node w known span (tree.DictOf es) = quiet_fails span _
+    quiet_node w known span (tree.DictOf es) =
+        quiet_rule span _ (entries C V (key_wanted (entry_sorts w)) (value_wanted (entry_sorts w)) known es) (quiet_entries (key_wanted (entry_sorts w)) (value_wanted (entry_sorts w)) known es)
 
     quiet_items : (row : WantedRow) (i : ℕ) (known : List ℕ) (es : ExprTrees) → IsQuiet (items C V row i known es)
     quiet_items row i known no_exprs = quiet_is []
     quiet_items row i known (expr_then e more) = quiet_row (typing C V (wanted_in row i) known e) (items C V row (suc i) known more) (quiet_typing (wanted_in row i) known e) (quiet_items row (suc i) known more)
+
+    pub quiet_entries : (w v : Wanted) (known : List ℕ) (es : Entries) → IsQuiet (entries C V w v known es)
+    quiet_entries w v known no_entries = quiet_is []
+    quiet_entries w v known (entry_then k e more) =
+        quiet_row (both (typing C V w known k) (typing C V v known e)) (entries C V w v known more) (quiet_both (typing C V w known k) (typing C V v known e) (quiet_typing w known k) (quiet_typing v known e)) (quiet_entries w v known more)
 
     quiet_operands : (known : List ℕ) (cs : Comparisons) → IsQuiet (operands C V known cs)
     quiet_operands known no_comparisons = quiet_is []

@@ -1,20 +1,36 @@
 -- Expressions, operands and arguments in rows, from a place on.
-use Rattle.std.proofs.Common.{◌≡◌, ◌<◌, ℕ, ◌+◌, suc, List, [], ◌∷◌, Option, Some, None, length, map, drop, get_or, refl, ap, sym, ◌∙◌, drop-cons, add-one}
+use Rattle.std.proofs.Common.{◌≡◌, ◌<◌, ℕ, ◌+◌, zero, suc, List, [], ◌∷◌, Option, Some, None, length, map, drop, get_or, refl, ap, sym, ◌∙◌, drop-cons, add-one}
 use Rattle.std.specs.Option.{option_map, option_zip}
 use Rattle.py_syntax.specs.declared.expression.CmpOp.{CmpOp}
 use Rattle.py_syntax.specs.declared.expression.Expr.{Expr}
 use Rattle.py_syntax.specs.declared.expression.Arg.{Arg, out-Arg}
-use Rattle.py_syntax.specs.Expressions.{ExprTree, ArgTree, Arguments, expr_tree, exprs_of, arg_tree, Comparisons, no_comparisons, comparison_then, comparison_tree, comparisons_of, arguments_of, with_key}
+use Rattle.py_syntax.specs.Expressions.{ExprTree, ArgTree, Arguments, expr_tree, exprs_of, arg_tree, Comparisons, no_comparisons, comparison_then, comparison_tree, comparisons_of, entry_tree, entries_of, arguments_of, with_key}
 use Rattle.py_syntax.proofs.ExpressionLemmas.{arg_tree_at}
-use Rattle.py_check_context.specs.Context.{Context, VarSorts, free, WantedRow, wanted_in}
-use Rattle.py_check_messages.specs.Seen.{made}
-use Rattle.py_check_messages.specs.Rows.{row_then}
+use Rattle.py_syntax_diagnostics.specs.declared.diagnostic.Diag.{Diag}
+use Rattle.py_check_context.specs.Context.{Context, VarSorts, Wanted, free, WantedRow, wanted_in}
+use Rattle.py_check_messages.specs.Seen.{Seen, both, made}
+use Rattle.py_check_messages.specs.Rows.{row_then, appended}
+use Rattle.py_check_messages.proofs.RowLemmas.{Remains}
 use Rattle.py_check_operators.specs.Chains.{all_typed}
-use Rattle.py_check_expressions.specs.Typing.{typing, items, operands, each_operand, arguments, count}
+use Rattle.py_check_expressions.specs.Typing.{typing, items, entries, operands, each_operand, arguments, count}
 
 pub counted : (es : List Expr) → count (exprs_of (map expr_tree es)) ≡ length es
 counted [] = refl
 counted (e ∷ es) = ap suc (counted es)
+
+-- ---- where a row begins
+
+pub drop_none : {A : Type 0} (l : List A) → drop zero l ≡ l
+drop_none [] = refl
+drop_none (a ∷ l) = refl
+
+nothing_before : {A : Type 0} (rest : Option (List A)) → rest ≡ appended (Some []) rest
+nothing_before None = refl
+nothing_before (Some l) = refl
+
+-- nothing of it is looked at yet
+pub row_starts : {A : Type 0} (front : Option (List A)) (old : List Diag) (whole : Seen (List A)) → front ≡ Some [] → Remains front old old whole whole
+row_starts front old whole e = record { typed = nothing_before whole.got ∙ ap (λ f. appended f whole.got) (sym e); told = refl }
 
 module _ (C : Context) (V : VarSorts) (K : List ℕ) where
   -- ---- items
@@ -24,6 +40,14 @@ module _ (C : Context) (V : VarSorts) (K : List ℕ) where
       ap (λ l. items C V row i K (exprs_of (map expr_tree l))) (drop-cons es i e h)
       ∙ ap (λ (x : Expr). row_then (typing C V (wanted_in row i) K (expr_tree x)) (items C V row (suc i) K (exprs_of (map expr_tree (drop (suc i) es))))) (sym is)
       ∙ ap (λ k. row_then (typing C V (wanted_in row i) K (expr_tree e)) (items C V row k K (exprs_of (map expr_tree (drop k es))))) (sym (add-one i))
+
+  -- ---- entries
+
+  pub entries_at : (w v : Wanted) (es : List (Expr × Expr)) (i : ℕ) (p : Expr × Expr) → i < length es → p ≡ get_or es i p → entries C V w v K (entries_of (map entry_tree (drop i es))) ≡ row_then (both (typing C V w K (expr_tree p.0)) (typing C V v K (expr_tree p.1))) (entries C V w v K (entries_of (map entry_tree (drop (i + 1) es))))
+  entries_at w v es i p h is =
+      ap (λ l. entries C V w v K (entries_of (map entry_tree l))) (drop-cons es i p h)
+      ∙ ap (λ (q : Expr × Expr). row_then (both (typing C V w K (expr_tree q.0)) (typing C V v K (expr_tree q.1))) (entries C V w v K (entries_of (map entry_tree (drop (suc i) es))))) (sym is)
+      ∙ ap (λ k. row_then (both (typing C V w K (expr_tree p.0)) (typing C V v K (expr_tree p.1))) (entries C V w v K (entries_of (map entry_tree (drop k es))))) (sym (add-one i))
 
   -- ---- operands
 

@@ -3,11 +3,12 @@ use Rattle.std.proofs.Common.{◌≡◌, refl, ℕ, pos, List, [], ◌∷◌, co
 use Rattle.std.specs.Prelude.{unwrap_or}
 use Rattle.std.specs.Map.{lookup}
 use Rattle.std.specs.Str.{bytes_eq}
+use Rattle.value_core.specs.declared.exception.ExcClass.TheVariants as exception
 use Rattle.py_syntax.specs.declared.token.Span.{Span}
 use Rattle.py_syntax.specs.declared.expression.BinOp.TheVariants as bin
 use Rattle.py_syntax.specs.declared.expression.CmpOp.TheVariants as op
 use Rattle.py_syntax.specs.Expressions as tree
-use Rattle.py_syntax.specs.Expressions.{ExprTree, ExprNode, at, no_exprs, expr_then, exprs_of, no_comparisons, comparison_then, Arguments, no_arguments, argument_then, keyed_then}
+use Rattle.py_syntax.specs.Expressions.{ExprTree, ExprNode, at, no_exprs, expr_then, exprs_of, no_comparisons, comparison_then, no_entries, entry_then, Arguments, no_arguments, argument_then, keyed_then}
 use Rattle.py_typed.specs.Sorts as sort
 use Rattle.py_typed.specs.Sorts.{Sort, no_sorts, sort_then}
 use Rattle.py_typed.specs.Expressions as node
@@ -18,7 +19,7 @@ use Rattle.py_check_context.specs.declared.scope.Builtin.TheVariants as builtin
 use Rattle.py_check_context.specs.declared.scope.Imported.TheVariants as imported
 use Rattle.py_check_context.specs.Context.{Context, VarSorts, unset, untyped, has, free, test, wants, dropped}
 use Rattle.py_check_messages.specs.Seen.{Seen, diag, is, silent, fails}
-use Rattle.py_check_messages.specs.Messages.{not_a_value, no_type_yet, unsupported_operand, unsupported_operands, only_for_none, no_common_type, wrong_item, empty_display, no_common_item, invalid_tuple, no_attribute, not_indexable, tuple_index, invalid_index, keyword_argument, not_callable, range_outside_for, wrong_number, wrong_argument, gives_nothing}
+use Rattle.py_check_messages.specs.Messages.{not_a_value, no_type_yet, unsupported_operand, unsupported_operands, only_for_none, no_common_type, wrong_item, empty_display, no_common_item, wrong_entry, no_common_entry, invalid_tuple, no_attribute, not_indexable, tuple_index, invalid_index, keyword_argument, not_callable, range_outside_for, wrong_number, wrong_argument, gives_nothing}
 use Rattle.py_check_expressions.specs.Typing.{typing}
 
 -- all at one place
@@ -50,15 +51,16 @@ abbrev typed_text : TypedExpr
 typed_text = t (node.Str (codes "a")) sort.Str
 
 -- the variables x: Optional[int], n: int, q: i64, b: bool, l: list[int], w: tuple[int, str], one that is not set yet and one without
--- a type; the functions f(i64) -> int, g() -> None, and one without a signature
+-- a type, and d: dict[str, int]; the functions f(i64) -> int, g() -> None, and one without a signature
 abbrev names : List (List ℕ × Meaning)
 names =
     (codes "x", meaning.Local 0) ∷ (codes "n", meaning.Local 1) ∷ (codes "q", meaning.Local 2) ∷ (codes "b", meaning.Local 3)
     ∷ (codes "l", meaning.Local 4) ∷ (codes "w", meaning.Local 5) ∷ (codes "late", meaning.Local 6) ∷ (codes "lost", meaning.Local 7)
-    ∷ (codes "v", meaning.Global 0) ∷ (codes "f", meaning.Function 0) ∷ (codes "g", meaning.Function 1) ∷ (codes "bad", meaning.Function 2)
+    ∷ (codes "d", meaning.Local 8) ∷ (codes "v", meaning.Global 0) ∷ (codes "f", meaning.Function 0) ∷ (codes "g", meaning.Function 1) ∷ (codes "bad", meaning.Function 2)
     ∷ (codes "print", meaning.Builtin builtin.Print) ∷ (codes "len", meaning.Builtin builtin.Len) ∷ (codes "range", meaning.Builtin builtin.Range)
     ∷ (codes "str", meaning.Builtin builtin.Str) ∷ (codes "list", meaning.Builtin builtin.List) ∷ (codes "i64", meaning.Import imported.I64)
-    ∷ (codes "input", meaning.Builtin builtin.Input) ∷ (codes "__name__", meaning.ModuleName) ∷ (codes "refused", meaning.Untyped) ∷ []
+    ∷ (codes "input", meaning.Builtin builtin.Input) ∷ (codes "__name__", meaning.ModuleName) ∷ (codes "refused", meaning.Untyped)
+    ∷ (codes "KeyError", meaning.Exception exception.KeyError) ∷ []
 
 abbrev c : Context
 c = record {
@@ -71,7 +73,7 @@ abbrev vars : VarSorts
 vars = record {
   locals =
       has (sort.Optional sort.Int) ∷ has sort.Int ∷ has sort.I64 ∷ has sort.Bool ∷ has (sort.ListOf sort.Int)
-      ∷ has (sort.TupleOf (sort_then sort.Int (sort_then sort.Str no_sorts))) ∷ unset ∷ untyped ∷ [];
+      ∷ has (sort.TupleOf (sort_then sort.Int (sort_then sort.Str no_sorts))) ∷ unset ∷ untyped ∷ has (sort.DictOf sort.Str sort.Int) ∷ [];
   globals = has (sort.Optional sort.Str) ∷ [];
 }
 
@@ -162,6 +164,15 @@ is_for_none = refl
 in_for_dicts : types (e (tree.Compare (number 1) (comparison_then op.Member (name (codes "l")) no_comparisons))) ≡ fails p (unsupported_operands [] (codes "in") sort.Int (sort.ListOf sort.Int))
 in_for_dicts = refl
 
+abbrev typed_d : TypedExpr
+typed_d = t (node.Local 8) (sort.DictOf sort.Str sort.Int)
+
+key_in_dict : types (e (tree.Compare text (comparison_then op.NotMember (name (codes "d")) no_comparisons))) ≡ is (t (node.Compare typed_text (node.comparison_then op.NotMember typed_d node.no_comparisons)) sort.Bool)
+key_in_dict = refl
+
+wrong_key_in_dict : types (e (tree.Compare (number 1) (comparison_then op.Member (name (codes "d")) no_comparisons))) ≡ fails p (unsupported_operands [] (codes "in") sort.Int (sort.DictOf sort.Str sort.Int))
+wrong_key_in_dict = refl
+
 -- ---- choices
 
 abbrev x_is_not_none : ExprTree
@@ -218,6 +229,63 @@ list_without_join = refl
 list_of_none : types (e (tree.ListOf (exprs_of (nothing ∷ [])))) ≡ fails p no_common_item
 list_of_none = refl
 
+-- `{k: v}`
+abbrev entry : ExprTree → ExprTree → ExprTree
+entry k v = e (tree.DictOf (entry_then k v no_entries))
+
+-- `{k: v, j: u}`
+abbrev two_entries : ExprTree → ExprTree → ExprTree → ExprTree → ExprTree
+two_entries k v j u = e (tree.DictOf (entry_then k v (entry_then j u no_entries)))
+
+dict_of_joins : types (two_entries (number 1) text (name (codes "q")) text) ≡ is (t (node.DictOf (node.entry_then (t (node.Coerce (typed_number 1)) sort.I64) typed_text (node.entry_then (t (node.Local 2) sort.I64) typed_text node.no_entries))) (sort.DictOf sort.I64 sort.Str))
+dict_of_joins = refl
+
+dict_expected : typing c vars (wants (sort.DictOf sort.Str sort.I64)) [] (entry text (number 1)) ≡ is (t (node.DictOf (node.entry_then typed_text (t (node.Coerce (typed_number 1)) sort.I64) node.no_entries)) (sort.DictOf sort.Str sort.I64))
+dict_expected = refl
+
+-- what is expected of the values is expected in them
+dict_of_lists_expected : typing c vars (wants (sort.DictOf sort.Str (sort.ListOf sort.Int))) [] (entry text (e (tree.ListOf no_exprs))) ≡ is (t (node.DictOf (node.entry_then typed_text (t (node.ListOf node.no_exprs) (sort.ListOf sort.Int)) node.no_entries)) (sort.DictOf sort.Str (sort.ListOf sort.Int)))
+dict_of_lists_expected = refl
+
+-- the first entry that does not fit gives the text, be it by its key or by its value
+dict_key_misfits : typing c vars (wants (sort.DictOf sort.Str sort.Int)) [] (e (tree.DictOf (entry_then text (number 1) (entry_then (number 2) (number 1) (entry_then text text no_entries))))) ≡ fails p (wrong_entry [] 1 sort.Int sort.Int sort.Str sort.Int)
+dict_key_misfits = refl
+
+dict_value_misfits : typing c vars (wants (sort.DictOf sort.Str sort.Int)) [] (two_entries text text (number 2) (number 1)) ≡ fails p (wrong_entry [] 0 sort.Str sort.Str sort.Str sort.Int)
+dict_value_misfits = refl
+
+empty_dict : types (e (tree.DictOf no_entries)) ≡ fails p empty_display
+empty_dict = refl
+
+empty_dict_expected : typing c vars (wants (sort.DictOf sort.Str sort.Int)) [] (e (tree.DictOf no_entries)) ≡ is (t (node.DictOf node.no_entries) (sort.DictOf sort.Str sort.Int))
+empty_dict_expected = refl
+
+optional_expects_no_dict : typing c vars (wants (sort.Optional (sort.DictOf sort.Str sort.Int))) [] (e (tree.DictOf no_entries)) ≡ fails p empty_display
+optional_expects_no_dict = refl
+
+keys_without_join : types (two_entries (number 1) text text text) ≡ fails p no_common_entry
+keys_without_join = refl
+
+values_without_join : types (two_entries text (number 1) text text) ≡ fails p no_common_entry
+values_without_join = refl
+
+-- None joins a number to an Optional, which values may be and keys may not
+values_of_none : types (entry text nothing) ≡ fails p no_common_entry
+values_of_none = refl
+
+optional_values : types (two_entries text nothing text (number 1)) ≡ is (t (node.DictOf (node.entry_then typed_text (t (node.Coerce (t node.Nothing sort.Nothing)) (sort.Optional sort.Int)) (node.entry_then typed_text (t (node.Coerce (typed_number 1)) (sort.Optional sort.Int)) node.no_entries))) (sort.DictOf sort.Str (sort.Optional sort.Int)))
+optional_values = refl
+
+optional_keys : types (two_entries nothing text (number 1) text) ≡ fails p no_common_entry
+optional_keys = refl
+
+lists_as_keys : types (entry (name (codes "l")) text) ≡ fails p no_common_entry
+lists_as_keys = refl
+
+-- a key comes before its value, and an entry without a type silences the display
+entries_in_order : types (two_entries (name (codes "late")) (name (codes "print")) (name (codes "f")) text) ≡ record { got = None; said = diag p (no_type_yet (codes "late")) ∷ diag p (not_a_value (codes "print")) ∷ diag p (not_a_value (codes "f")) ∷ [] }
+entries_in_order = refl
+
 tuple_of_two : types (e (tree.TupleOf (exprs_of (number 1 ∷ text ∷ [])))) ≡ is (t (node.TupleOf (node.exprs_of (typed_number 1 ∷ typed_text ∷ []))) (sort.TupleOf (sort_then sort.Int (sort_then sort.Str no_sorts))))
 tuple_of_two = refl
 
@@ -238,6 +306,12 @@ empty_tuple = refl
 
 item_of_list : types (e (tree.Index (name (codes "l")) (name (codes "b")))) ≡ is (t (node.At (t (node.Local 4) (sort.ListOf sort.Int)) (t (node.Coerce (t (node.Local 3) sort.Bool)) sort.Int)) sort.Int)
 item_of_list = refl
+
+item_of_dict : types (e (tree.Index (name (codes "d")) text)) ≡ is (t (node.At typed_d typed_text) sort.Int)
+item_of_dict = refl
+
+number_as_key : types (e (tree.Index (name (codes "d")) (number 1))) ≡ fails p (invalid_index [] sort.Int (sort.DictOf sort.Str sort.Int) sort.Str)
+number_as_key = refl
 
 item_of_text : types (e (tree.Index text (number 0))) ≡ is (t (node.At typed_text (typed_number 0)) sort.Str)
 item_of_text = refl
@@ -294,6 +368,21 @@ call_gives_nothing = refl
 
 call_alone : typing c vars dropped [] (call (codes "g") no_arguments) ≡ is (t (node.Call 1 node.no_exprs) sort.Nothing)
 call_alone = refl
+
+exception_with_text : types (call (codes "KeyError") (argument text)) ≡ is (t (node.MakeExc exception.KeyError (node.some_expr typed_text)) (sort.Exc exception.KeyError))
+exception_with_text = refl
+
+exception_without_text : types (call (codes "KeyError") no_arguments) ≡ is (t (node.MakeExc exception.KeyError node.no_expr) (sort.Exc exception.KeyError))
+exception_without_text = refl
+
+exception_of_number : types (call (codes "KeyError") (argument (number 1))) ≡ fails p (wrong_argument [] 1 (codes "KeyError") sort.Int (codes "str"))
+exception_of_number = refl
+
+exception_of_two : types (call (codes "KeyError") (argument_then text (argument text))) ≡ fails p (wrong_number (codes "KeyError") (codes "0 or 1"))
+exception_of_two = refl
+
+printed_exception : types (call (codes "str") (argument (call (codes "KeyError") no_arguments))) ≡ is (t (node.ToStr (t (node.MakeExc exception.KeyError node.no_expr) (sort.Exc exception.KeyError))) sort.Str)
+printed_exception = refl
 
 call_with_key : types (call (codes "f") (keyed_then (name (codes "k")) (number 1) no_arguments)) ≡ fails p keyword_argument
 call_with_key = refl

@@ -7,20 +7,20 @@ use Rattle.std.specs.Prelude.{ℕ, suc, true, false, List, [], ◌∷◌, ◌++�
 use Rattle.py_syntax.specs.declared.token.Span.{Span}
 use Rattle.py_syntax.specs.declared.expression.CmpOp.{CmpOp}
 use Rattle.py_syntax.specs.Expressions as tree
-use Rattle.py_syntax.specs.Expressions.{ExprTree, ExprNode, at, ExprTrees, no_exprs, expr_then, Comparisons, no_comparisons, comparison_then, Arguments, no_arguments, argument_then, keyed_then}
+use Rattle.py_syntax.specs.Expressions.{ExprTree, ExprNode, at, ExprTrees, no_exprs, expr_then, Comparisons, no_comparisons, comparison_then, Entries, no_entries, entry_then, Arguments, no_arguments, argument_then, keyed_then}
 use Rattle.py_typed.specs.Sorts as sort
 use Rattle.py_typed.specs.Expressions as node
 use Rattle.py_typed.specs.Expressions.{TypedExpr, typed}
 use Rattle.py_check_context.specs.Context.{Context, VarSorts, Wanted, free, test, WantedRow, wanted_in}
-use Rattle.py_check_messages.specs.Seen.{Seen, is, silent, fails, both, behind, rule, made}
+use Rattle.py_check_messages.specs.Seen.{Seen, is, silent, both, behind, rule, made}
 use Rattle.py_check_messages.specs.Rows.{row_then}
-use Rattle.py_check_messages.specs.Messages.{no_common_entry}
 use Rattle.py_check_operators.specs.Facts.{facts}
 use Rattle.py_check_operators.specs.Names.{named}
 use Rattle.py_check_operators.specs.Operators.{negation, affirmation, inversion, arithmetic}
 use Rattle.py_check_operators.specs.Chains.{chain_of}
 use Rattle.py_check_operators.specs.Choices.{junction, operand, choice}
 use Rattle.py_check_displays.specs.Displays.{item_sort, items_row, list_display, parts_row, tuple_display}
+use Rattle.py_check_displays.specs.Dicts.{entry_sorts, key_wanted, value_wanted, dict_display}
 use Rattle.py_check_displays.specs.Indexing.{literal, indexing}
 use Rattle.py_check_calls.specs.Callees.{callee, is_named, has_key}
 use Rattle.py_check_calls.specs.Methods.{attribute}
@@ -57,19 +57,24 @@ module _ (c : Context) (vars : VarSorts) where
     node_typing w known span (tree.Cond a t b) =
         rule span (choice c.classes w span) (both (both (typing free (facts c true t ++ known) a) (typing test known t)) (typing free (facts c false t ++ known) b))
     node_typing w known span (tree.ListOf es) = rule span (list_display c.classes (item_sort w) span) (items (items_row (item_sort w)) 0 known es)
+    node_typing w known span (tree.DictOf es) =
+        rule span (dict_display c.classes (entry_sorts w) span) (entries (key_wanted (entry_sorts w)) (value_wanted (entry_sorts w)) known es)
     node_typing w known span (tree.TupleOf es) =
         rule span (tuple_display c.classes (parts_row w (count es)) span) (items (parts_row w (count es)) 0 known es)
     node_typing w known span (tree.Index e i) = rule span (indexing c.classes span (literal i)) (both (typing free known e) (typing free known i))
     node_typing w known span (tree.Call f args) =
         behind (part known f) (λ p. behind (arguments (arguments_row (callee c f) p) 0 known args) (called c.classes w span (has_key args) (callee c f) p))
     node_typing w known span (tree.Attr e a) = rule span (attribute c.classes a) (typing free known e)
-    -- dicts are not typed yet
-    node_typing w known span (tree.DictOf es) = fails span no_common_entry
 
     -- expressions in a row, from the place i on
     pub items : WantedRow → ℕ → List ℕ → ExprTrees → Seen (List TypedExpr)
     items row i known no_exprs = is []
     items row i known (expr_then e more) = row_then (typing (wanted_in row i) known e) (items row (suc i) known more)
+
+    -- keys with their values in a row, each key before its value
+    pub entries : Wanted → Wanted → List ℕ → Entries → Seen (List (TypedExpr × TypedExpr))
+    entries key value known no_entries = is []
+    entries key value known (entry_then k e more) = row_then (both (typing key known k) (typing value known e)) (entries key value known more)
 
     -- the further operands of a chain, in a row and each by itself
     pub operands : List ℕ → Comparisons → Seen (List (CmpOp × TypedExpr))

@@ -3,18 +3,14 @@ ghost use Rattle.std.specs.Prelude.{◌≡◌, Some, IfOk};
 ghost use Rattle.std.specs.Option.{option_map};
 ghost use Rattle.py_typed.specs.Sorts as sort;
 ghost use Rattle.py_typed.specs.Expressions as node;
-ghost use Rattle.py_typed.specs.Expressions.{TypedExpr, typed};
-ghost use Rattle.py_check_messages.specs.Seen.{Tells, fails};
-ghost use Rattle.py_check_messages.specs.Messages as message;
+ghost use Rattle.py_typed.specs.Expressions.{typed};
 ghost use Rattle.py_check_coercions.specs.Boxes.{boxed};
 
 use py_check_coercions::kept;
-use py_check_messages::no_common_entry;
 use py_syntax::Span;
-use py_syntax_diagnostics::Diag;
 use py_typed::{TExpr, TKind, Ty};
 use std::alloc::Global;
-use value_core::{Many, Memory, Text};
+use value_core::{Memory, Text};
 
 /// A number (Python Language Reference, "Integer literals").
 pub(crate) fn number(alloc: Global, span: Span, n: i128) -> Result<Option<Box<TExpr>>, Memory>
@@ -47,16 +43,4 @@ pub(crate) fn nothing(alloc: Global, span: Span) -> Result<Option<Box<TExpr>>, M
 {
     let e = kept(alloc, TKind::Nothing, Ty::Nothing, span)?;
     Ok(Some(e))
-}
-
-/// A dict display, which has no type yet.
-pub(crate) fn dict(
-    alloc: Global,
-    span: Span,
-    faults: &mut Many<Diag>,
-) -> Result<Option<Box<TExpr>>, Memory>
-    ensures { IfOk result (λ t. Tells boxed t faults.old faults.new (fails {A = TypedExpr} span message.no_common_entry)) }
-{
-    no_common_entry(alloc, span, faults)?;
-    Ok(None)
 }

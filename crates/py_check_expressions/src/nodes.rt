@@ -1,7 +1,8 @@
 //! The typing of expressions: the parts of a node are typed, and then its rule is asked.
 ghost use Rattle.std.specs.Prelude.{◌≡◌, ◌++◌, map, true, false, IfOk};
-ghost use Rattle.py_syntax.specs.Expressions.{expr_tree, expr_node, exprs_of, comparison_tree, comparisons_of, arg_tree, arguments_of};
-ghost use Rattle.py_typed.specs.Expressions.{TypedExpr, typed_expr};
+ghost use Rattle.std.specs.Option.{option_map};
+ghost use Rattle.py_syntax.specs.Expressions.{expr_tree, expr_node, exprs_of, comparison_tree, comparisons_of, entry_tree, entries_of, arg_tree, arguments_of};
+ghost use Rattle.py_typed.specs.Expressions.{TypedExpr, typed_expr, typed_entry};
 ghost use Rattle.py_check_context.specs.Context.{context, var_sorts, wanted, free, test, row};
 ghost use Rattle.py_check_messages.specs.Seen.{Tells, both, behind, rule, made};
 ghost use Rattle.py_check_coercions.specs.Boxes.{boxed};
@@ -11,18 +12,21 @@ ghost use Rattle.py_check_operators.specs.Chains as chains;
 ghost use Rattle.py_check_operators.specs.Operands.{maybe_pair};
 ghost use Rattle.py_check_operators.specs.Choices as choices;
 ghost use Rattle.py_check_displays.specs.Displays as displays;
+ghost use Rattle.py_check_displays.specs.Dicts as dicts;
+ghost use Rattle.py_check_displays.specs.Entries.{entry_types};
 ghost use Rattle.py_check_displays.specs.Indexing as items_of;
 ghost use Rattle.py_check_calls.specs.Callees as callees;
 ghost use Rattle.py_check_calls.specs.Methods as methods;
 ghost use Rattle.py_check_calls.specs.Calls as calls;
 ghost use Rattle.py_check_expressions.specs.Typing as rule_of;
 
-use crate::leaves::{dict, flag, nothing, number, text};
+use crate::leaves::{flag, nothing, number, text};
 use py_check_calls::{arguments_row, attribute, called, callee_of, has_key, is_named};
 use py_check_coercions::with_item;
 use py_check_context::{Context, Row, Variables, Want, wanted_at};
 use py_check_displays::{
-    indexing, item_type, items_row, list_display, literal_of, parts_row, tuple_display,
+    EntryTypes, dict_display, expected_entry, indexing, item_type, items_row, key_want,
+    list_display, literal_of, parts_row, tuple_display, value_want, with_entry,
 };
 use py_check_operators::{
     affirmation, arithmetic, chain, choice, inversion, junction, named, negation, operand,
@@ -70,7 +74,7 @@ pub fn expression(
         ExprKind::Cond(a, t, b) => chosen(alloc, scope, vars, want, known, span, a, t, b, faults),
         ExprKind::List(es) => list(alloc, scope, vars, want, known, span, es.as_slice(), faults),
         ExprKind::Tuple(es) => tuple(alloc, scope, vars, want, known, span, es.as_slice(), faults),
-        ExprKind::Dict(_) => dict(alloc, span, faults),
+        ExprKind::Dict(es) => dict(alloc, scope, vars, want, known, span, es.as_slice(), faults),
         ExprKind::Index(e, i) => indexed(alloc, scope, vars, known, span, e, i, faults),
         ExprKind::Attr(e, a) => member(alloc, scope, vars, known, span, e, a, faults),
         ExprKind::Call(f, args) => {
@@ -299,6 +303,47 @@ fn list(
     let expected = item_type(want);
     let es = items(alloc, scope, vars, known, es, items_row(expected), faults)?;
     list_display(alloc, scope.classes, span, expected, es, faults)
+}
+
+// `{a: b}`.
+#[cycle(expression)]
+fn dict(
+    alloc: Global,
+    scope: &Context<'_>,
+    vars: &Variables,
+    want: Want<'_>,
+    known: &[usize],
+    span: Span,
+    es: &[(Expr, Expr)],
+    faults: &mut Many<Diag>,
+) -> Result<Option<Box<TExpr>>, Memory>
+    ensures { IfOk result (λ t. Tells boxed t faults.old faults.new (rule span (dicts.dict_display (context scope.now).classes (dicts.entry_sorts (wanted want.entry)) span) (rule_of.entries (context scope.now) (var_sorts vars.now) (dicts.key_wanted (dicts.entry_sorts (wanted want.entry))) (dicts.value_wanted (dicts.entry_sorts (wanted want.entry))) known.now (entries_of (map entry_tree es.now))))) }
+{
+    let expected = expected_entry(want);
+    let es = entries(alloc, scope, vars, known, es, expected, faults)?;
+    dict_display(alloc, scope.classes, span, expected, es, faults)
+}
+
+// Keys with their values in a row, each key before its value.
+#[cycle(expression)]
+fn entries(
+    alloc: Global,
+    scope: &Context<'_>,
+    vars: &Variables,
+    known: &[usize],
+    es: &[(Expr, Expr)],
+    expected: Option<EntryTypes<'_>>,
+    faults: &mut Many<Diag>,
+) -> Result<Option<Many<(TExpr, TExpr)>>, Memory>
+    ensures { IfOk result (λ t. Tells (map typed_entry) t faults.old faults.new (rule_of.entries (context scope.now) (var_sorts vars.now) (dicts.key_wanted (option_map entry_types expected.entry)) (dicts.value_wanted (option_map entry_types expected.entry)) known.now (entries_of (map entry_tree es.now)))) }
+{
+    let mut found = Some(Many::new(alloc));
+    for (k, e) in es {
+        let key = expression(alloc, scope, vars, key_want(expected), known, k, faults)?;
+        let value = expression(alloc, scope, vars, value_want(expected), known, e, faults)?;
+        found = with_entry(found, key, value)?;
+    }
+    Ok(found)
 }
 
 // `(a, b)`.

@@ -11,7 +11,7 @@ use Rattle.py_syntax.specs.declared.statement.Stmt.{Stmt}
 use Rattle.py_syntax.specs.declared.statement.StmtKind.{StmtKind}
 use Rattle.py_syntax.specs.Expressions.{ExprTree, expr_tree}
 use Rattle.py_syntax.specs.Statements as node
-use Rattle.py_syntax.specs.Statements.{StmtTree, StmtNode, Suite, stmt_tree, stmt_node, body_tree, arms_of, arm_tree}
+use Rattle.py_syntax.specs.Statements.{StmtTree, StmtNode, Suite, Handlers, MaybeSuite, stmt_tree, stmt_node, body_tree, arms_of, arm_tree}
 use Rattle.py_syntax.proofs.StatementLemmas.{stmt_tree_at}
 use Rattle.py_syntax_diagnostics.specs.declared.diagnostic.Diag.{Diag}
 use Rattle.py_typed.specs.declared.statement.TStmt.{TStmt}
@@ -30,7 +30,8 @@ use Rattle.py_check_places.specs.Places.{Known, Way, with_names, where_test, ent
 use Rattle.py_check_targets.specs.Views.{boxed_act}
 use Rattle.py_check_loops.specs.Loops.{loop_of}
 use Rattle.py_check_loops.specs.Heads.{for_head, in_for}
-use Rattle.py_check_statements.specs.Bodies.{is_definition, behind_loop, behind_while, statement, node_statement, after, node_after, block, block_after, branches, arms_after, guarded}
+use Rattle.py_check_statements.specs.declared.bodies.Around.{Around}
+use Rattle.py_check_statements.specs.Bodies.{is_definition, behind_loop, around_loop, outside_try, behind_try, tries, behind_while, statement, node_statement, after, node_after, block, block_after, branches, arms_after, guarded}
 use Rattle.py_check_statements.specs.Views.{boxed_stmt, way}
 
 if_ok : {X : Type 0} (r : Result X Memory) (P Q : X → Type 0) → ((x : X) → P x → Q x) → IfOk r P → IfOk r Q
@@ -83,9 +84,9 @@ module _ (C : Context) (k : Known) (s : Stmt) where
   known_after end h = h ∙ ap (after C k) (sym (stmt_tree_at s))
 
   -- on its line
-  pub line_says : (R : ReturnSort) (loops : Bool) (a : Option (Box TStmtKind Global)) (b : Option (Box TStmt Global)) (o0 o1 : List Diag) → Tells boxed_act a o0 o1 (node_statement C R loops k s.span (stmt_node s.kind)) → option_map boxed_stmt b ≡ option_map (λ x. on_line x s.span.line) (option_map boxed_act a) → Tells boxed_stmt b o0 o1 (statement C R loops k (stmt_tree s))
-  line_says R loops a b o0 o1 ta h =
-      let P : StmtTree → Type 0 = λ t. Tells boxed_stmt b o0 o1 (statement C R loops k t) in
+  pub line_says : (R : ReturnSort) (around : Around) (a : Option (Box TStmtKind Global)) (b : Option (Box TStmt Global)) (o0 o1 : List Diag) → Tells boxed_act a o0 o1 (node_statement C R around k s.span (stmt_node s.kind)) → option_map boxed_stmt b ≡ option_map (λ x. on_line x s.span.line) (option_map boxed_act a) → Tells boxed_stmt b o0 o1 (statement C R around k (stmt_tree s))
+  line_says R around a b o0 o1 ta h =
+      let P : StmtTree → Type 0 = λ t. Tells boxed_stmt b o0 o1 (statement C R around k t) in
       let placed : TypedAct → TypedStmt = λ x. on_line x s.span.line in
       subst P (sym (stmt_tree_at s)) (h ∙ ap (option_map placed) ta.0, ta.1)
 
@@ -103,20 +104,30 @@ module _ (C : Context) (k : Known) (s : Stmt) where
         let P : StmtTree → Type 0 = λ t. IfOk r (λ x. end ≡ behind_loop (entering C k t).names (block_after C (in_for C k t s.span target e) body)) in
         act_knows (node.For target e body) is (subst P (same_tree (node.For target e body) is) h)
 
-  module _ (R : ReturnSort) (loops : Bool) (r : Result (Option (Box TStmtKind Global)) Memory) (o0 o1 : List Diag) where
-    pub act_says : (n : StmtNode) → stmt_node s.kind ≡ n → IfOk r (λ x. Tells boxed_act x o0 o1 (node_statement C R loops k s.span n)) → IfOk r (λ x. Tells boxed_act x o0 o1 (node_statement C R loops k s.span (stmt_node s.kind)))
-    act_says n is h =
-        let P : StmtNode → Type 0 = λ m. IfOk r (λ x. Tells boxed_act x o0 o1 (node_statement C R loops k s.span m)) in subst P (sym is) h
+    pub try_knows : (body : Suite) (clauses : Handlers) (last : MaybeSuite) → stmt_node s.kind ≡ node.Try body clauses last → IfOk r (λ x. end ≡ behind_try C k (outside_try C k (stmt_tree s)) body clauses last) → IfOk r (λ x. end ≡ node_after C k s.span (stmt_node s.kind))
+    try_knows body clauses last is h =
+        let P : StmtTree → Type 0 = λ t. IfOk r (λ x. end ≡ behind_try C k (outside_try C k t) body clauses last) in
+        act_knows (node.Try body clauses last) is (subst P (same_tree (node.Try body clauses last) is) h)
 
-    pub while_says : (e : ExprTree) (body : Suite) → stmt_node s.kind ≡ node.While e body → IfOk r (λ x. Tells boxed_act x o0 o1 (made (λ p. acts.While p.0 (suite_of p.1)) (guarded C R true (entering C k (stmt_tree s)) e body))) → IfOk r (λ x. Tells boxed_act x o0 o1 (node_statement C R loops k s.span (stmt_node s.kind)))
+  module _ (R : ReturnSort) (around : Around) (r : Result (Option (Box TStmtKind Global)) Memory) (o0 o1 : List Diag) where
+    pub act_says : (n : StmtNode) → stmt_node s.kind ≡ n → IfOk r (λ x. Tells boxed_act x o0 o1 (node_statement C R around k s.span n)) → IfOk r (λ x. Tells boxed_act x o0 o1 (node_statement C R around k s.span (stmt_node s.kind)))
+    act_says n is h =
+        let P : StmtNode → Type 0 = λ m. IfOk r (λ x. Tells boxed_act x o0 o1 (node_statement C R around k s.span m)) in subst P (sym is) h
+
+    pub while_says : (e : ExprTree) (body : Suite) → stmt_node s.kind ≡ node.While e body → IfOk r (λ x. Tells boxed_act x o0 o1 (made (λ p. acts.While p.0 (suite_of p.1)) (guarded C R (around_loop around) (entering C k (stmt_tree s)) e body))) → IfOk r (λ x. Tells boxed_act x o0 o1 (node_statement C R around k s.span (stmt_node s.kind)))
     while_says e body is h =
-        let P : StmtTree → Type 0 = λ t. IfOk r (λ x. Tells boxed_act x o0 o1 (made (λ p. acts.While p.0 (suite_of p.1)) (guarded C R true (entering C k t) e body))) in
+        let P : StmtTree → Type 0 = λ t. IfOk r (λ x. Tells boxed_act x o0 o1 (made (λ p. acts.While p.0 (suite_of p.1)) (guarded C R (around_loop around) (entering C k t) e body))) in
         act_says (node.While e body) is (subst P (same_tree (node.While e body) is) h)
 
-    pub for_says : (target e : ExprTree) (body : Suite) → stmt_node s.kind ≡ node.For target e body → IfOk r (λ x. Tells boxed_act x o0 o1 (made (λ p. loop_of p.0.0 p.0.1 (suite_of p.1)) (both (for_head C k s.span target e) (block C R true (in_for C k (stmt_tree s) s.span target e) body)))) → IfOk r (λ x. Tells boxed_act x o0 o1 (node_statement C R loops k s.span (stmt_node s.kind)))
+    pub for_says : (target e : ExprTree) (body : Suite) → stmt_node s.kind ≡ node.For target e body → IfOk r (λ x. Tells boxed_act x o0 o1 (made (λ p. loop_of p.0.0 p.0.1 (suite_of p.1)) (both (for_head C k s.span target e) (block C R (around_loop around) (in_for C k (stmt_tree s) s.span target e) body)))) → IfOk r (λ x. Tells boxed_act x o0 o1 (node_statement C R around k s.span (stmt_node s.kind)))
     for_says target e body is h =
-        let P : StmtTree → Type 0 = λ t. IfOk r (λ x. Tells boxed_act x o0 o1 (made (λ p. loop_of p.0.0 p.0.1 (suite_of p.1)) (both (for_head C k s.span target e) (block C R true (in_for C k t s.span target e) body)))) in
+        let P : StmtTree → Type 0 = λ t. IfOk r (λ x. Tells boxed_act x o0 o1 (made (λ p. loop_of p.0.0 p.0.1 (suite_of p.1)) (both (for_head C k s.span target e) (block C R (around_loop around) (in_for C k t s.span target e) body)))) in
         act_says (node.For target e body) is (subst P (same_tree (node.For target e body) is) h)
+
+    pub try_says : (body : Suite) (clauses : Handlers) (last : MaybeSuite) → stmt_node s.kind ≡ node.Try body clauses last → IfOk r (λ x. Tells boxed_act x o0 o1 (tries C R around k (outside_try C k (stmt_tree s)) body clauses last)) → IfOk r (λ x. Tells boxed_act x o0 o1 (node_statement C R around k s.span (stmt_node s.kind)))
+    try_says body clauses last is h =
+        let P : StmtTree → Type 0 = λ t. IfOk r (λ x. Tells boxed_act x o0 o1 (tries C R around k (outside_try C k t) body clauses last)) in
+        act_says (node.Try body clauses last) is (subst P (same_tree (node.Try body clauses last) is) h)
 
 -- behind the body of a loop stand the names that are known outside
 pub known_behind_loop : (outside names : List ℕ) (k end : Known) → outside ≡ names → k ≡ end → with_names k outside ≡ behind_loop names end
@@ -167,31 +178,31 @@ module _ (C : Context) (ss : List Stmt) (i : ℕ) (s : Stmt) (h : i < length ss)
   known_behind start k k1 e before =
       before ∙ ap (block_after C k) at_place ∙ ap (λ x. block_after C x (body_tree (drop (i + 1) ss))) (sym e)
 
-  module _ (R : ReturnSort) (loops : Bool) (k : Known) where
-    row_at : (b : Bool) → is_definition (stmt_tree s) ≡ b → block C R loops k (body_tree (drop i ss)) ≡ (if b then block C R loops k (body_tree (drop (i + 1) ss)) else row_then (statement C R loops k (stmt_tree s)) (block C R loops (after C k (stmt_tree s)) (body_tree (drop (i + 1) ss))))
+  module _ (R : ReturnSort) (around : Around) (k : Known) where
+    row_at : (b : Bool) → is_definition (stmt_tree s) ≡ b → block C R around k (body_tree (drop i ss)) ≡ (if b then block C R around k (body_tree (drop (i + 1) ss)) else row_then (statement C R around k (stmt_tree s)) (block C R around (after C k (stmt_tree s)) (body_tree (drop (i + 1) ss))))
     row_at b d =
-        ap (block C R loops k) at_place
-        ∙ ap (λ q. if q then block C R loops k (body_tree (drop (i + 1) ss)) else row_then (statement C R loops k (stmt_tree s)) (block C R loops (after C k (stmt_tree s)) (body_tree (drop (i + 1) ss)))) d
+        ap (block C R around k) at_place
+        ∙ ap (λ q. if q then block C R around k (body_tree (drop (i + 1) ss)) else row_then (statement C R around k (stmt_tree s)) (block C R around (after C k (stmt_tree s)) (body_tree (drop (i + 1) ss)))) d
 
-    pub row_passed : (front : Option (List TypedStmt)) (o0 o1 : List Diag) (whole : Seen (List TypedStmt)) → is_definition (stmt_tree s) ≡ true → Remains front o0 o1 whole (block C R loops k (body_tree (drop i ss))) → Remains front o0 o1 whole (block C R loops k (body_tree (drop (i + 1) ss)))
+    pub row_passed : (front : Option (List TypedStmt)) (o0 o1 : List Diag) (whole : Seen (List TypedStmt)) → is_definition (stmt_tree s) ≡ true → Remains front o0 o1 whole (block C R around k (body_tree (drop i ss))) → Remains front o0 o1 whole (block C R around k (body_tree (drop (i + 1) ss)))
     row_passed front o0 o1 whole d before =
         let P : Seen (List TypedStmt) → Type 0 = λ x. Remains front o0 o1 whole x in
         subst P (row_at true d) before
 
     -- one statement more, which is no definition
-    pub row_behind : (k1 : Known) (front front1 : Option (List TypedStmt)) (got : Option TypedStmt) (o0 o1 o2 : List Diag) (whole : Seen (List TypedStmt)) → is_definition (stmt_tree s) ≡ false → k1 ≡ after C k (stmt_tree s) → front1 ≡ kept front got → got ≡ (statement C R loops k (stmt_tree s)).got → o2 ≡ o1 ++ (statement C R loops k (stmt_tree s)).said → Remains front o0 o1 whole (block C R loops k (body_tree (drop i ss))) → Remains front1 o0 o2 whole (block C R loops k1 (body_tree (drop (i + 1) ss)))
+    pub row_behind : (k1 : Known) (front front1 : Option (List TypedStmt)) (got : Option TypedStmt) (o0 o1 o2 : List Diag) (whole : Seen (List TypedStmt)) → is_definition (stmt_tree s) ≡ false → k1 ≡ after C k (stmt_tree s) → front1 ≡ kept front got → got ≡ (statement C R around k (stmt_tree s)).got → o2 ≡ o1 ++ (statement C R around k (stmt_tree s)).said → Remains front o0 o1 whole (block C R around k (body_tree (drop i ss))) → Remains front1 o0 o2 whole (block C R around k1 (body_tree (drop (i + 1) ss)))
     row_behind k1 front front1 got o0 o1 o2 whole d e f g m before =
-        let one : Seen TypedStmt = statement C R loops k (stmt_tree s) in
-        let rest : Seen (List TypedStmt) = block C R loops k1 (body_tree (drop (i + 1) ss)) in
+        let one : Seen TypedStmt = statement C R around k (stmt_tree s) in
+        let rest : Seen (List TypedStmt) = block C R around k1 (body_tree (drop (i + 1) ss)) in
         let P : Seen (List TypedStmt) → Type 0 = λ x. Remains front o0 o1 whole x in
-        let now : Remains front o0 o1 whole (row_then one rest) = subst P (row_at false d ∙ ap (λ x. row_then one (block C R loops x (body_tree (drop (i + 1) ss)))) (sym e)) before in
+        let now : Remains front o0 o1 whole (row_then one rest) = subst P (row_at false d ∙ ap (λ x. row_then one (block C R around x (body_tree (drop (i + 1) ss)))) (sym e)) before in
         let Q : Option (List TypedStmt) → Type 0 = λ x. Remains x o0 o2 whole rest in
         subst Q (sym f) (row_step front got o0 o1 o2 whole rest one now g m)
 
 -- behind the last one
 module _ (C : Context) (ss : List Stmt) (i : ℕ) (h : length ss ≤ i) where
-  pub block_ends : (R : ReturnSort) (loops : Bool) (k : Known) → block C R loops k (body_tree (drop i ss)) ≡ is []
-  block_ends R loops k = ap (λ l. block C R loops k (body_tree l)) (drop_all i ss h)
+  pub block_ends : (R : ReturnSort) (around : Around) (k : Known) → block C R around k (body_tree (drop i ss)) ≡ is []
+  block_ends R around k = ap (λ l. block C R around k (body_tree l)) (drop_all i ss h)
 
   pub known_ends : (start k : Known) → block_after C start (body_tree ss) ≡ block_after C k (body_tree (drop i ss)) → k ≡ block_after C start (body_tree ss)
   known_ends start k before = sym (before ∙ ap (λ l. block_after C k (body_tree l)) (drop_all i ss h))
@@ -223,20 +234,20 @@ module _ (C : Context) (arms : List (Expr × List Stmt)) (i : ℕ) (a : Expr × 
       before ∙ ap (arms_after C w) arm_at ∙ ap (λ x. arms_after C x (arms_of (map arm_tree (drop (i + 1) arms)))) (sym e)
 
   -- one arm more
-  pub arms_behind : (R : ReturnSort) (loops : Bool) (w w1 : Way) (front front1 : Option (List (TypedExpr × TypedSuite))) (got : Option (TypedExpr × List TypedStmt)) (o0 o1 o2 : List Diag) (whole : Seen (List (TypedExpr × TypedSuite))) → w1 ≡ behind w → front1 ≡ kept front (option_map (λ p. (p.0, suite_of p.1)) got) → got ≡ (guarded C R loops w.at (expr_tree a.0) (body_tree b)).got → o2 ≡ o1 ++ (guarded C R loops w.at (expr_tree a.0) (body_tree b)).said → Remains front o0 o1 whole (branches C R loops w (arms_of (map arm_tree (drop i arms)))) → Remains front1 o0 o2 whole (branches C R loops w1 (arms_of (map arm_tree (drop (i + 1) arms))))
-  arms_behind R loops w w1 front front1 got o0 o1 o2 whole e f g m before =
+  pub arms_behind : (R : ReturnSort) (around : Around) (w w1 : Way) (front front1 : Option (List (TypedExpr × TypedSuite))) (got : Option (TypedExpr × List TypedStmt)) (o0 o1 o2 : List Diag) (whole : Seen (List (TypedExpr × TypedSuite))) → w1 ≡ behind w → front1 ≡ kept front (option_map (λ p. (p.0, suite_of p.1)) got) → got ≡ (guarded C R around w.at (expr_tree a.0) (body_tree b)).got → o2 ≡ o1 ++ (guarded C R around w.at (expr_tree a.0) (body_tree b)).said → Remains front o0 o1 whole (branches C R around w (arms_of (map arm_tree (drop i arms)))) → Remains front1 o0 o2 whole (branches C R around w1 (arms_of (map arm_tree (drop (i + 1) arms))))
+  arms_behind R around w w1 front front1 got o0 o1 o2 whole e f g m before =
       let pair : TypedExpr × List TypedStmt → TypedExpr × TypedSuite = λ p. (p.0, suite_of p.1) in
-      let one : Seen (TypedExpr × TypedSuite) = made pair (guarded C R loops w.at (expr_tree a.0) (body_tree b)) in
-      let rest : Seen (List (TypedExpr × TypedSuite)) = branches C R loops w1 (arms_of (map arm_tree (drop (i + 1) arms))) in
+      let one : Seen (TypedExpr × TypedSuite) = made pair (guarded C R around w.at (expr_tree a.0) (body_tree b)) in
+      let rest : Seen (List (TypedExpr × TypedSuite)) = branches C R around w1 (arms_of (map arm_tree (drop (i + 1) arms))) in
       let P : Seen (List (TypedExpr × TypedSuite)) → Type 0 = λ x. Remains front o0 o1 whole x in
-      let now : Remains front o0 o1 whole (row_then one rest) = subst P (ap (branches C R loops w) arm_at ∙ ap (λ x. row_then one (branches C R loops x (arms_of (map arm_tree (drop (i + 1) arms))))) (sym e)) before in
+      let now : Remains front o0 o1 whole (row_then one rest) = subst P (ap (branches C R around w) arm_at ∙ ap (λ x. row_then one (branches C R around x (arms_of (map arm_tree (drop (i + 1) arms))))) (sym e)) before in
       let Q : Option (List (TypedExpr × TypedSuite)) → Type 0 = λ x. Remains x o0 o2 whole rest in
       subst Q (sym f) (row_step front (option_map pair got) o0 o1 o2 whole rest one now (ap (option_map pair) g) m)
 
 -- behind the last one
 module _ (C : Context) (arms : List (Expr × List Stmt)) (i : ℕ) (h : length arms ≤ i) where
-  pub branches_end : (R : ReturnSort) (loops : Bool) (w : Way) → branches C R loops w (arms_of (map arm_tree (drop i arms))) ≡ is []
-  branches_end R loops w = ap (λ l. branches C R loops w (arms_of (map arm_tree l))) (drop_all i arms h)
+  pub branches_end : (R : ReturnSort) (around : Around) (w : Way) → branches C R around w (arms_of (map arm_tree (drop i arms))) ≡ is []
+  branches_end R around w = ap (λ l. branches C R around w (arms_of (map arm_tree l))) (drop_all i arms h)
 
   pub ways_end : (start w : Way) → arms_after C start (arms_of (map arm_tree arms)) ≡ arms_after C w (arms_of (map arm_tree (drop i arms))) → w ≡ arms_after C start (arms_of (map arm_tree arms))
   ways_end start w before = sym (before ∙ ap (λ l. arms_after C w (arms_of (map arm_tree l))) (drop_all i arms h))

@@ -2,3 +2,4 @@ pub mod BodyLemmas
 pub mod PartLemmas
 pub mod SizeLemmas
 mod Samples
+pub mod TryLemmas

@@ -2,9 +2,9 @@
 ghost use Rattle.std.specs.Prelude.{◌≡◌, true, map, IfOk};
 ghost use Rattle.std.specs.Option.{option_map};
 ghost use Rattle.py_syntax.specs.Expressions.{expr_tree};
-ghost use Rattle.py_syntax.specs.Statements.{stmt_tree, stmt_node, body_tree, arm_tree};
+ghost use Rattle.py_syntax.specs.Statements.{stmt_tree, stmt_node, body_tree, arm_tree, handler_tree, maybe_expr};
 ghost use Rattle.py_syntax.specs.Statements as source;
-ghost use Rattle.py_typed.specs.Statements.{typed_stmt, typed_arm};
+ghost use Rattle.py_typed.specs.Statements.{typed_stmt, typed_arm, typed_handler};
 ghost use Rattle.py_typed.specs.Statements as acts;
 ghost use Rattle.py_check_context.specs.Context.{context};
 ghost use Rattle.py_check_flow.specs.Closed as closed;
@@ -15,41 +15,45 @@ ghost use Rattle.py_check_places.specs.Views.{known_at};
 ghost use Rattle.py_check_targets.specs.Views.{boxed_act};
 ghost use Rattle.py_check_loops.specs.Loops.{loop_of};
 ghost use Rattle.py_check_loops.specs.Heads as heads;
+ghost use Rattle.py_check_exceptions.specs.Handlers as handling;
 ghost use Rattle.py_check_statements.specs.Bodies as rules_of;
-ghost use Rattle.py_check_statements.specs.Views.{guarded_seen, way};
+ghost use Rattle.py_check_statements.specs.Views.{clause_seen, guarded_seen, way};
 
-use crate::bodies::{condition, is_definition};
+use crate::bodies::{Around, condition, is_definition};
+use crate::deletions::deleted;
 use crate::parts::{
     Branches, Guarded, begin_while, branched, guarded_by, leave_arm, leave_branches, otherwise,
     repeated, with_arm,
 };
 use crate::statements;
 use crate::statements::{
-    alone, broken, continued, deleted, passed, placed, untyped, with_statement,
+    alone, asserted, broken, continued, passed, placed, untyped, with_statement,
 };
+use crate::tries::{Clause, begin_with, clause_by, outside_try, some_body, tried, with_clause};
 use py_check_assignments::{annotate, assign, update};
 use py_check_context::Context;
+use py_check_exceptions::{begin_handler, raises};
 use py_check_loops::{Begun, begin_for, looped};
 use py_check_places::{Place, learn};
 use py_check_values::Returns;
-use py_syntax::{Expr, Stmt, StmtKind};
+use py_syntax::{Expr, Handler, Stmt, StmtKind};
 use py_syntax_diagnostics::Diag;
-use py_typed::{TStmt, TStmtKind};
+use py_typed::{THandler, TStmt, TStmtKind};
 use std::alloc::Global;
 use value_core::{Many, Memory};
 
-/// Statements in a row, in a loop or not, and what is known behind them.
+/// Statements in a row, by what is around them, and what is known behind them.
 #[cycle(statement)]
 pub fn block(
     alloc: Global,
     scope: &Context<'_>,
     body: &[Stmt],
     returns: Returns<'_>,
-    loops: bool,
+    around: Around,
     place: &mut Place,
     faults: &mut Many<Diag>,
 ) -> Result<Option<Many<TStmt>>, Memory>
-    ensures told { IfOk result (λ t. Tells (map typed_stmt) t faults.old faults.new (rules_of.block (context scope.now) (return_sort returns.entry) loops (known_at place.old) (body_tree body.now))) }
+    ensures told { IfOk result (λ t. Tells (map typed_stmt) t faults.old faults.new (rules_of.block (context scope.now) (return_sort returns.entry) around (known_at place.old) (body_tree body.now))) }
     ensures known { IfOk result (λ t. known_at place.new ≡ rules_of.block_after (context scope.now) (known_at place.old) (body_tree body.now)) }
 {
     let mut found = Some(Many::new(alloc));
@@ -57,7 +61,7 @@ pub fn block(
         if is_definition(s) {
             continue;
         }
-        let kind = act(alloc, scope, s, returns, loops, place, faults)?;
+        let kind = act(alloc, scope, s, returns, around, place, faults)?;
         let one = placed(alloc, s.span.line, kind)?;
         found = with_statement(found, one)?;
     }
@@ -71,11 +75,11 @@ fn act(
     scope: &Context<'_>,
     s: &Stmt,
     returns: Returns<'_>,
-    loops: bool,
+    around: Around,
     place: &mut Place,
     faults: &mut Many<Diag>,
 ) -> Result<Option<Box<TStmtKind>>, Memory>
-    ensures told { IfOk result (λ t. Tells boxed_act t faults.old faults.new (rules_of.node_statement (context scope.now) (return_sort returns.entry) loops (known_at place.old) s.now.span (stmt_node s.now.kind))) }
+    ensures told { IfOk result (λ t. Tells boxed_act t faults.old faults.new (rules_of.node_statement (context scope.now) (return_sort returns.entry) around (known_at place.old) s.now.span (stmt_node s.now.kind))) }
     ensures known { IfOk result (λ t. known_at place.new ≡ rules_of.node_after (context scope.now) (known_at place.old) s.now.span (stmt_node s.now.kind)) }
 {
     let span = s.span;
@@ -86,14 +90,14 @@ fn act(
             annotate(alloc, scope, place, span, target, mark, e, faults)
         }
         StmtKind::Aug(target, op, e) => update(alloc, scope, place, span, target, *op, e, faults),
-        StmtKind::Del(_) => deleted(alloc, span, faults),
+        StmtKind::Del(e) => deleted(alloc, scope, place, span, e, faults),
         StmtKind::Pass => passed(alloc),
-        StmtKind::Break => broken(alloc, loops, span, faults),
-        StmtKind::Continue => continued(alloc, loops, span, faults),
+        StmtKind::Break => broken(alloc, around.looping, span, faults),
+        StmtKind::Continue => continued(alloc, around.looping, span, faults),
         StmtKind::Return(e) => statements::returns(alloc, scope, place, span, returns, e, faults),
-        StmtKind::Raise(_) => untyped(alloc, span, faults),
+        StmtKind::Raise(e) => raises(alloc, scope, place, span, around.handling, e, faults),
         StmtKind::Global(_) => passed(alloc),
-        StmtKind::Assert(_, _) => untyped(alloc, span, faults),
+        StmtKind::Assert(e, text) => asserted(alloc, scope, place, span, e, text, faults),
         StmtKind::Import(_, _) => untyped(alloc, span, faults),
         StmtKind::From(_, _) => untyped(alloc, span, faults),
         StmtKind::If(arms, other) => {
@@ -103,13 +107,23 @@ fn act(
                 arms.as_slice(),
                 other.as_slice(),
                 returns,
-                loops,
+                around,
                 place,
                 faults,
             )
         }
         StmtKind::While(e, body) => {
-            while_loop(alloc, scope, body.as_slice(), s, e, returns, place, faults)
+            while_loop(
+                alloc,
+                scope,
+                body.as_slice(),
+                s,
+                e,
+                returns,
+                around,
+                place,
+                faults,
+            )
         }
         StmtKind::For(target, e, body) => {
             for_loop(
@@ -120,11 +134,25 @@ fn act(
                 target,
                 e,
                 returns,
+                around,
                 place,
                 faults,
             )
         }
-        StmtKind::Try(_, _, _) => untyped(alloc, span, faults),
+        StmtKind::Try(body, handlers, last) => {
+            try_statement(
+                alloc,
+                scope,
+                body.as_slice(),
+                handlers.as_slice(),
+                last,
+                s,
+                returns,
+                around,
+                place,
+                faults,
+            )
+        }
         StmtKind::Def(_) => untyped(alloc, span, faults),
         StmtKind::Class(_) => untyped(alloc, span, faults),
     }
@@ -138,16 +166,16 @@ fn guarded(
     body: &[Stmt],
     e: &Expr,
     returns: Returns<'_>,
-    loops: bool,
+    around: Around,
     place: &mut Place,
     faults: &mut Many<Diag>,
 ) -> Result<Option<Guarded>, Memory>
-    ensures told { IfOk result (λ t. Tells guarded_seen t faults.old faults.new (rules_of.guarded (context scope.now) (return_sort returns.entry) loops (known_at place.old) (expr_tree e.now) (body_tree body.now))) }
+    ensures told { IfOk result (λ t. Tells guarded_seen t faults.old faults.new (rules_of.guarded (context scope.now) (return_sort returns.entry) around (known_at place.old) (expr_tree e.now) (body_tree body.now))) }
     ensures known { IfOk result (λ t. known_at place.new ≡ rules_of.block_after (context scope.now) (places.where_test (context scope.now) (known_at place.old) true (expr_tree e.now)) (body_tree body.now)) }
 {
     let test = condition(alloc, scope, place, e, faults)?;
     learn(alloc, scope, place, true, e)?;
-    let body = block(alloc, scope, body, returns, loops, place, faults)?;
+    let body = block(alloc, scope, body, returns, around, place, faults)?;
     Ok(guarded_by(test, body))
 }
 
@@ -158,11 +186,11 @@ fn branches(
     scope: &Context<'_>,
     arms: &[(Expr, Many<Stmt>)],
     returns: Returns<'_>,
-    loops: bool,
+    around: Around,
     place: &mut Place,
     faults: &mut Many<Diag>,
 ) -> Result<Branches, Memory>
-    ensures told { IfOk result (λ b. Tells (map typed_arm) b.arms faults.old faults.new (rules_of.branches (context scope.now) (return_sort returns.entry) loops (places.setting_out (known_at place.old)) (source.arms_of (map arm_tree arms.now)))) }
+    ensures told { IfOk result (λ b. Tells (map typed_arm) b.arms faults.old faults.new (rules_of.branches (context scope.now) (return_sort returns.entry) around (places.setting_out (known_at place.old)) (source.arms_of (map arm_tree arms.now)))) }
     ensures known { IfOk result (λ b. way (known_at place.new) (option_map (λ v. v.items) b.ends) ≡ rules_of.arms_after (context scope.now) (places.setting_out (known_at place.old)) (source.arms_of (map arm_tree arms.now))) }
 {
     let mut found = Some(Many::new(alloc));
@@ -170,7 +198,7 @@ fn branches(
     for (e, body) in arms {
         let body = body.as_slice();
         let fails = otherwise(alloc, scope, place, e)?;
-        let one = guarded(alloc, scope, body, e, returns, loops, place, faults)?;
+        let one = guarded(alloc, scope, body, e, returns, around, place, faults)?;
         ends = leave_arm(alloc, place, ends, body, fails)?;
         found = with_arm(found, one)?;
     }
@@ -185,15 +213,15 @@ fn conditional(
     arms: &[(Expr, Many<Stmt>)],
     other: &[Stmt],
     returns: Returns<'_>,
-    loops: bool,
+    around: Around,
     place: &mut Place,
     faults: &mut Many<Diag>,
 ) -> Result<Option<Box<TStmtKind>>, Memory>
-    ensures told { IfOk result (λ t. Tells boxed_act t faults.old faults.new (made (λ p. acts.If (acts.arms_of p.0) (acts.suite_of p.1)) (both (rules_of.branches (context scope.now) (return_sort returns.entry) loops (places.setting_out (known_at place.old)) (source.arms_of (map arm_tree arms.now))) (rules_of.block (context scope.now) (return_sort returns.entry) loops (rules_of.arms_after (context scope.now) (places.setting_out (known_at place.old)) (source.arms_of (map arm_tree arms.now))).at (body_tree other.now))))) }
+    ensures told { IfOk result (λ t. Tells boxed_act t faults.old faults.new (made (λ p. acts.If (acts.arms_of p.0) (acts.suite_of p.1)) (both (rules_of.branches (context scope.now) (return_sort returns.entry) around (places.setting_out (known_at place.old)) (source.arms_of (map arm_tree arms.now))) (rules_of.block (context scope.now) (return_sort returns.entry) around (rules_of.arms_after (context scope.now) (places.setting_out (known_at place.old)) (source.arms_of (map arm_tree arms.now))).at (body_tree other.now))))) }
     ensures known { IfOk result (λ t. known_at place.new ≡ places.meeting (rules_of.arms_after (context scope.now) (places.setting_out (known_at place.old)) (source.arms_of (map arm_tree arms.now))).ends (closed.is_closed (body_tree other.now)) (rules_of.block_after (context scope.now) (rules_of.arms_after (context scope.now) (places.setting_out (known_at place.old)) (source.arms_of (map arm_tree arms.now))).at (body_tree other.now))) }
 {
-    let Branches { arms, ends } = branches(alloc, scope, arms, returns, loops, place, faults)?;
-    let last = block(alloc, scope, other, returns, loops, place, faults)?;
+    let Branches { arms, ends } = branches(alloc, scope, arms, returns, around, place, faults)?;
+    let last = block(alloc, scope, other, returns, around, place, faults)?;
     leave_branches(alloc, place, ends, other)?;
     branched(alloc, arms, last)
 }
@@ -207,14 +235,19 @@ fn while_loop(
     s: &Stmt,
     e: &Expr,
     returns: Returns<'_>,
+    around: Around,
     place: &mut Place,
     faults: &mut Many<Diag>,
 ) -> Result<Option<Box<TStmtKind>>, Memory>
-    ensures told { IfOk result (λ t. Tells boxed_act t faults.old faults.new (made (λ p. acts.While p.0 (acts.suite_of p.1)) (rules_of.guarded (context scope.now) (return_sort returns.entry) true (places.entering (context scope.now) (known_at place.old) (stmt_tree s.now)) (expr_tree e.now) (body_tree body.now)))) }
+    ensures told { IfOk result (λ t. Tells boxed_act t faults.old faults.new (made (λ p. acts.While p.0 (acts.suite_of p.1)) (rules_of.guarded (context scope.now) (return_sort returns.entry) (rules_of.around_loop around) (places.entering (context scope.now) (known_at place.old) (stmt_tree s.now)) (expr_tree e.now) (body_tree body.now)))) }
     ensures known { IfOk result (λ t. known_at place.new ≡ rules_of.behind_while (context scope.now) (places.entering (context scope.now) (known_at place.old) (stmt_tree s.now)) (expr_tree e.now) (body_tree body.now) (rules_of.block_after (context scope.now) (places.where_test (context scope.now) (places.entering (context scope.now) (known_at place.old) (stmt_tree s.now)) true (expr_tree e.now)) (body_tree body.now))) }
 {
     let outside = begin_while(alloc, scope, place, s, e, body)?;
-    let one = guarded(alloc, scope, body, e, returns, true, place, faults)?;
+    let inside = Around {
+        looping: true,
+        handling: around.handling,
+    };
+    let one = guarded(alloc, scope, body, e, returns, inside, place, faults)?;
     place.names = outside;
     repeated(alloc, one)
 }
@@ -229,14 +262,135 @@ fn for_loop(
     target: &Expr,
     e: &Expr,
     returns: Returns<'_>,
+    around: Around,
     place: &mut Place,
     faults: &mut Many<Diag>,
 ) -> Result<Option<Box<TStmtKind>>, Memory>
-    ensures told { IfOk result (λ t. Tells boxed_act t faults.old faults.new (made (λ p. loop_of p.0.0 p.0.1 (acts.suite_of p.1)) (both (heads.for_head (context scope.now) (known_at place.old) s.now.span (expr_tree target.now) (expr_tree e.now)) (rules_of.block (context scope.now) (return_sort returns.entry) true (heads.in_for (context scope.now) (known_at place.old) (stmt_tree s.now) s.now.span (expr_tree target.now) (expr_tree e.now)) (body_tree body.now))))) }
+    ensures told { IfOk result (λ t. Tells boxed_act t faults.old faults.new (made (λ p. loop_of p.0.0 p.0.1 (acts.suite_of p.1)) (both (heads.for_head (context scope.now) (known_at place.old) s.now.span (expr_tree target.now) (expr_tree e.now)) (rules_of.block (context scope.now) (return_sort returns.entry) (rules_of.around_loop around) (heads.in_for (context scope.now) (known_at place.old) (stmt_tree s.now) s.now.span (expr_tree target.now) (expr_tree e.now)) (body_tree body.now))))) }
     ensures known { IfOk result (λ t. known_at place.new ≡ rules_of.behind_loop (places.entering (context scope.now) (known_at place.old) (stmt_tree s.now)).names (rules_of.block_after (context scope.now) (heads.in_for (context scope.now) (known_at place.old) (stmt_tree s.now) s.now.span (expr_tree target.now) (expr_tree e.now)) (body_tree body.now))) }
 {
     let Begun { head, outside } = begin_for(alloc, scope, place, s, s.span, target, e, faults)?;
-    let body = block(alloc, scope, body, returns, true, place, faults)?;
+    let inside = Around {
+        looping: true,
+        handling: around.handling,
+    };
+    let body = block(alloc, scope, body, returns, inside, place, faults)?;
     place.names = outside;
     looped(alloc, head, body)
+}
+
+// The `try` statement `s`, with its body, its except clauses and the body of its `finally`.
+#[cycle(statement)]
+fn try_statement(
+    alloc: Global,
+    scope: &Context<'_>,
+    body: &[Stmt],
+    handlers: &[Handler],
+    last: &Option<Many<Stmt>>,
+    s: &Stmt,
+    returns: Returns<'_>,
+    around: Around,
+    place: &mut Place,
+    faults: &mut Many<Diag>,
+) -> Result<Option<Box<TStmtKind>>, Memory>
+    ensures told { IfOk result (λ t. Tells boxed_act t faults.old faults.new (rules_of.tries (context scope.now) (return_sort returns.entry) around (known_at place.old) (rules_of.outside_try (context scope.now) (known_at place.old) (stmt_tree s.now)) (body_tree body.now) (source.handlers_of (map handler_tree handlers.now)) (source.maybe_suite (option_map body_tree last.now)))) }
+    ensures known { IfOk result (λ t. known_at place.new ≡ rules_of.behind_try (context scope.now) (known_at place.old) (rules_of.outside_try (context scope.now) (known_at place.old) (stmt_tree s.now)) (body_tree body.now) (source.handlers_of (map handler_tree handlers.now)) (source.maybe_suite (option_map body_tree last.now))) }
+{
+    let outside = outside_try(alloc, scope, place, s)?;
+    let names = outside.as_slice();
+    let first = block(alloc, scope, body, returns, around, place, faults)?;
+    let found = clauses(
+        alloc, scope, handlers, returns, around, names, place, faults,
+    )?;
+    let last = maybe_block(alloc, scope, last, returns, around, names, place, faults)?;
+    place.names = outside;
+    tried(alloc, first, found, last)
+}
+
+// Except clauses, which begin with these names each.
+#[cycle(statement)]
+fn clauses(
+    alloc: Global,
+    scope: &Context<'_>,
+    handlers: &[Handler],
+    returns: Returns<'_>,
+    around: Around,
+    names: &[usize],
+    place: &mut Place,
+    faults: &mut Many<Diag>,
+) -> Result<Option<Many<THandler>>, Memory>
+    ensures told { IfOk result (λ t. Tells (map typed_handler) t faults.old faults.new (rules_of.clauses (context scope.now) (return_sort returns.entry) around names.now (known_at place.old) (source.handlers_of (map handler_tree handlers.now)))) }
+    ensures known { IfOk result (λ t. known_at place.new ≡ rules_of.handlers_after (context scope.now) names.now (known_at place.old) (source.handlers_of (map handler_tree handlers.now))) }
+{
+    let mut found = Some(Many::new(alloc));
+    for (i, handler) in handlers.iter().enumerate() {
+        begin_with(alloc, place, names)?;
+        let body = handler.body.as_slice();
+        let last = i + 1 == handlers.len();
+        let one = clause(
+            alloc, scope, body, handler, returns, around, last, place, faults,
+        )?;
+        found = with_clause(found, one)?;
+    }
+    Ok(found)
+}
+
+// An except clause, which is the last one or not.
+#[cycle(statement)]
+fn clause(
+    alloc: Global,
+    scope: &Context<'_>,
+    body: &[Stmt],
+    handler: &Handler,
+    returns: Returns<'_>,
+    around: Around,
+    last: bool,
+    place: &mut Place,
+    faults: &mut Many<Diag>,
+) -> Result<Option<Clause>, Memory>
+    ensures told { IfOk result (λ t. Tells clause_seen t faults.old faults.new (rules_of.clause (context scope.now) (return_sort returns.entry) around (known_at place.old) (handler_tree handler.now).span (handler_tree handler.now).class (handler_tree handler.now).name last (body_tree body.now))) }
+    ensures known { IfOk result (λ t. known_at place.new ≡ rules_of.block_after (context scope.now) (handling.in_handler (context scope.now) (known_at place.old) (handler_tree handler.now).span (handler_tree handler.now).class (handler_tree handler.now).name last) (body_tree body.now)) }
+{
+    let class = &handler.class;
+    let name = &handler.name;
+    let head = begin_handler(alloc, scope, place, handler.span, class, name, last, faults)?;
+    let inside = Around {
+        looping: around.looping,
+        handling: true,
+    };
+    let body = block(alloc, scope, body, returns, inside, place, faults)?;
+    Ok(clause_by(head, body))
+}
+
+// The body of a `finally`, if there is one, which begins with these names.
+#[cycle(statement)]
+fn maybe_block(
+    alloc: Global,
+    scope: &Context<'_>,
+    last: &Option<Many<Stmt>>,
+    returns: Returns<'_>,
+    around: Around,
+    names: &[usize],
+    place: &mut Place,
+    faults: &mut Many<Diag>,
+) -> Result<Option<Option<Many<TStmt>>>, Memory>
+    ensures told { IfOk result (λ t. Tells (option_map (map typed_stmt)) t faults.old faults.new (rules_of.maybe_block (context scope.now) (return_sort returns.entry) around names.now (known_at place.old) (source.maybe_suite (option_map body_tree last.now)))) }
+    ensures known { IfOk result (λ t. known_at place.new ≡ rules_of.last_after (context scope.now) names.now (known_at place.old) (source.maybe_suite (option_map body_tree last.now))) }
+{
+    match last {
+        None => Ok(Some(None)),
+        Some(body) => {
+            begin_with(alloc, place, names)?;
+            let body = block(
+                alloc,
+                scope,
+                body.as_slice(),
+                returns,
+                around,
+                place,
+                faults,
+            )?;
+            Ok(some_body(body))
+        }
+    }
 }

@@ -20,6 +20,13 @@ use py_typed::TExpr;
 use std::alloc::Global;
 use value_core::{Many, Memory};
 
+/// What is around a statement within its function: a loop or none, and an except clause or none.
+#[derive(Clone, Copy)]
+pub struct Around {
+    pub looping: bool,
+    pub handling: bool,
+}
+
 /// A test, as a truth value.
 pub fn condition(
     alloc: Global,

@@ -1,5 +1,5 @@
 //! Simple statements, and rows of statements.
-ghost use Rattle.std.specs.Prelude.{◌≡◌, map, codes, IfOk, Some, None};
+ghost use Rattle.std.specs.Prelude.{◌≡◌, true, map, codes, IfOk, Some, None};
 ghost use Rattle.std.specs.Option.{option_map};
 ghost use Rattle.py_syntax.specs.Expressions.{expr_tree};
 ghost use Rattle.py_syntax.specs.Statements.{maybe_expr};
@@ -11,7 +11,9 @@ ghost use Rattle.py_check_messages.specs.Messages as message;
 ghost use Rattle.py_check_messages.specs.Rows.{kept};
 ghost use Rattle.py_check_coercions.specs.Boxes.{boxed};
 ghost use Rattle.py_check_values.specs.Returns.{return_sort};
+ghost use Rattle.py_check_places.specs.Places as places;
 ghost use Rattle.py_check_targets.specs.Targets as targets;
+ghost use Rattle.py_check_exceptions.specs.Raises as raising;
 ghost use Rattle.py_check_statements.specs.Bodies as rules_of;
 ghost use Rattle.py_check_places.specs.Views.{known_at};
 ghost use Rattle.py_check_targets.specs.Views.{boxed_act};
@@ -19,8 +21,9 @@ ghost use Rattle.py_check_statements.specs.Views.{boxed_stmt};
 
 use crate::bodies::return_wanted;
 use py_check_context::{Context, Want};
-use py_check_messages::{no_exception, only_entries, outside_loop};
-use py_check_places::Place;
+use py_check_exceptions::asserts;
+use py_check_messages::{no_exception, outside_loop};
+use py_check_places::{Place, learn};
 use py_check_targets::typed_at;
 use py_check_values::{Returns, returned, returned_nothing};
 use py_syntax::{Expr, Span};
@@ -113,6 +116,24 @@ pub(crate) fn passed(alloc: Global) -> Result<Option<Box<TStmtKind>>, Memory>
     Ok(Some(kind))
 }
 
+/// An assertion, whose test holds behind it (Python Language Reference, "The assert statement").
+pub(crate) fn asserted(
+    alloc: Global,
+    scope: &Context<'_>,
+    place: &mut Place,
+    span: Span,
+    e: &Expr,
+    text: &Option<Expr>,
+    faults: &mut Many<Diag>,
+) -> Result<Option<Box<TStmtKind>>, Memory>
+    ensures told { IfOk result (λ t. Tells boxed_act t faults.old faults.new (raising.asserts (context scope.now) (known_at place.old) span (expr_tree e.now) (maybe_expr text.now))) }
+    ensures known { IfOk result (λ t. known_at place.new ≡ places.where_test (context scope.now) (known_at place.old) true (expr_tree e.now)) }
+{
+    let kind = asserts(alloc, scope, place, span, e, text, faults)?;
+    learn(alloc, scope, place, true, e)?;
+    Ok(kind)
+}
+
 /// A `break`, in a loop or not (Python Language Reference, "The break statement").
 pub(crate) fn broken(
     alloc: Global,
@@ -147,19 +168,7 @@ pub(crate) fn continued(
     Ok(Some(kind))
 }
 
-/// A deletion, which has no typed form yet (Python Language Reference, "The del statement").
-pub(crate) fn deleted(
-    alloc: Global,
-    span: Span,
-    faults: &mut Many<Diag>,
-) -> Result<Option<Box<TStmtKind>>, Memory>
-    ensures { IfOk result (λ t. Tells boxed_act t faults.old faults.new (fails {A = TypedAct} span message.only_entries)) }
-{
-    only_entries(alloc, span, faults)?;
-    Ok(None)
-}
-
-/// A statement that has no typed form: `raise`, `assert` and `try`, which have none yet, and an import or a definition.
+/// A statement that has no typed form: an import or a definition.
 pub(crate) fn untyped(
     alloc: Global,
     span: Span,

@@ -7,12 +7,12 @@ use Rattle.py_syntax.specs.declared.statement.StmtKind as kind
 use Rattle.py_syntax.specs.Expressions as e
 use Rattle.py_syntax.specs.Expressions.{ExprTree, ExprNode, ExprTrees, Comparisons, Entries, Arguments}
 use Rattle.py_syntax.specs.Statements as s
-use Rattle.py_syntax.specs.Statements.{StmtTree, StmtNode, Suite, Arms, stmt_tree, stmt_node, body_tree, arms_of, arm_tree}
+use Rattle.py_syntax.specs.Statements.{StmtTree, StmtNode, Suite, Arms, Handlers, MaybeSuite, stmt_tree, stmt_node, body_tree, arms_of, arm_tree}
 use Rattle.py_syntax.proofs.StatementLemmas.{stmt_tree_at, stmt_node-If}
 use Rattle.py_check_unbuilt.specs.declared.form.Form.{Form}
 use Rattle.py_check_unbuilt.specs.declared.form.Unbuilt.{Unbuilt}
-use Rattle.py_check_unbuilt.specs.Later.{lesser, least, form_at, form_of_node, form_of_act, expression_forms, node_forms, row_forms, comparison_forms, entry_forms, argument_forms, maybe_forms, list_forms, parameter_forms, statement_forms, act_forms, suite_forms, arm_forms}
-use Rattle.py_check_unbuilt.specs.Least.{noted, expression_least, node_least, row_least, comparison_least, entry_least, argument_least, maybe_least, list_least, parameter_least, statement_least, act_least, suite_least, arm_least}
+use Rattle.py_check_unbuilt.specs.Later.{lesser, least, form_at, form_of_node, form_of_act, expression_forms, node_forms, row_forms, comparison_forms, entry_forms, argument_forms, maybe_forms, list_forms, parameter_forms, statement_forms, act_forms, suite_forms, arm_forms, clause_forms, last_forms}
+use Rattle.py_check_unbuilt.specs.Least.{noted, expression_least, node_least, row_least, comparison_least, entry_least, argument_least, maybe_least, list_least, parameter_least, statement_least, act_least, suite_least, arm_least, clause_least, last_least}
 
 -- the least of two rows is found in the one and then in the other
 least_append : (found : Option Unbuilt) (xs ys : List Unbuilt) → least found (xs ++ ys) ≡ least (least found xs) ys
@@ -103,7 +103,9 @@ mutual
   act_same found (s.If arms other) = joined found _ _ (arm_forms arms) (suite_forms other) (arm_same found arms) (suite_same (arm_least found arms) other)
   act_same found (s.While a body) = joined found _ _ (expression_forms false false a) (suite_forms body) (expression_same found false false a) (suite_same (expression_least found false false a) body)
   act_same found (s.For to a body) = joined found _ _ (expression_forms false false to) (expression_forms false false a ++ suite_forms body) (expression_same found false false to) (joined (expression_least found false false to) _ _ (expression_forms false false a) (suite_forms body) (expression_same (expression_least found false false to) false false a) (suite_same (expression_least (expression_least found false false to) false false a) body))
-  act_same found (s.Try body others last) = refl
+  act_same found (s.Try body clauses last) =
+      joined found _ _ (suite_forms body) (clause_forms clauses ++ last_forms last) (suite_same found body)
+      (joined (suite_least found body) _ _ (clause_forms clauses) (last_forms last) (clause_same (suite_least found body) clauses) (last_same (clause_least (suite_least found body) clauses) last))
   act_same found (s.Def name params ret body marks) = joined found _ _ (list_forms marks) (parameter_forms params ++ (maybe_forms true ret ++ suite_forms body)) (list_same found marks) (joined (list_least found marks) _ _ (parameter_forms params) (maybe_forms true ret ++ suite_forms body) (parameter_same (list_least found marks) params) (joined (parameter_least (list_least found marks) params) _ _ (maybe_forms true ret) (suite_forms body) (maybe_same (parameter_least (list_least found marks) params) true ret) (suite_same (maybe_least (parameter_least (list_least found marks) params) true ret) body)))
   act_same found (s.ClassDef name bases body marks) = refl
 
@@ -114,6 +116,16 @@ mutual
   arm_same : (found : Option Unbuilt) (t : Arms) → arm_least found t ≡ least found (arm_forms t)
   arm_same found s.no_arms = refl
   arm_same found (s.arm_then test body more) = joined found _ _ (expression_forms false false test) (suite_forms body ++ arm_forms more) (expression_same found false false test) (joined (expression_least found false false test) _ _ (suite_forms body) (arm_forms more) (suite_same (expression_least found false false test) body) (arm_same (suite_least (expression_least found false false test) body) more))
+
+  clause_same : (found : Option Unbuilt) (t : Handlers) → clause_least found t ≡ least found (clause_forms t)
+  clause_same found s.no_handlers = refl
+  clause_same found (s.handler_then class name body span more) =
+      joined found _ _ (maybe_forms false class) (suite_forms body ++ clause_forms more) (maybe_same found false class)
+      (joined (maybe_least found false class) _ _ (suite_forms body) (clause_forms more) (suite_same (maybe_least found false class) body) (clause_same (suite_least (maybe_least found false class) body) more))
+
+  last_same : (found : Option Unbuilt) (t : MaybeSuite) → last_least found t ≡ least found (last_forms t)
+  last_same found s.no_suite = refl
+  last_same found (s.some_suite body) = suite_same found body
 
 pub module_same : (m : Suite) → suite_least None m ≡ least None (suite_forms m)
 module_same m = suite_same None m

@@ -1,20 +1,15 @@
--- The forms of the language that have no typing rules yet, and the lines on which they stand in a module: displays of dicts,
--- `in` and `not in`, the names `dict` and `Dict`, and `del`; classes, decorators, attributes but for the two methods of lists
--- where they are called, and the names `super` and `trait`; `try`, `raise`, `assert`, and the names of exception classes.
+-- The forms of the language that have no typing rules yet, and the lines on which they stand in a module: classes, decorators,
+-- attributes but for the two methods of lists where they are called, and the names `super` and `trait`.
 --
 -- A name counts where it is an expression, be it a target, where it is a text in an annotation, and where `from` imports it.
 use Rattle.std.specs.Prelude.{ℕ, nat_lt, Bool, true, false, ◌||◌, if◌then◌else◌, List, [], ◌∷◌, ◌++◌, Option, Some, None, codes}
-use Rattle.std.specs.Option.{option_or, option_map}
+use Rattle.std.specs.Option.{option_or}
 use Rattle.std.specs.Str.{bytes_eq}
 use Rattle.py_syntax.specs.declared.token.Span.{Span}
-use Rattle.py_syntax.specs.declared.expression.CmpOp.{CmpOp}
-use Rattle.py_syntax.specs.declared.expression.CmpOp.TheVariants as comparison
 use Rattle.py_syntax.specs.Expressions as e
 use Rattle.py_syntax.specs.Expressions.{ExprTree, ExprNode, ExprTrees, Comparisons, Entries, Arguments}
 use Rattle.py_syntax.specs.Statements as s
-use Rattle.py_syntax.specs.Statements.{StmtTree, StmtNode, Suite, Arms}
-use Rattle.value_core.specs.declared.exception.ExcClass.{ExcClass}
-use Rattle.value_core.specs.Exceptions.{class_named}
+use Rattle.py_syntax.specs.Statements.{StmtTree, StmtNode, Suite, Arms, Handlers, MaybeSuite}
 use Rattle.py_check_unbuilt.specs.declared.form.Form.{Form}
 use Rattle.py_check_unbuilt.specs.declared.form.Form.TheVariants as form
 use Rattle.py_check_unbuilt.specs.declared.form.Unbuilt.{Unbuilt}
@@ -23,26 +18,7 @@ use Rattle.py_check_unbuilt.specs.declared.form.Unbuilt.{Unbuilt}
 
 abbrev pub word_form : List ℕ → Option Form
 word_form name =
-    if bytes_eq name (codes "dict") then Some form.NameDict else
-    (if bytes_eq name (codes "Dict") then Some form.NameTypingDict else
-    (if bytes_eq name (codes "super") then Some form.NameSuper else
-    (if bytes_eq name (codes "trait") then Some form.NameTrait else None)))
-
-abbrev pub exception_form : List ℕ → Option Form
-exception_form name = option_map (λ (c : ExcClass). form.ExceptionClass) (class_named name)
-
-abbrev pub name_form : List ℕ → Option Form
-name_form name = option_or (word_form name) (exception_form name)
-
-abbrev pub operator_form : CmpOp → Option Form
-operator_form comparison.Member = Some form.Member
-operator_form comparison.NotMember = Some form.NotMember
-operator_form _ = None
-
--- the first of a chain
-abbrev pub chain_form : Comparisons → Option Form
-chain_form e.no_comparisons = None
-chain_form (e.comparison_then op a more) = option_or (operator_form op) (chain_form more)
+    if bytes_eq name (codes "super") then Some form.NameSuper else (if bytes_eq name (codes "trait") then Some form.NameTrait else None)
 
 -- the two methods of lists
 abbrev pub is_list_method : List ℕ → Bool
@@ -56,38 +32,32 @@ attribute_form true name = if is_list_method name then None else Some form.Metho
 -- a text in an annotation, where it is such a name as it stands
 abbrev pub quoted_form : Bool → List ℕ → Option Form
 quoted_form false text = None
-quoted_form true text = name_form text
+quoted_form true text = word_form text
 
 -- of an expression that is in an annotation, or is not, and is called, or is not
 abbrev pub form_of_node : Bool → Bool → ExprNode → Option Form
-form_of_node marked called (e.Name name) = name_form name
+form_of_node marked called (e.Name name) = word_form name
 form_of_node marked called (e.Str text) = quoted_form marked text
-form_of_node marked called (e.DictOf pairs) = Some form.DictDisplay
-form_of_node marked called (e.Compare a more) = chain_form more
 form_of_node marked called (e.Attr a name) = attribute_form called name
 form_of_node marked called _ = None
 
 -- the first name that is imported
 abbrev pub import_form : List (List ℕ × Option (List ℕ)) → Option Form
 import_form [] = None
-import_form (p ∷ more) = option_or (name_form p.0) (import_form more)
+import_form (p ∷ more) = option_or (word_form p.0) (import_form more)
 
 abbrev pub decorator_form : List ExprTree → Option Form
 decorator_form [] = None
 decorator_form (mark ∷ more) = Some form.Decorator
 
 abbrev pub form_of_act : StmtNode → Option Form
-form_of_act (s.Del a) = Some form.Del
-form_of_act (s.Raise a) = Some form.Raise
-form_of_act (s.Assert a message) = Some form.Assert
 form_of_act (s.From name names) = import_form names
-form_of_act (s.Try body others last) = Some form.Try
 form_of_act (s.Def name params ret body marks) = decorator_form marks
 form_of_act (s.ClassDef name bases body marks) = Some form.Class
 form_of_act _ = None
 
--- ---- where they stand, in the order of the text: a node before what is in it. What stands in a `try` or a class stands on no line
--- before it, so neither is gone into
+-- ---- where they stand, in the order of the text: a node before what is in it. What stands in a class stands on no line before it, so
+-- that is not gone into
 
 -- what stands at a node, where it is such a form
 abbrev pub form_at : Option Form → Span → List Unbuilt
@@ -172,7 +142,7 @@ abbrev mutual
   act_forms (s.If arms other) = arm_forms arms ++ suite_forms other
   act_forms (s.While a body) = expression_forms false false a ++ suite_forms body
   act_forms (s.For to a body) = expression_forms false false to ++ (expression_forms false false a ++ suite_forms body)
-  act_forms (s.Try body others last) = []
+  act_forms (s.Try body clauses last) = suite_forms body ++ (clause_forms clauses ++ last_forms last)
   act_forms (s.Def name params ret body marks) = list_forms marks ++ (parameter_forms params ++ (maybe_forms true ret ++ suite_forms body))
   act_forms (s.ClassDef name bases body marks) = []
 
@@ -183,6 +153,14 @@ abbrev mutual
   pub arm_forms : Arms → List Unbuilt
   arm_forms s.no_arms = []
   arm_forms (s.arm_then test body more) = expression_forms false false test ++ (suite_forms body ++ arm_forms more)
+
+  pub clause_forms : Handlers → List Unbuilt
+  clause_forms s.no_handlers = []
+  clause_forms (s.handler_then class name body span more) = maybe_forms false class ++ (suite_forms body ++ clause_forms more)
+
+  pub last_forms : MaybeSuite → List Unbuilt
+  last_forms s.no_suite = []
+  last_forms (s.some_suite body) = suite_forms body
 
 -- ---- the least of them
 

@@ -4,7 +4,7 @@ use Rattle.std.specs.Prelude.{ℕ, Bool, true, false, List, [], ◌∷◌, Optio
 use Rattle.py_syntax.specs.Expressions as e
 use Rattle.py_syntax.specs.Expressions.{ExprTree, ExprNode, ExprTrees, Comparisons, Entries, Arguments}
 use Rattle.py_syntax.specs.Statements as s
-use Rattle.py_syntax.specs.Statements.{StmtTree, StmtNode, Suite, Arms}
+use Rattle.py_syntax.specs.Statements.{StmtTree, StmtNode, Suite, Arms, Handlers, MaybeSuite}
 use Rattle.py_check_unbuilt.specs.declared.form.Form.{Form}
 use Rattle.py_check_unbuilt.specs.declared.form.Unbuilt.{Unbuilt}
 use Rattle.py_check_unbuilt.specs.Later.{lesser, form_of_node, form_of_act}
@@ -91,7 +91,7 @@ abbrev mutual
   act_least found (s.If arms other) = suite_least (arm_least found arms) other
   act_least found (s.While a body) = suite_least (expression_least found false false a) body
   act_least found (s.For to a body) = suite_least (expression_least (expression_least found false false to) false false a) body
-  act_least found (s.Try body others last) = found
+  act_least found (s.Try body clauses last) = last_least (clause_least (suite_least found body) clauses) last
   act_least found (s.Def name params ret body marks) = suite_least (maybe_least (parameter_least (list_least found marks) params) true ret) body
   act_least found (s.ClassDef name bases body marks) = found
 
@@ -102,3 +102,11 @@ abbrev mutual
   pub arm_least : Option Unbuilt → Arms → Option Unbuilt
   arm_least found s.no_arms = found
   arm_least found (s.arm_then test body more) = arm_least (suite_least (expression_least found false false test) body) more
+
+  pub clause_least : Option Unbuilt → Handlers → Option Unbuilt
+  clause_least found s.no_handlers = found
+  clause_least found (s.handler_then class name body span more) = clause_least (suite_least (maybe_least found false class) body) more
+
+  pub last_least : Option Unbuilt → MaybeSuite → Option Unbuilt
+  last_least found s.no_suite = found
+  last_least found (s.some_suite body) = suite_least found body

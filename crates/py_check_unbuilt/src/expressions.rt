@@ -7,7 +7,7 @@ ghost use Rattle.py_check_unbuilt.specs.Least as find;
 
 use crate::form::{Form, Unbuilt};
 use py_syntax::{Arg, CmpOp, Expr, ExprKind};
-use value_core::{ExcClass, Name, Text};
+use value_core::{Name, Text};
 
 /// The one on the lesser line, of a form and of one found before it; on one line the one found before.
 pub fn lesser(unbuilt: Unbuilt, found: Option<Unbuilt>) -> Unbuilt
@@ -25,35 +25,22 @@ pub fn lesser(unbuilt: Unbuilt, found: Option<Unbuilt>) -> Unbuilt
     }
 }
 
-/// The form without typing rules that a name belongs to, where there is one.
-pub(crate) fn name_form(name: &str) -> Option<Form>
-    ensures { result ≡ spec.name_form name.now }
-{
-    match word_form(name) {
-        Some(form) => Some(form),
-        None => exception_form(name),
-    }
-}
-
 // The same of a text, which stands for a name in an annotation alone.
 fn quoted_form(marked: bool, text: &Text) -> Option<Form>
     ensures { result ≡ spec.quoted_form marked text.now }
 {
     if marked {
-        name_form(text.as_str())
+        word_form(text.as_str())
     } else {
         None
     }
 }
 
-fn word_form(name: &str) -> Option<Form>
+/// The form without typing rules that a name belongs to, where there is one.
+pub(crate) fn word_form(name: &str) -> Option<Form>
     ensures { result ≡ spec.word_form name.now }
 {
-    if name == "dict" {
-        Some(Form::NameDict)
-    } else if name == "Dict" {
-        Some(Form::NameTypingDict)
-    } else if name == "super" {
+    if name == "super" {
         Some(Form::NameSuper)
     } else if name == "trait" {
         Some(Form::NameTrait)
@@ -62,41 +49,10 @@ fn word_form(name: &str) -> Option<Form>
     }
 }
 
-fn exception_form(name: &str) -> Option<Form>
-    ensures { result ≡ spec.exception_form name.now }
-{
-    match ExcClass::named(name) {
-        Some(_) => Some(Form::ExceptionClass),
-        None => None,
-    }
-}
-
 fn is_list_method(name: &str) -> bool
     ensures { result ≡ spec.is_list_method name.now }
 {
     name == "append" || name == "pop"
-}
-
-fn operator_form(op: CmpOp) -> Option<Form>
-    ensures { result ≡ spec.operator_form op }
-{
-    match op {
-        CmpOp::Member => Some(Form::Member),
-        CmpOp::NotMember => Some(Form::NotMember),
-        _ => None,
-    }
-}
-
-/// The first operator of a chain without typing rules.
-fn chain_form(more: &[(CmpOp, Expr)]) -> Option<Form>
-    ensures { result ≡ spec.chain_form (comparisons_of (map comparison_tree more.now)) }
-{
-    for (op, _) in more {
-        if let Some(form) = operator_form(*op) {
-            return Some(form);
-        }
-    }
-    None
 }
 
 fn attribute_form(called: bool, name: &Name) -> Option<Form>
@@ -116,10 +72,8 @@ fn form_of(marked: bool, called: bool, e: &Expr) -> Option<Form>
     ensures { result ≡ spec.form_of_node marked called (expr_node e.now.kind) }
 {
     match &e.kind {
-        ExprKind::Name(name) => name_form(name.as_str()),
+        ExprKind::Name(name) => word_form(name.as_str()),
         ExprKind::Str(text) => quoted_form(marked, text),
-        ExprKind::Dict(_) => Some(Form::DictDisplay),
-        ExprKind::Compare(_, more) => chain_form(more.as_slice()),
         ExprKind::Attr(_, name) => attribute_form(called, name),
         _ => None,
     }

@@ -53,10 +53,6 @@ pub enum Form {
     For,
     /// An assignment to several targets.
     SeveralTargets,
-    /// The name `dict`.
-    NameDict,
-    /// The name `Dict`, as of `typing`.
-    NameTypingDict,
     /// The name `super`.
     NameSuper,
     /// The name `trait`.
@@ -114,8 +110,6 @@ impl Form {
             Form::Assert => "assert",
             Form::For => "for",
             Form::SeveralTargets => "several targets",
-            Form::NameDict => "the name dict",
-            Form::NameTypingDict => "the name Dict",
             Form::NameSuper => "the name super",
             Form::NameTrait => "the name trait",
             Form::ExceptionClass => "exception class",

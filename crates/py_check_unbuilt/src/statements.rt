@@ -1,13 +1,13 @@
 //! Statements without typing rules.
 ghost use Rattle.std.specs.Prelude.{◌≡◌, map};
 ghost use Rattle.py_syntax.specs.Expressions.{expr_tree};
-ghost use Rattle.py_syntax.specs.Statements.{stmt_tree, stmt_node, body_tree, module_tree, func_tree, def_of};
+ghost use Rattle.py_syntax.specs.Statements.{stmt_tree, stmt_node, body_tree, module_tree, func_tree, def_of, handler_tree, handlers_of};
 ghost use Rattle.py_check_unbuilt.specs.Later as spec;
 ghost use Rattle.py_check_unbuilt.specs.Least as find;
 
-use crate::expressions::{in_expression, in_list, in_maybe, in_parameters, name_form, noted};
+use crate::expressions::{in_expression, in_list, in_maybe, in_parameters, noted, word_form};
 use crate::form::{Form, Unbuilt};
-use py_syntax::{Expr, Func, Module, Stmt, StmtKind};
+use py_syntax::{Expr, Func, Handler, Module, Stmt, StmtKind};
 use value_core::Name;
 
 /// The first form in a module that has no typing rules yet, where there is one.
@@ -34,11 +34,7 @@ fn form_of(s: &Stmt) -> Option<Form>
     ensures { result ≡ spec.form_of_act (stmt_node s.now.kind) }
 {
     match &s.kind {
-        StmtKind::Del(_) => Some(Form::Del),
-        StmtKind::Raise(_) => Some(Form::Raise),
-        StmtKind::Assert(_, _) => Some(Form::Assert),
         StmtKind::From(_, names) => import_form(names.as_slice()),
-        StmtKind::Try(_, _, _) => Some(Form::Try),
         StmtKind::Def(f) => decorator_form(f.marks.as_slice()),
         StmtKind::Class(_) => Some(Form::Class),
         _ => None,
@@ -104,7 +100,13 @@ fn in_statement(s: &Stmt, found: Option<Unbuilt>) -> Option<Unbuilt>
             in_suite(body.as_slice(), found)
         }
         StmtKind::Def(f) => in_function(f, found),
-        StmtKind::Try(_, _, _) => found,
+        StmtKind::Try(body, clauses, last) => {
+            let found = in_clauses(clauses.as_slice(), in_suite(body.as_slice(), found));
+            match last {
+                None => found,
+                Some(last) => in_suite(last.as_slice(), found),
+            }
+        }
         StmtKind::Class(_) => found,
         StmtKind::Pass => found,
         StmtKind::Break => found,
@@ -120,11 +122,25 @@ fn import_form(names: &[(Name, Option<Name>)]) -> Option<Form>
     ensures { result ≡ spec.import_form names.now }
 {
     for (name, _) in names {
-        if let Some(form) = name_form(name.as_str()) {
+        if let Some(form) = word_form(name.as_str()) {
             return Some(form);
         }
     }
     None
+}
+
+#[cycle(statement)]
+fn in_clauses(clauses: &[Handler], found: Option<Unbuilt>) -> Option<Unbuilt>
+    ensures { result ≡ find.clause_least found (handlers_of (map handler_tree clauses.now)) }
+{
+    let mut found = found;
+    for clause in clauses {
+        found = in_suite(
+            clause.body.as_slice(),
+            in_maybe(&clause.class, false, found),
+        );
+    }
+    found
 }
 
 #[cycle(statement)]

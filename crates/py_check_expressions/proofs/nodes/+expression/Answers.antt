@@ -1,23 +1,26 @@
-use Rattle.std.proofs.Common.{◌≡◌, ◌∙◌, ◌+◌, ◌∷◌, ◌++◌, [], rules, sym, ap, map, drop, length, Option, List, subst, IfOk}
+use Rattle.std.proofs.Common.{◌≡◌, ◌∙◌, ◌+◌, ◌∷◌, ◌++◌, [], rules, sym, ap, map, drop, length, Option, Some, List, subst, IfOk}
 use Rattle.std.proofs.lemmas.List.{append_assoc, map-append}
-use Rattle.std.specs.Option.{option_map}
+use Rattle.std.specs.Option.{option_map, option_zip}
 use Rattle.py_syntax.specs.declared.expression.CmpOp.{CmpOp}
-use Rattle.py_syntax.specs.declared.expression.Arg.{out-Arg}
+use Rattle.py_syntax.specs.declared.expression.Expr.{Expr}
+use Rattle.py_syntax.specs.declared.expression.Arg.{Arg, out-Arg}
 use Rattle.py_syntax.specs.Expressions as tree
-use Rattle.py_syntax.specs.Expressions.{expr_tree, exprs_of, comparison_tree, comparisons_of, arg_tree, arguments_of}
+use Rattle.py_syntax.specs.Expressions.{expr_tree, exprs_of, comparison_tree, comparisons_of, entry_tree, entries_of, arg_tree, arguments_of}
 use Rattle.py_syntax.proofs.ExpressionLemmas.{expr_node-Str, expr_node-True, expr_node-False, expr_node-Nothing, expr_node-Name, expr_node-Neg, expr_node-Plus, expr_node-Not, expr_node-Bin, expr_node-Compare, expr_node-And, expr_node-Or, expr_node-Cond, expr_node-List, expr_node-Dict, expr_node-Tuple, expr_node-Attr, expr_node-Index, expr_node-Call}
-use Rattle.py_typed.specs.Expressions.{TypedExpr, typed_expr}
+use Rattle.py_typed.specs.Expressions.{TypedExpr, typed_expr, typed_entry}
 use Rattle.py_check_context.specs.Context.{Wanted, free, context, var_sorts, wanted, row, WantedRow, wanted_in}
-use Rattle.py_check_messages.specs.Seen.{Seen, Tells, ruled}
+use Rattle.py_check_messages.specs.Seen.{Seen, Tells, both, ruled}
 use Rattle.py_check_messages.specs.Rows.{row_then}
 use Rattle.py_check_messages.proofs.RowLemmas.{Remains, row_step}
 use Rattle.py_check_coercions.specs.Boxes.{boxed}
 use Rattle.py_check_operators.specs.Operands.{maybe_pair}
 use Rattle.py_check_operators.proofs.FactLemmas.{tree_of}
 use Rattle.py_check_displays.specs.Displays as displays
-use Rattle.py_check_expressions.specs.Typing.{typing, node_typing, operands, each_operand, items, arguments, count}
+use Rattle.py_check_displays.specs.Dicts.{key_wanted, value_wanted}
+use Rattle.py_check_displays.specs.Entries.{entry_types}
+use Rattle.py_check_expressions.specs.Typing.{typing, node_typing, operands, each_operand, items, entries, arguments, count}
 use Rattle.py_check_expressions.proofs.NodeLemmas.{leaf_says, one_says, node_says, named_part, value_part, chain_says}
-use Rattle.py_check_expressions.proofs.RowLemmas.{counted, items_at, operands_at, each_at, arguments_at}
+use Rattle.py_check_expressions.proofs.RowLemmas.{counted, drop_none, row_starts, items_at, entries_at, operands_at, each_at, arguments_at}
 use Rattle.py_check_expressions.proofs.nodes.+expression.Goals as goal
 
 pub expression-returns-in-Str : goal.expression-returns-in-Str
@@ -156,7 +159,8 @@ expression-returns-in-Dict t c =
     let V = var_sorts c.args.vars.now in
     let K = c.args.known.now in
     let w = wanted c.args.want in
-    node_says C V w K c.args.e.now (tree.DictOf _) c.dict.result c.args.faults.now c.dict.new.faults (tree_of c.args.e.now _ _ c.in-Dict.is (expr_node-Dict _)) c.dict.ensures
+    let h : IfOk c.dict.result (λ x. Tells boxed x c.args.faults.now c.dict.new.faults (node_typing C V w K c.args.e.now.span (tree.DictOf (entries_of (map entry_tree c.in-Dict.es))))) = search (rules, c.dict.ensures, c.as_slice-in-Dict.ensures) in
+    node_says C V w K c.args.e.now (tree.DictOf (entries_of (map entry_tree c.in-Dict.es))) c.dict.result c.args.faults.now c.dict.new.faults (tree_of c.args.e.now _ _ c.in-Dict.is (expr_node-Dict c.in-Dict.es)) h
 
 pub expression-returns-in-Index : goal.expression-returns-in-Index
 expression-returns-in-Index t c =
@@ -253,6 +257,19 @@ operands-loop-op-preserved t c =
           ∙ ap (λ l. l ++ (operands C V K rest).said) (sym e.1);
     }
 
+pub items-loop-i-init : goal.items-loop-i-init
+items-loop-i-init t c =
+    let C = context c.args.scope.now in
+    let V = var_sorts c.args.vars.now in
+    let K = c.args.known.now in
+    let R = row c.args.asked in
+    let old = c.args.faults.now in
+    let xs = c.args.es.now in
+    let whole : Seen (List TypedExpr) = items C V R 0 K (exprs_of (map expr_tree xs)) in
+    let front : Option (List TypedExpr) = Some (map typed_expr c.new.result) in
+    let P : List Expr → Type 0 = λ l. Remains front old old whole (items C V R 0 K (exprs_of (map expr_tree l))) in
+    subst P (sym (drop_none xs)) (row_starts front old whole (ap (λ l. Some (map typed_expr l)) c.new.ensures))
+
 pub items-loop-i-preserved : goal.items-loop-i-preserved
 items-loop-i-preserved t c =
     let C = context c.args.scope.now in
@@ -272,6 +289,58 @@ items-loop-i-preserved t c =
     let now : Remains front c.args.faults.now c.loop-i.faults whole (row_then one rest) = subst P (items_at C V K R xs i x c.loop-i-test.true c.index-es-i.is) c.loop-i.invariant in
     let Q : Option (List TypedExpr) → Type 0 = λ f. Remains f c.args.faults.now c.expression.new.faults whole rest in
     subst Q (sym c.in_ok-found.ensures) (row_step front (option_map boxed c.in_ok-e.e) c.args.faults.now c.loop-i.faults c.expression.new.faults whole rest one now e.0 e.1)
+
+pub entries-loop-k-init : goal.entries-loop-k-init
+entries-loop-k-init t c =
+    let C = context c.args.scope.now in
+    let V = var_sorts c.args.vars.now in
+    let K = c.args.known.now in
+    let o = option_map entry_types c.args.expected in
+    let old = c.args.faults.now in
+    let xs = c.args.es.now in
+    let whole : Seen (List (TypedExpr × TypedExpr)) = entries C V (key_wanted o) (value_wanted o) K (entries_of (map entry_tree xs)) in
+    let front : Option (List (TypedExpr × TypedExpr)) = Some (map typed_entry c.new.result) in
+    let P : List (Expr × Expr) → Type 0 = λ l. Remains front old old whole (entries C V (key_wanted o) (value_wanted o) K (entries_of (map entry_tree l))) in
+    subst P (sym (drop_none xs)) (row_starts front old whole (ap (λ l. Some (map typed_entry l)) c.new.ensures))
+
+pub entries-loop-k-preserved : goal.entries-loop-k-preserved
+entries-loop-k-preserved t c =
+    let C = context c.args.scope.now in
+    let V = var_sorts c.args.vars.now in
+    let K = c.args.known.now in
+    let o = option_map entry_types c.args.expected in
+    let xs = c.args.es.now in
+    let i = c.loop-k.k-index in
+    let p = c.loop-k-item.result in
+    let k : Seen TypedExpr = typing C V (key_wanted o) K (expr_tree p.0) in
+    let v : Seen TypedExpr = typing C V (value_wanted o) K (expr_tree p.1) in
+    let whole : Seen (List (TypedExpr × TypedExpr)) = entries C V (key_wanted o) (value_wanted o) K (entries_of (map entry_tree xs)) in
+    let rest : Seen (List (TypedExpr × TypedExpr)) = entries C V (key_wanted o) (value_wanted o) K (entries_of (map entry_tree (drop (i + 1) xs))) in
+    let front : Option (List (TypedExpr × TypedExpr)) = option_map (map typed_entry) c.loop-k.found in
+    let A : Wanted → Type 0 = λ q. Tells boxed c.in_ok-key.key c.loop-k.faults c.expression.new.faults (typing C V q K (expr_tree p.0)) in
+    let B : Wanted → Type 0 = λ q. Tells boxed c.in_ok-value.value c.expression.new.faults c.expression-in-loop-k.new.faults (typing C V q K (expr_tree p.1)) in
+    let a : Tells boxed c.in_ok-key.key c.loop-k.faults c.expression.new.faults k = subst A c.key_want.ensures c.in_ok-key.ensures in
+    let b : Tells boxed c.in_ok-value.value c.expression.new.faults c.expression-in-loop-k.new.faults v = subst B c.value_want.ensures c.in_ok-value.ensures in
+    let P : Seen (List (TypedExpr × TypedExpr)) → Type 0 = λ q. Remains front c.args.faults.now c.loop-k.faults whole q in
+    let now : Remains front c.args.faults.now c.loop-k.faults whole (row_then (both k v) rest) = subst P (entries_at C V K (key_wanted o) (value_wanted o) xs i p c.loop-k-test.true c.loop-k-item.is) c.loop-k.invariant in
+    let got : option_zip (option_map boxed c.in_ok-key.key) (option_map boxed c.in_ok-value.value) ≡ option_zip k.got v.got = ap (λ x. option_zip x (option_map boxed c.in_ok-value.value)) a.0 ∙ ap (λ y. option_zip k.got y) b.0 in
+    let Q : Option (List (TypedExpr × TypedExpr)) → Type 0 = λ f. Remains f c.args.faults.now c.expression-in-loop-k.new.faults whole rest in
+    subst Q (sym c.in_ok-found.ensures)
+    (row_step front (option_zip (option_map boxed c.in_ok-key.key) (option_map boxed c.in_ok-value.value)) c.args.faults.now c.loop-k.faults c.expression-in-loop-k.new.faults whole rest (both k v) now got
+    (b.1 ∙ ap (λ l. l ++ v.said) a.1 ∙ append_assoc c.loop-k.faults k.said v.said))
+
+pub arguments-loop-i-init : goal.arguments-loop-i-init
+arguments-loop-i-init t c =
+    let C = context c.args.scope.now in
+    let V = var_sorts c.args.vars.now in
+    let K = c.args.known.now in
+    let R = row c.args.asked in
+    let old = c.args.faults.now in
+    let xs = c.args.args.now in
+    let whole : Seen (List TypedExpr) = arguments C V R 0 K (arguments_of (map arg_tree xs)) in
+    let front : Option (List TypedExpr) = Some (map typed_expr c.new.result) in
+    let P : List Arg → Type 0 = λ l. Remains front old old whole (arguments C V R 0 K (arguments_of (map arg_tree l))) in
+    subst P (sym (drop_none xs)) (row_starts front old whole (ap (λ l. Some (map typed_expr l)) c.new.ensures))
 
 pub arguments-loop-i-preserved : goal.arguments-loop-i-preserved
 arguments-loop-i-preserved t c =

@@ -1,16 +1,18 @@
 use Rattle.std.proofs.Common.{◌≡◌, ◌++◌, ◌+◌, ◌*◌, max, map, drop}
 use Rattle.std.specs.Option.{option_map}
-use Rattle.py_syntax.specs.Expressions.{expr_tree, exprs_of, comparison_tree, comparisons_of, arg_tree, arguments_of}
-use Rattle.py_typed.specs.Expressions.{typed_expr}
+use Rattle.py_syntax.specs.Expressions.{expr_tree, exprs_of, comparison_tree, comparisons_of, entry_tree, entries_of, arg_tree, arguments_of}
+use Rattle.py_typed.specs.Expressions.{typed_expr, typed_entry}
 use Rattle.py_check_context.specs.Context.{context, var_sorts, row}
 use Rattle.py_check_messages.proofs.RowLemmas.{Remains}
 use Rattle.py_check_operators.specs.Operands.{maybe_pair}
-use Rattle.py_check_expressions.specs.Typing.{items, operands, each_operand, arguments}
+use Rattle.py_check_displays.specs.Dicts.{key_wanted, value_wanted}
+use Rattle.py_check_displays.specs.Entries.{entry_types}
+use Rattle.py_check_expressions.specs.Typing.{items, entries, operands, each_operand, arguments}
 use denote.Param.Weighed.{most}
 use Rattle.py_syntax.specs.declared.expression.Expr.{size-Expr}
 use Rattle.py_syntax.specs.declared.expression.Arg.{size-Arg}
 use Rattle.py_syntax.specs.declared.expression.ExprKind.{size-ExprKind}
-use Rattle.py_check_expressions.proofs.SizeLemmas.{operand_size}
+use Rattle.py_check_expressions.proofs.SizeLemmas.{operand_size, entry_size}
 use Rattle.py_check_expressions.proofs.nodes.+expression.Given as goal
 
 abbrev pub decreases-expression : goal.decreases-expression
@@ -58,6 +60,12 @@ decreases-tuple l = most size-Expr l.es.now * 3 + 2
 abbrev pub decreases-items : goal.decreases-items
 decreases-items l = most size-Expr l.es.now * 3 + 1
 
+abbrev pub decreases-dict : goal.decreases-dict
+decreases-dict l = most entry_size l.es.now * 3 + 2
+
+abbrev pub decreases-entries : goal.decreases-entries
+decreases-entries l = most entry_size l.es.now * 3 + 1
+
 abbrev pub decreases-call : goal.decreases-call
 decreases-call l = max (size-Expr l.f.now) (most size-Arg l.args.now) * 3 + 2
 
@@ -81,6 +89,12 @@ invariant-items-loop-i l =
     Remains (option_map (map typed_expr) l.found) l.fn.faults l.faults
     (items (context l.scope) (var_sorts l.vars) (row l.asked) 0 l.known (exprs_of (map expr_tree l.es)))
     (items (context l.scope) (var_sorts l.vars) (row l.asked) l.i l.known (exprs_of (map expr_tree (drop l.i l.es))))
+
+abbrev pub invariant-entries-loop-k : goal.invariant-entries-loop-k
+invariant-entries-loop-k l =
+    Remains (option_map (map typed_entry) l.found) l.fn.faults l.faults
+    (entries (context l.scope) (var_sorts l.vars) (key_wanted (option_map entry_types l.expected)) (value_wanted (option_map entry_types l.expected)) l.known (entries_of (map entry_tree l.es)))
+    (entries (context l.scope) (var_sorts l.vars) (key_wanted (option_map entry_types l.expected)) (value_wanted (option_map entry_types l.expected)) l.known (entries_of (map entry_tree (drop l.k-index l.es))))
 
 abbrev pub invariant-arguments-loop-i : goal.invariant-arguments-loop-i
 invariant-arguments-loop-i l =
