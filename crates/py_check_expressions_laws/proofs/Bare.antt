@@ -30,10 +30,11 @@ use Rattle.py_check_operators.specs.Chains.{faults_of, chain}
 use Rattle.py_check_operators.specs.Choices.{joined, choice_type, choice, junction, operand}
 use Rattle.py_check_operators.specs.Facts.{facts, subject, local_of, tells, is_none_tree, joined_facts}
 use Rattle.py_check_displays.specs.Displays.{item_sort, items_row, list_of, item_fault, common, joined_list, inferred_list, list_display, parts_row, is_invalid_tuple, tuple_of, kept_row, tuple_display}
+use Rattle.py_check_displays.specs.Dicts.{entry_sorts, key_wanted, value_wanted, unfit_entry, entry_fault, dict_of, common_entry, are_entry_types, joined_dict, inferred_dict, dict_display}
 use Rattle.py_check_displays.specs.Indexing as indexes
 use Rattle.py_check_displays.specs.Indexing.{Literal, literal, keyed_by, item_at, part_at, parts_of, part_made, part_of, is_tuple, indexing}
 use Rattle.py_check_calls.specs.Methods.{is_list_method, attribute}
-use Rattle.py_check_expressions.specs.Typing.{typing, operands, items, count}
+use Rattle.py_check_expressions.specs.Typing.{typing, operands, items, entries, count}
 use Rattle.py_check_expressions_laws.specs.WellTyped.{Within}
 use Rattle.py_check_expressions_laws.specs.Bare.{is_itself, are_themselves, is_bare}
 use Rattle.py_check_expressions_laws.proofs.Given.{Gives, gives_is, gives_silent, gives_fails, gives_both, gives_made, gives_rule, gives_ruled_all, gives_compare, gives_row}
@@ -42,7 +43,7 @@ use Rattle.py_check_expressions_laws.proofs.Telling.{ok_same, truth_tells, coerc
 
 -- ---- what is made
 
-abbrev Makes : (TypedExpr → Type 0) → Result TypedExpr Message → Type 0
+abbrev pub Makes : (TypedExpr → Type 0) → Result TypedExpr Message → Type 0
 Makes P (Ok e) = P e
 Makes P (Err m) = Unit {0}
 
@@ -50,7 +51,7 @@ makes_ok : (P : TypedExpr → Type 0) (r : Result TypedExpr Message) (e : TypedE
 makes_ok P (Ok a) e h q = subst P (ok_same a e q) h
 makes_ok P (Err m) e h q = absurd (cc)
 
-makes_if : (P : TypedExpr → Type 0) (b : Bool) (r s : Result TypedExpr Message) → Makes P r → Makes P s → Makes P (if b then r else s)
+pub makes_if : (P : TypedExpr → Type 0) (b : Bool) (r s : Result TypedExpr Message) → Makes P r → Makes P s → Makes P (if b then r else s)
 makes_if P true r s p q = p
 makes_if P false r s p q = q
 
@@ -61,7 +62,7 @@ is_leaf node.Nothing = true
 is_leaf n = false
 
 -- a node that tells nothing of any name
-abbrev is_mute : TypedNode → Bool
+abbrev pub is_mute : TypedNode → Bool
 is_mute (node.Compare e cs) = false
 is_mute (node.Not e) = false
 is_mute (node.And a b) = false
@@ -70,9 +71,9 @@ is_mute (node.Truth e) = false
 is_mute (node.Coerce e) = false
 is_mute n = true
 
-record IsMade (t : TypedExpr) : Type 0 where
-  leaf : is_leaf (node_of t) ≡ false
-  mute : is_mute (node_of t) ≡ true
+pub record IsMade (t : TypedExpr) : Type 0 where
+  pub leaf : is_leaf (node_of t) ≡ false
+  pub mute : is_mute (node_of t) ≡ true
 
 node_mute : (b : Bool) (n : TypedNode) → is_mute n ≡ true → telling.node_facts b n ≡ []
 node_mute b (node.Compare e cs) h = absurd (cc)
@@ -122,6 +123,22 @@ list_makes cs (Some t) span es = by (option_map (item_fault cs) (unfit cs (each 
     by None = record { leaf = refl; mute = refl }
     by (Some m) = tt
 
+joined_dict_makes : (span : Span) (es : List (TypedExpr × TypedExpr)) (o : Option (Sort × Sort)) → Makes IsMade (joined_dict span es o)
+joined_dict_makes span es None = tt
+joined_dict_makes span es (Some p) = makes_if IsMade (are_entry_types p) (Ok (dict_of span p es)) (Err message.no_common_entry) (record { leaf = refl; mute = refl }) tt
+
+inferred_dict_makes : (cs : List ClassEntry) (span : Span) (es : List (TypedExpr × TypedExpr)) → Makes IsMade (inferred_dict cs span es)
+inferred_dict_makes cs span [] = tt
+inferred_dict_makes cs span (e ∷ es) = joined_dict_makes span (e ∷ es) (common_entry cs e es)
+
+dict_makes : (cs : List ClassEntry) (o : Option (Sort × Sort)) (span : Span) (es : List (TypedExpr × TypedExpr)) → Makes IsMade (dict_display cs o span es)
+dict_makes cs None span es = inferred_dict_makes cs span es
+dict_makes cs (Some p) span es = by (option_map (entry_fault cs p) (unfit_entry cs p 0 es))
+  where
+    by : (o : Option Message) → Makes IsMade (unless o (dict_of span p es))
+    by None = record { leaf = refl; mute = refl }
+    by (Some m) = tt
+
 tuple_makes : (cs : List ClassEntry) (row : WantedRow) (span : Span) (es : List TypedExpr) → Makes IsMade (tuple_display cs row span es)
 tuple_makes cs row span es = makes_if IsMade (is_invalid_tuple row es) (Err message.invalid_tuple) (Ok (tuple_of span (changed_row (kept_row cs row es) 0 es))) tt (record { leaf = refl; mute = refl })
 
@@ -141,10 +158,10 @@ attribute_makes : (cs : List ClassEntry) (a : List ℕ) (e : TypedExpr) → Make
 attribute_makes cs a e = makes_if IsMade (is_list_method (type_of e) a) (Err (message.not_a_value a)) (Err (message.no_attribute cs (type_of e) a)) tt tt
 
 -- a rule over any parts
-gives_makes : {A : Type 0} (P : TypedExpr → Type 0) (span : Span) (f : A → Result TypedExpr Message) (s : Seen A) → ((a : A) → Makes P (f a)) → Gives (rule span f s) P
+pub gives_makes : {A : Type 0} (P : TypedExpr → Type 0) (span : Span) (f : A → Result TypedExpr Message) (s : Seen A) → ((a : A) → Makes P (f a)) → Gives (rule span f s) P
 gives_makes {A} P span f s makes = gives_rule (λ (a : A). Unit {0}) P span f s (record { each = λ a e. tt }) (λ a u e q. makes_ok P (f a) e (makes a) q)
 
-gives_then : (P Q : TypedExpr → Type 0) (s : Seen TypedExpr) → Gives s P → ((t : TypedExpr) → P t → Q t) → Gives s Q
+pub gives_then : (P Q : TypedExpr → Type 0) (s : Seen TypedExpr) → Gives s P → ((t : TypedExpr) → P t → Q t) → Gives s Q
 gives_then P Q s g next = record { each = λ a h. next a (g.each a h) }
 
 -- ---- tests against None
@@ -214,7 +231,7 @@ module _ (C : Context) (V : VarSorts) where
   variable_mute span x n known untyped h = gives_silent (λ t. is_mute (node_of t) ≡ true)
   variable_mute span x n known (has s) h = gives_is (λ t. is_mute (node_of t) ≡ true) _ h
 
-  named_mute : (known : List ℕ) (span : Span) (x : List ℕ) (m : Meaning) → Gives (named V known span x m) (λ t. is_mute (node_of t) ≡ true)
+  pub named_mute : (known : List ℕ) (span : Span) (x : List ℕ) (m : Meaning) → Gives (named V known span x m) (λ t. is_mute (node_of t) ≡ true)
   named_mute known span x (meaning.Local j) = variable_mute span x (node.Local j) (is_in known j) (var_at V.locals j) refl
   named_mute known span x (meaning.Global j) = variable_mute span x (node.Global j) false (var_at V.globals j) refl
   named_mute known span x meaning.ModuleName = gives_is (λ t. is_mute (node_of t) ≡ true) _ refl
@@ -223,29 +240,33 @@ module _ (C : Context) (V : VarSorts) where
 
   -- ---- what is neither a test nor changed
 
-  made_number : (w : Wanted) (known : List ℕ) (n : Rattle.std.specs.Prelude.ℤ) (span : Span) → Gives (typing C V w known (at (tree.Int n) span)) IsMade
+  pub made_number : (w : Wanted) (known : List ℕ) (n : Rattle.std.specs.Prelude.ℤ) (span : Span) → Gives (typing C V w known (at (tree.Int n) span)) IsMade
   made_number w known n span = gives_is IsMade _ (record { leaf = refl; mute = refl })
 
-  made_sign : (w : Wanted) (known : List ℕ) (e : ExprTree) (span : Span) → Gives (typing C V w known (at (tree.Neg e) span)) IsMade
+  pub made_sign : (w : Wanted) (known : List ℕ) (e : ExprTree) (span : Span) → Gives (typing C V w known (at (tree.Neg e) span)) IsMade
   made_sign w known e span = gives_makes IsMade span (negation C.classes span) (typing C V free known e) (negation_makes C.classes span)
 
-  made_operation : (w : Wanted) (known : List ℕ) (o : BinOp) (a b : ExprTree) (span : Span) → Gives (typing C V w known (at (tree.Bin o a b) span)) IsMade
+  pub made_operation : (w : Wanted) (known : List ℕ) (o : BinOp) (a b : ExprTree) (span : Span) → Gives (typing C V w known (at (tree.Bin o a b) span)) IsMade
   made_operation w known o a b span = gives_makes IsMade span (arithmetic C.classes span o) (both (typing C V free known a) (typing C V free known b)) (arithmetic_makes C.classes span o)
 
-  made_choice : (w : Wanted) (known : List ℕ) (a t b : ExprTree) (span : Span) → Gives (typing C V w known (at (tree.Cond a t b) span)) IsMade
+  pub made_choice : (w : Wanted) (known : List ℕ) (a t b : ExprTree) (span : Span) → Gives (typing C V w known (at (tree.Cond a t b) span)) IsMade
   made_choice w known a t b span =
       gives_makes IsMade span (choice C.classes w span) (both (both (typing C V free (facts C true t ++ known) a) (typing C V test known t)) (typing C V free (facts C false t ++ known) b)) (choice_makes C.classes w span)
 
-  made_list : (w : Wanted) (known : List ℕ) (es : tree.ExprTrees) (span : Span) → Gives (typing C V w known (at (tree.ListOf es) span)) IsMade
+  pub made_list : (w : Wanted) (known : List ℕ) (es : tree.ExprTrees) (span : Span) → Gives (typing C V w known (at (tree.ListOf es) span)) IsMade
   made_list w known es span = gives_makes IsMade span (list_display C.classes (item_sort w) span) (items C V (items_row (item_sort w)) 0 known es) (list_makes C.classes (item_sort w) span)
 
-  made_tuple : (w : Wanted) (known : List ℕ) (es : tree.ExprTrees) (span : Span) → Gives (typing C V w known (at (tree.TupleOf es) span)) IsMade
+  pub made_dict : (w : Wanted) (known : List ℕ) (es : tree.Entries) (span : Span) → Gives (typing C V w known (at (tree.DictOf es) span)) IsMade
+  made_dict w known es span =
+      gives_makes IsMade span (dict_display C.classes (entry_sorts w) span) (entries C V (key_wanted (entry_sorts w)) (value_wanted (entry_sorts w)) known es) (dict_makes C.classes (entry_sorts w) span)
+
+  pub made_tuple : (w : Wanted) (known : List ℕ) (es : tree.ExprTrees) (span : Span) → Gives (typing C V w known (at (tree.TupleOf es) span)) IsMade
   made_tuple w known es span = gives_makes IsMade span (tuple_display C.classes (parts_row w (count es)) span) (items C V (parts_row w (count es)) 0 known es) (tuple_makes C.classes (parts_row w (count es)) span)
 
-  made_item : (w : Wanted) (known : List ℕ) (e i : ExprTree) (span : Span) → Gives (typing C V w known (at (tree.Index e i) span)) IsMade
+  pub made_item : (w : Wanted) (known : List ℕ) (e i : ExprTree) (span : Span) → Gives (typing C V w known (at (tree.Index e i) span)) IsMade
   made_item w known e i span = gives_makes IsMade span (indexing C.classes span (literal i)) (both (typing C V free known e) (typing C V free known i)) (indexing_makes C.classes span (literal i))
 
-  made_attribute : (w : Wanted) (known : List ℕ) (e : ExprTree) (a : List ℕ) (span : Span) → Gives (typing C V w known (at (tree.Attr e a) span)) IsMade
+  pub made_attribute : (w : Wanted) (known : List ℕ) (e : ExprTree) (a : List ℕ) (span : Span) → Gives (typing C V w known (at (tree.Attr e a) span)) IsMade
   made_attribute w known e a span = gives_makes IsMade span (attribute C.classes a) (typing C V free known e) (attribute_makes C.classes a)
 
   -- what is a local, or None, is so as it is written
@@ -276,7 +297,7 @@ module _ (C : Context) (V : VarSorts) where
   leaf_typing w known (at (tree.TupleOf es) span) h = gives_made_leaf w known (at (tree.TupleOf es) span) (made_tuple w known es span)
   leaf_typing w known (at (tree.Index e i) span) h = gives_made_leaf w known (at (tree.Index e i) span) (made_item w known e i span)
   leaf_typing w known (at (tree.Attr e a) span) h = gives_made_leaf w known (at (tree.Attr e a) span) (made_attribute w known e a span)
-  leaf_typing w known (at (tree.DictOf es) span) h = gives_fails (LeafOf (at (tree.DictOf es) span)) span _
+  leaf_typing w known (at (tree.DictOf es) span) h = gives_made_leaf w known (at (tree.DictOf es) span) (made_dict w known es span)
 
   -- ---- expressions
 
@@ -373,4 +394,4 @@ module _ (C : Context) (V : VarSorts) where
   less_typing w known (at (tree.TupleOf es) span) h = made_less w known (at (tree.TupleOf es) span) (made_tuple w known es span)
   less_typing w known (at (tree.Index e i) span) h = made_less w known (at (tree.Index e i) span) (made_item w known e i span)
   less_typing w known (at (tree.Attr e a) span) h = made_less w known (at (tree.Attr e a) span) (made_attribute w known e a span)
-  less_typing w known (at (tree.DictOf es) span) h = gives_fails (Less (at (tree.DictOf es) span)) span _
+  less_typing w known (at (tree.DictOf es) span) h = made_less w known (at (tree.DictOf es) span) (made_dict w known es span)

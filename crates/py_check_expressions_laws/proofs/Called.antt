@@ -5,6 +5,7 @@ use Rattle.std.proofs.lemmas.Option.{same_Some}
 use Rattle.std.specs.List.{list_all}
 use Rattle.std.specs.Str.{bytes_eq}
 use Rattle.std.specs.Prelude.{codes}
+use Rattle.value_core.specs.declared.exception.ExcClass.{ExcClass}
 use Rattle.py_syntax.specs.declared.token.Span.{Span}
 use Rattle.py_typed.specs.Sorts as sort
 use Rattle.py_typed.specs.Sorts.{Sort, sorts_of}
@@ -21,8 +22,9 @@ use Rattle.py_check_coercions.specs.Values.{coerced}
 use Rattle.py_check_coercions.specs.Rows.{Misfit, unfit, changed_row}
 use Rattle.py_check_calls.specs.declared.callees.Single.{Single}
 use Rattle.py_check_calls.specs.declared.callees.Single.TheVariants as one
-use Rattle.py_check_calls.specs.Callees.{Callee, function, print, input, range, single, method, voiceless, uncalled, value}
+use Rattle.py_check_calls.specs.Callees.{Callee, function, print, input, range, single, exception, method, voiceless, uncalled, value}
 use Rattle.py_check_calls.specs.Builtins.{gives_value, as_value, unprintable, printed, print_call, input_call, the_only, single_takes, single_made, single_given, single_call}
+use Rattle.py_check_calls.specs.Exceptions.{is_text, exception_made, exception_call}
 use Rattle.py_check_calls.specs.Methods.{item_of, method_row, pop_call, append_given, append_call, value_call, method_call}
 use Rattle.py_check_calls.specs.Calls.{arguments_row, no_keys, positional, refused, function_given, function_call, called}
 use Rattle.py_check_expressions_laws.specs.WellTyped.{is_asked, is_good, Within, IsSigned}
@@ -176,6 +178,25 @@ module _ (m : TypedModule) (locals : List Variable) (init : Option ℕ) where
           let r = if_ok (single_takes f (type_of x)) (single_made f span x) e _ q in
           subst (Sound m locals init w known) r.1 (made_sound w known f span x (λ others wi. first_of_row x others (subst (AllStand m locals init others) (only_is es x p) (row_stands m locals init (along []) 0 known others es h wi (free_fits m.classes.classes 0 es)))) r.0)
 
+  -- ---- exceptions
+
+  text_same : (s : Sort) → is_text s ≡ true → is_same_type s sort.Str ≡ true
+  text_same sort.Str h = refl
+  text_same s h = absurd (cc)
+
+  exception_sound : (w : Wanted) (known : List ℕ) (span : Span) (x : ExcClass) (es : List TypedExpr) (e : TypedExpr) → RowSound m locals init (along []) 0 known es → exception_call m.classes.classes span x es ≡ Ok e → Sound m locals init w known e
+  exception_sound w known span x [] e h g =
+      subst (Sound m locals init w known) (ok_same (exception_made span x None) e g)
+      (value_sound m locals init w known (exception_made span x None) (λ others wi. stands_made m locals init false others (node.MakeExc x node.no_expr) (sort.Exc x) span refl (type_is_itself (sort.Exc x)) refl refl refl))
+  exception_sound w known span x (a ∷ []) e h g =
+      let r = if_ok (is_text (type_of a)) (exception_made span x (Some a)) e _ g in
+      subst (Sound m locals init w known) r.1
+      (value_sound m locals init w known (exception_made span x (Some a)) (λ others wi.
+      stands_made m locals init false others (node.MakeExc x (node.some_expr a)) (sort.Exc x) span
+      (first_of_row a others (row_stands m locals init (along []) 0 known others (a ∷ []) h wi (free_fits m.classes.classes 0 (a ∷ []))))
+      (and_from (is_same_type (type_of a) sort.Str) (is_same_type (sort.Exc x) (sort.Exc x)) (text_same (type_of a) r.0) (type_is_itself (sort.Exc x))) refl refl refl))
+  exception_sound w known span x (a ∷ b ∷ es) e h g = absurd (cc)
+
   -- ---- methods of lists
 
   append_sound : (w : Wanted) (known : List ℕ) (span : Span) (a : TypedExpr) (t : Sort) (es : List TypedExpr) (e : TypedExpr) → type_of a ≡ sort.ListOf t → Sound m locals init free known a → RowSound m locals init (along (t ∷ [])) 0 known es → append_call m.classes.classes w span a t es ≡ Ok e → Sound m locals init w known e
@@ -267,6 +288,9 @@ module _ (m : TypedModule) (locals : List Variable) (init : Option ℕ) where
   called_sound w known span keyed (single f) p args k sp h =
       gives_rule (RowSound m locals init (along []) 0 known) (Sound m locals init w known) span (single_call m.classes.classes f span) (positional span keyed args) (keyless (RowSound m locals init (along []) 0 known) span keyed args h)
       (λ es q e g. single_sound w known f span es e q g)
+  called_sound w known span keyed (exception x) p args k sp h =
+      gives_rule (RowSound m locals init (along []) 0 known) (Sound m locals init w known) span (exception_call m.classes.classes span x) (positional span keyed args) (keyless (RowSound m locals init (along []) 0 known) span keyed args h)
+      (λ es q e g. exception_sound w known span x es e q g)
   called_sound w known span keyed (method f) None args k sp h = gives_silent (Sound m locals init w known)
   called_sound w known span keyed (method f) (Some a) args k sp h =
       gives_rule (RowSound m locals init (method_row f (item_of (type_of a))) 0 known) (Sound m locals init w known) span (method_call m.classes.classes w span f a) (positional span keyed args) (keyless (RowSound m locals init (method_row f (item_of (type_of a))) 0 known) span keyed args h)
@@ -300,6 +324,7 @@ module _ (m : TypedModule) (locals : List Variable) (init : Option ℕ) where
   row_asked known input p k sp i = refl
   row_asked known range p k sp i = refl
   row_asked known (single f) p k sp i = refl
+  row_asked known (exception x) p k sp i = refl
   row_asked known voiceless p k sp i = refl
   row_asked known uncalled p k sp i = refl
   row_asked known value p k sp i = refl

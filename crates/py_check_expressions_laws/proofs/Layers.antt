@@ -18,24 +18,26 @@ use Rattle.py_check_operators.specs.Operators.{negation, affirmation, arithmetic
 use Rattle.py_check_operators.specs.Chains.{pairs_faults}
 use Rattle.py_check_operators.specs.Choices.{junction, operand, choice}
 use Rattle.py_check_displays.specs.Displays.{item_sort, items_row, list_display, parts_row, tuple_display}
+use Rattle.py_check_displays.specs.Dicts.{entry_sorts, key_wanted, value_wanted, dict_display}
 use Rattle.py_check_displays.specs.Indexing.{literal, indexing}
-use Rattle.py_check_calls.specs.Callees.{Callee, function, print, input, range, single, method, voiceless, uncalled, value, callee, has_key, is_variable, name_called}
+use Rattle.py_check_calls.specs.Callees.{Callee, function, print, input, range, single, exception, method, voiceless, uncalled, value, callee, has_key, is_variable, name_called}
 use Rattle.py_check_calls.specs.Builtins.{print_call, input_call, single_call}
+use Rattle.py_check_calls.specs.Exceptions.{exception_call}
 use Rattle.py_check_calls.specs.Methods.{attribute, method_call}
 use Rattle.py_check_calls.specs.Calls.{arguments_row, positional, refused, function_call, called}
-use Rattle.py_check_expressions.specs.Typing.{typing, node_typing, items, operands, each_operand, arguments, part, count}
+use Rattle.py_check_expressions.specs.Typing.{typing, node_typing, items, entries, operands, each_operand, arguments, part, count}
 use Rattle.py_check_expressions_laws.specs.Laws.{is_comparison}
-use Rattle.py_check_expressions.proofs.Quiet.{IsQuiet, quiet_is, quiet_silent, quiet_both, quiet_row, quiet_typing}
+use Rattle.py_check_expressions.proofs.Quiet.{IsQuiet, quiet_is, quiet_silent, quiet_both, quiet_row, quiet_typing, quiet_entries}
 
 -- what is said at each place: all of it at this one by itself, or the same at each
-abbrev Layer : (Span → List Diag) → Span → Type 0
+abbrev pub Layer : (Span → List Diag) → Span → Type 0
 Layer said span = ((ms : List Message) × (said span ≡ map (diag span) ms)) ⊎ ((place : Span) → said place ≡ said span)
 
-abbrev IsOwn : Span → List Diag → Type 0
+abbrev pub IsOwn : Span → List Diag → Type 0
 IsOwn span ds = (ms : List Message) × (ds ≡ map (diag span) ms)
 
 -- of parts and of what stands behind them, which is the same everywhere where they have no type
-behind_layer : {A : Type 0} (span : Span) (s : Seen A) → IsQuiet s → (h : Span → Option A → List Diag) → ((place : Span) → h place None ≡ h span None) → ((a : A) → Layer (λ place. h place (Some a)) span) → Layer (λ place. s.said ++ h place s.got) span
+pub behind_layer : {A : Type 0} (span : Span) (s : Seen A) → IsQuiet s → (h : Span → Option A → List Diag) → ((place : Span) → h place None ≡ h span None) → ((a : A) → Layer (λ place. h place (Some a)) span) → Layer (λ place. s.said ++ h place s.got) span
 behind_layer {A} span s q h same each = by s.got refl
   where
     own : (a : A) → s.got ≡ Some a → (place : Span) → s.said ++ h place s.got ≡ h place (Some a)
@@ -49,11 +51,11 @@ behind_layer {A} span s q h same each = by s.got refl
     by None e = inr (λ place. ap (λ o. s.said ++ h place o) e ∙ ap (λ l. s.said ++ l) (same place) ∙ sym (ap (λ o. s.said ++ h span o) e))
     by (Some a) e = given a e (each a)
 
-judged_own : {A : Type 0} (span : Span) (r : Result A Message) → IsOwn span (judged span r).said
+pub judged_own : {A : Type 0} (span : Span) (r : Result A Message) → IsOwn span (judged span r).said
 judged_own span (Ok a) = ([], refl)
 judged_own span (Err m) = (m ∷ [], refl)
 
-rule_layer : {A B : Type 0} (span : Span) (f : Span → A → Result B Message) (s : Seen A) → IsQuiet s → Layer (λ place. (rule place (f place) s).said) span
+pub rule_layer : {A B : Type 0} (span : Span) (f : Span → A → Result B Message) (s : Seen A) → IsQuiet s → Layer (λ place. (rule place (f place) s).said) span
 rule_layer span f s q = behind_layer span s q (λ place o. (ruled place (f place) o).said) (λ place. refl) (λ a. inl (judged_own span (f span a)))
 
 -- ---- names
@@ -89,6 +91,7 @@ given_layer classes w span keyed print p es = inl (keyed_own span keyed (print_c
 given_layer classes w span keyed input p es = inl (keyed_own span keyed (input_call span) es)
 given_layer classes w span keyed range p es = inl (keyed_own span keyed (refused message.range_outside_for) es)
 given_layer classes w span keyed (single f) p es = inl (keyed_own span keyed (single_call classes f span) es)
+given_layer classes w span keyed (exception x) p es = inl (keyed_own span keyed (exception_call classes span x) es)
 given_layer classes w span keyed (method m) None es = inr (λ place. refl)
 given_layer classes w span keyed (method m) (Some e) es = inl (keyed_own span keyed (method_call classes w span m e) es)
 given_layer classes w span keyed voiceless p es = inr (λ place. refl)
@@ -103,6 +106,7 @@ lacking_same classes w span place keyed print p = refl
 lacking_same classes w span place keyed input p = refl
 lacking_same classes w span place keyed range p = refl
 lacking_same classes w span place keyed (single f) p = refl
+lacking_same classes w span place keyed (exception x) p = refl
 lacking_same classes w span place keyed (method m) None = refl
 lacking_same classes w span place keyed (method m) (Some e) = refl
 lacking_same classes w span place keyed voiceless p = refl
@@ -125,7 +129,7 @@ module _ (C : Context) (V : VarSorts) where
   quiet_items row i known no_exprs = quiet_is []
   quiet_items row i known (expr_then e more) = quiet_row (typing C V (wanted_in row i) known e) (items C V row (suc i) known more) (quiet_typing C V (wanted_in row i) known e) (quiet_items row (suc i) known more)
 
-  quiet_arguments : (row : WantedRow) (i : ℕ) (known : List ℕ) (args : Arguments) → IsQuiet (arguments C V row i known args)
+  pub quiet_arguments : (row : WantedRow) (i : ℕ) (known : List ℕ) (args : Arguments) → IsQuiet (arguments C V row i known args)
   quiet_arguments row i known no_arguments = quiet_is []
   quiet_arguments row i known (argument_then e more) = quiet_row (typing C V (wanted_in row i) known e) (arguments C V row (suc i) known more) (quiet_typing C V (wanted_in row i) known e) (quiet_arguments row (suc i) known more)
   quiet_arguments row i known (keyed_then k e more) = quiet_row (typing C V (wanted_in row i) known e) (arguments C V row (suc i) known more) (quiet_typing C V (wanted_in row i) known e) (quiet_arguments row (suc i) known more)
@@ -214,7 +218,8 @@ module _ (C : Context) (V : VarSorts) where
   node_layer w known span (tree.Index e i) = inl (rule_layer span (λ place. indexing C.classes place (literal i)) (both (typing C V free known e) (typing C V free known i)) (quiet_two free free known known e i))
   node_layer w known span (tree.Call f args) = inl (whole_call w known f args span)
   node_layer w known span (tree.Attr e a) = inl (rule_layer span (λ place. attribute C.classes a) (typing C V free known e) (quiet_typing C V free known e))
-  node_layer w known span (tree.DictOf es) = inl (inl (message.no_common_entry ∷ [], refl))
+  node_layer w known span (tree.DictOf es) =
+      inl (rule_layer span (λ place. dict_display C.classes (entry_sorts w) place) (entries C V (key_wanted (entry_sorts w)) (value_wanted (entry_sorts w)) known es) (quiet_entries C V (key_wanted (entry_sorts w)) (value_wanted (entry_sorts w)) known es))
   node_layer w known span (tree.Int n) = inl (inr (λ place. refl))
   node_layer w known span (tree.Str n) = inl (inr (λ place. refl))
   node_layer w known span tree.True = inl (inr (λ place. refl))

@@ -7,11 +7,8 @@ pub mod Stands
 pub mod Telling
 pub mod Rows
 pub mod Nodes
+pub mod Dicts
 pub mod Called
 pub mod Sound
-pub mod Ruled
-pub mod RightRules
-pub mod RuleTexts
-pub mod Formless
 pub mod Layers
 pub mod Bare

@@ -6,11 +6,11 @@ use Rattle.std.specs.Option.{option_map, option_zip}
 use Rattle.py_syntax.specs.declared.token.Span.{Span}
 use Rattle.py_syntax.specs.declared.expression.CmpOp.{CmpOp}
 use Rattle.py_syntax.specs.Expressions as tree
-use Rattle.py_syntax.specs.Expressions.{ExprTree, ExprNode, at, ExprTrees, no_exprs, expr_then, Comparisons, no_comparisons, comparison_then, Arguments, no_arguments, argument_then, keyed_then}
+use Rattle.py_syntax.specs.Expressions.{ExprTree, ExprNode, at, ExprTrees, no_exprs, expr_then, Comparisons, no_comparisons, comparison_then, Entries, no_entries, entry_then, Arguments, no_arguments, argument_then, keyed_then}
 use Rattle.py_typed.specs.Classes.{ClassEntry, Signature}
 use Rattle.py_typed.specs.Expressions.{TypedExpr, TypedNode}
 use Rattle.py_typed.specs.Narrowing.{is_in}
-use Rattle.py_binder.specs.Sights.{Sight, reads, node_reads, exprs_reads, comparisons_reads, arguments_reads}
+use Rattle.py_binder.specs.Sights.{Sight, reads, node_reads, exprs_reads, comparisons_reads, entries_reads, arguments_reads}
 use Rattle.py_binder.specs.declared.sight.Manner.TheVariants.{Value}
 use Rattle.py_check_context.specs.declared.scope.Meaning.{Meaning}
 use Rattle.py_check_context.specs.declared.scope.Meaning.TheVariants as meaning
@@ -28,10 +28,11 @@ use Rattle.py_check_operators.specs.Chains.{pairs_faults, all_typed, chain_of}
 use Rattle.py_check_operators.proofs.ChainLemmas.{chain_made}
 use Rattle.py_check_operators.specs.Choices.{operand}
 use Rattle.py_check_displays.specs.Displays.{item_sort, items_row, parts_row}
-use Rattle.py_check_calls.specs.Callees.{Callee, function, print, input, range, single, method, voiceless, uncalled, value, callee, has_key, is_variable, function_called, builtin_called, import_called, name_called}
+use Rattle.py_check_displays.specs.Dicts.{entry_sorts, key_wanted, value_wanted}
+use Rattle.py_check_calls.specs.Callees.{Callee, function, print, input, range, single, exception, method, voiceless, uncalled, value, callee, has_key, is_variable, function_called, builtin_called, import_called, name_called}
 use Rattle.py_check_calls.specs.Calls.{arguments_row, positional, no_keys, refused, called}
 use Rattle.py_check_messages.specs.Messages.{range_outside_for, not_callable}
-use Rattle.py_check_expressions.specs.Typing.{typing, node_typing, items, operands, each_operand, arguments, part, count}
+use Rattle.py_check_expressions.specs.Typing.{typing, node_typing, items, entries, operands, each_operand, arguments, part, count}
 use Rattle.py_check_expressions.proofs.RowLemmas.{operands_got}
 use Rattle.py_check_expressions_laws.specs.Laws.{is_voiceless, is_untyped, AllHaveTypes}
 use Rattle.py_check_expressions_laws.proofs.Known.{known_left, known_right, known_name}
@@ -134,6 +135,7 @@ loud_called classes w span keyed print p es h = loud_rule span _ (positional spa
 loud_called classes w span keyed input p es h = loud_rule span _ (positional span keyed (Some es)) (loud_positional span keyed es)
 loud_called classes w span keyed range p es h = loud_rule span (refused range_outside_for) (positional span keyed (Some es)) (loud_positional span keyed es)
 loud_called classes w span keyed (single f) p es h = loud_rule span _ (positional span keyed (Some es)) (loud_positional span keyed es)
+loud_called classes w span keyed (exception x) p es h = loud_rule span _ (positional span keyed (Some es)) (loud_positional span keyed es)
 loud_called classes w span keyed (method m) None es h = absurd (cc)
 loud_called classes w span keyed (method m) (Some e) es h = loud_rule span _ (positional span keyed (Some es)) (loud_positional span keyed es)
 loud_called classes w span keyed voiceless p es h = absurd (cc)
@@ -151,6 +153,7 @@ heard_with print e h = refl
 heard_with input e h = refl
 heard_with range e h = refl
 heard_with (single f) e h = refl
+heard_with (exception x) e h = refl
 heard_with (method m) e h = refl
 heard_with voiceless e h = absurd (cc)
 heard_with uncalled e h = refl
@@ -289,11 +292,20 @@ module _ (C : Context) (V : VarSorts) (all : AllHaveTypes C V) where
         loud_either (part C V known f) (λ p. behind (arguments C V (arguments_row (callee C f) p) 0 known args) (called C.classes w span (has_key args) (callee C f) p)) (callee_case w span known f args (in_front (reads Value f) (arguments_reads Value args) k) (λ row. loud_arguments row 0 known args (at_back (reads Value f) (arguments_reads Value args) k)))
         (λ e. call_loud w span known f (Some e) args (heard_with (callee C f) e (callee_heard f (in_front (reads Value f) (arguments_reads Value args) k))) (loud_arguments (arguments_row (callee C f) (Some e)) 0 known args (at_back (reads Value f) (arguments_reads Value args) k)))
     loud_node w known span (tree.Attr e a) k = loud_rule span _ (typing C V free known e) (loud_typing free known e k)
-    loud_node w known span (tree.DictOf es) k = loud_fails span _
+    loud_node w known span (tree.DictOf es) k =
+        loud_rule span _ (entries C V (key_wanted (entry_sorts w)) (value_wanted (entry_sorts w)) known es) (loud_entries (key_wanted (entry_sorts w)) (value_wanted (entry_sorts w)) known es k)
 
     pub loud_items : (row : WantedRow) (i : ℕ) (known : List ℕ) (es : ExprTrees) → AreKnown (exprs_reads Value es) → IsLoud (items C V row i known es)
     loud_items row i known no_exprs u = loud_is []
     loud_items row i known (expr_then e more) u = loud_row (typing C V (wanted_in row i) known e) (items C V row (suc i) known more) (loud_typing (wanted_in row i) known e (in_front (reads Value e) (exprs_reads Value more) u)) (loud_items row (suc i) known more (at_back (reads Value e) (exprs_reads Value more) u))
+
+    pub loud_entries : (w v : Wanted) (known : List ℕ) (es : Entries) → AreKnown (entries_reads Value es) → IsLoud (entries C V w v known es)
+    loud_entries w v known no_entries u = loud_is []
+    loud_entries w v known (entry_then k e more) u =
+        let behind_key = at_back (reads Value k) (reads Value e ++ entries_reads Value more) u in
+        loud_row (both (typing C V w known k) (typing C V v known e)) (entries C V w v known more)
+        (loud_both (typing C V w known k) (typing C V v known e) (loud_typing w known k (in_front (reads Value k) (reads Value e ++ entries_reads Value more) u)) (loud_typing v known e (in_front (reads Value e) (entries_reads Value more) behind_key)))
+        (loud_entries w v known more (at_back (reads Value e) (entries_reads Value more) behind_key))
 
     pub loud_operands : (known : List ℕ) (cs : Comparisons) → AreKnown (comparisons_reads Value cs) → IsLoud (operands C V known cs)
     loud_operands known no_comparisons u = loud_is []

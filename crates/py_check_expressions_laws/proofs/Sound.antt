@@ -4,7 +4,7 @@ use Rattle.std.proofs.lemmas.Bool.{and_from, or_left}
 use Rattle.py_syntax.specs.declared.token.Span.{Span}
 use Rattle.py_syntax.specs.declared.expression.CmpOp.{CmpOp}
 use Rattle.py_syntax.specs.Expressions as tree
-use Rattle.py_syntax.specs.Expressions.{ExprTree, ExprNode, at, ExprTrees, no_exprs, expr_then, Comparisons, no_comparisons, comparison_then, Arguments, no_arguments, argument_then, keyed_then}
+use Rattle.py_syntax.specs.Expressions.{ExprTree, ExprNode, at, ExprTrees, no_exprs, expr_then, Comparisons, no_comparisons, comparison_then, Entries, no_entries, entry_then, Arguments, no_arguments, argument_then, keyed_then}
 use Rattle.py_typed.specs.Sorts as sort
 use Rattle.py_typed.specs.Sorts.{Sort, listed_sorts}
 use Rattle.py_typed.specs.Classes.{ClassEntry, Signature}
@@ -32,18 +32,20 @@ use Rattle.py_check_operators.specs.Operators.{negation, affirmation, inversion,
 use Rattle.py_check_operators.specs.Chains.{faults_of, chain}
 use Rattle.py_check_operators.specs.Choices.{junction, operand, choice}
 use Rattle.py_check_displays.specs.Displays.{item_sort, items_row, list_display, parts_row, tuple_display}
+use Rattle.py_check_displays.specs.Dicts.{entry_sorts, key_wanted, value_wanted, dict_display}
 use Rattle.py_check_displays.specs.Indexing.{literal, indexing}
 use Rattle.py_check_calls.specs.Callees.{callee, is_variable, has_key, function_called, builtin_called, import_called, name_called}
 use Rattle.py_check_calls.specs.Methods.{attribute, is_list_method}
 use Rattle.py_check_calls.specs.Calls.{arguments_row, called}
-use Rattle.py_check_expressions.specs.Typing.{typing, node_typing, items, operands, arguments, part, count}
-use Rattle.py_check_expressions_laws.specs.WellTyped.{is_written, is_written_node, are_written, are_operands, are_arguments, is_chain, is_asked, is_taken, is_good, Within, IsSigned, Describes}
+use Rattle.py_check_expressions.specs.Typing.{typing, node_typing, items, entries, operands, arguments, part, count}
+use Rattle.py_check_expressions_laws.specs.WellTyped.{is_written, is_written_node, are_written, are_operands, are_entries, are_arguments, is_chain, is_asked, is_taken, is_good, Within, IsSigned, Describes}
 use Rattle.py_check_expressions_laws.proofs.Given.{Gives, gives_is, gives_silent, gives_fails, gives_any, gives_also, gives_both, gives_made, gives_rule, gives_ruled_all, gives_compare, gives_row, gives_after}
 use Rattle.py_check_expressions_laws.proofs.Types.{result_of_value, reads_value}
 use Rattle.py_check_expressions_laws.proofs.Stands.{stands_made, value_type}
 use Rattle.py_check_expressions_laws.proofs.Telling.{told_typing}
 use Rattle.py_check_expressions_laws.proofs.Rows.{parts_taken, is_sought, sought_of_asked, RowSound, RowAsked, Sound}
 use Rattle.py_check_expressions_laws.proofs.Nodes.{value_sound, reads_fit, negation_sound, affirmation_sound, inversion_sound, arithmetic_sound, ChainSound, chain_sound, junction_sound, choice_sound, list_sound, tuple_sound, along_asked, indexing_sound}
+use Rattle.py_check_expressions_laws.proofs.Dicts.{key_asked, value_asked, EntriesSound, dict_sound}
 use Rattle.py_check_expressions_laws.proofs.Called.{CalleeKnown, called_sound, row_asked}
 
 -- the text that a module's name is
@@ -274,13 +276,25 @@ module _ (means : List ℕ → Meaning) (signatures : List (Option Signature)) (
           call_sound w known span f args (sound_part known f (and_left (is_written f) (are_arguments args) h)) (λ row asked. sound_arguments row 0 known args (and_right (is_written f) (are_arguments args) h) asked)
       sound_node w known span (tree.Attr e x) h a =
           gives_rule (λ (t : TypedExpr). Unit {0}) (S w known) span (attribute m.classes.classes x) (typing here V free known e) (gives_any (λ (t : TypedExpr). Unit {0}) _ (λ t. tt)) (λ t s u q. absurd (attribute_never x t u q))
-      sound_node w known span (tree.DictOf es) h a = gives_fails (S w known) span _
+      sound_node w known span (tree.DictOf es) h a =
+          let kw = key_wanted (entry_sorts w) in
+          let vw = value_wanted (entry_sorts w) in
+          gives_rule (EntriesSound m locals init kw vw known) (S w known) span (dict_display m.classes.classes (entry_sorts w) span) (entries here V kw vw known es)
+          (sound_entries kw vw known es h (key_asked (length m.classes.classes) w a) (value_asked (length m.classes.classes) w a)) (λ l r u q. dict_sound m locals init D.tree w known span l u a r q)
 
       sound_items : (row : WantedRow) (i : ℕ) (known : List ℕ) (es : ExprTrees) → are_written es ≡ true → RowAsked m locals init row → Gives (items here V row i known es) (RowSound m locals init row i known)
       sound_items row i known no_exprs h asked = gives_is (RowSound m locals init row i known) [] tt
       sound_items row i known (expr_then e more) h asked =
           gives_row (S (wanted_in row i) known) (RowSound m locals init row (suc i) known) (RowSound m locals init row i known) (typing here V (wanted_in row i) known e) (items here V row (suc i) known more)
           (sound_typing (wanted_in row i) known e (and_left (is_written e) (are_written more) h) (sought_of_asked (length m.classes.classes) (wanted_in row i) (asked i))) (sound_items row (suc i) known more (and_right (is_written e) (are_written more) h) asked) (λ t ts s r. record { first = s; rest = r })
+
+      sound_entries : (w v : Wanted) (known : List ℕ) (es : Entries) → are_entries es ≡ true → is_sought (length m.classes.classes) w ≡ true → is_sought (length m.classes.classes) v ≡ true → Gives (entries here V w v known es) (EntriesSound m locals init w v known)
+      sound_entries w v known no_entries h a b = gives_is (EntriesSound m locals init w v known) [] tt
+      sound_entries w v known (entry_then k e more) h a b =
+          let r = three_parts (is_written k) (is_written e) (are_entries more) h in
+          gives_row (λ (p : TypedExpr × TypedExpr). S w known p.0 × S v known p.1) (EntriesSound m locals init w v known) (EntriesSound m locals init w v known) (both (typing here V w known k) (typing here V v known e)) (entries here V w v known more)
+          (gives_both (S w known) (S v known) (typing here V w known k) (typing here V v known e) (sound_typing w known k r.0 a) (sound_typing v known e r.1 b))
+          (sound_entries w v known more r.2 a b) (λ p ps s t. record { key = s.0; value = s.1; rest = t })
 
       sound_operands : (known : List ℕ) (cs : Comparisons) → are_operands cs ≡ true → Gives (operands here V known cs) (ChainSound m locals init known)
       sound_operands known no_comparisons h = gives_is (ChainSound m locals init known) [] tt

@@ -1,4 +1,3 @@
 pub mod Laws
 pub mod WellTyped
-pub mod Placeholders
 pub mod Bare

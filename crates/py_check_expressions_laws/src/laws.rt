@@ -1,7 +1,6 @@
 //! The laws. The calls do nothing.
 ghost use Rattle.py_check_expressions_laws.specs.Bare.{TypedTellsNoMore};
 ghost use Rattle.py_check_expressions_laws.specs.Laws.{OwnOrOfParts, UntypedIsLoud};
-ghost use Rattle.py_check_expressions_laws.specs.Placeholders.{NoFormNoPlaceholder};
 ghost use Rattle.py_check_expressions_laws.specs.WellTyped.{TypedTellsAsMuch, TypedIsWellTyped};
 
 /// Where no name in reach is without a type and each name that is read is known, an expression that has none has said why: some
@@ -30,9 +29,4 @@ pub fn bare_tests_tell_no_more()
 /// What is typed is well typed, where its place takes it.
 pub fn what_is_typed_is_well_typed()
     ensures { TypedIsWellTyped }
-{}
-
-/// Of an expression in which no form without typing rules stands nothing is said that stands for a rule that is not written yet.
-pub fn where_no_form_stands_no_placeholder_is_met()
-    ensures { NoFormNoPlaceholder }
 {}

@@ -9,5 +9,4 @@ mod laws;
 pub use laws::{
     an_expression_has_an_entry_or_its_parts_have, bare_tests_tell_no_more,
     typed_tests_tell_as_much, what_is_not_typed_has_said_why, what_is_typed_is_well_typed,
-    where_no_form_stands_no_placeholder_is_met,
 };

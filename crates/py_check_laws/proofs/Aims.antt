@@ -11,14 +11,14 @@ use Rattle.py_check_context.specs.declared.scope.Meaning.{Meaning}
 use Rattle.py_check_context.specs.declared.scope.Meaning.TheVariants as meaning
 use Rattle.py_check_context.specs.Context.{Context, VarSort, unset, untyped, has, var_at, free}
 use Rattle.py_check_flow.specs.Bindings.{name_in}
-use Rattle.py_typed.specs.Narrowing.{without, may_be_none, after_target}
-use Rattle.py_check_operators.specs.Facts.{local_of}
-use Rattle.py_check_places.specs.Places.{Known, with_names, is_unset, is_plain, rebound, bind_variable, bind_name}
+use Rattle.py_typed.specs.Narrowing.{may_be_none, after_target}
+use Rattle.py_check_places.specs.Places.{Known, is_unset, is_plain, rebound, names_behind, known_behind, bind_variable, bind_name}
 use Rattle.py_check_places.specs.Shapes.{is_item}
-use Rattle.py_check_targets.specs.Targets.{Aim, held, first, unwritten, variable_aim, name_aim, is_written, item_aim, value_aim, typed_at, single_aim, forgotten, aims}
+use Rattle.py_check_values.specs.Aims.{Aim, held, first, unwritten}
+use Rattle.py_check_targets.specs.Targets.{variable_aim, name_aim, is_written, item_aim, value_aim, next_part, more_parts, typed_at, single_aim, beyond, aims}
 use Rattle.py_check_expressions_laws.specs.WellTyped.{Within}
 use Rattle.py_check_laws.proofs.Given.{made_given, row_given}
-use Rattle.py_check_laws.proofs.Names.{within_less, bound_local, forgotten_local, bound_other}
+use Rattle.py_check_laws.proofs.Names.{bound_local, bound_other}
 
 -- ---- one aim and its target
 
@@ -48,26 +48,23 @@ module _ (C : Context) where
     pub here : AimAt k (name_in e) e a
     pub rest : Rest
 
-  -- behind a target: what was known of its name is forgotten
-  abbrev pub beyond : Known → ExprTree → Known
-  beyond k e = with_names k (forgotten C (name_in e) k.names)
-
-  -- of a row
-  abbrev pub AimsOf : Known → List ExprTree → List Aim → Type 0
-  AimsOf k [] [] = Unit {0}
-  AimsOf k [] (a ∷ l) = ⊥
-  AimsOf k (e ∷ es) [] = ⊥
-  AimsOf k (e ∷ es) (a ∷ l) = HasAim k e a (AimsOf (beyond k e) es l)
+  -- of a row, which takes these parts of a value
+  abbrev pub AimsOf : Known → Option (List Sort) → List ExprTree → List Aim → Type 0
+  AimsOf k ts [] [] = Unit {0}
+  AimsOf k ts [] (a ∷ l) = ⊥
+  AimsOf k ts (e ∷ es) [] = ⊥
+  AimsOf k ts (e ∷ es) (a ∷ l) = HasAim k e a (AimsOf (beyond C k (name_in e) (next_part ts)) (more_parts ts) es l)
 
   single_is : (k : Known) (x : Option (List ℕ)) (e : ExprTree) (a : Aim) → (single_aim C k x e).got ≡ Some a → AimAt k x e a
   single_is k None e a h = made_given (value_aim (is_item e)) (typed_at C k free e) a h
   single_is k (Some x) e a h = h
 
-  pub aims_are : (k : Known) (es : List ExprTree) (l : List Aim) → (aims C k es).got ≡ Some l → AimsOf k es l
-  aims_are k [] l h = subst (AimsOf k []) (same_Some [] l h) tt
-  aims_are k (e ∷ es) l h =
-      let r = row_given (single_aim C k (name_in e) e) (aims C (beyond k e) es) l h in
-      subst (AimsOf k (e ∷ es)) r.4 (record { here = single_is k (name_in e) e r.0 r.2; rest = aims_are (beyond k e) es r.1 r.3 })
+  pub aims_are : (k : Known) (ts : Option (List Sort)) (es : List ExprTree) (l : List Aim) → (aims C k ts es).got ≡ Some l → AimsOf k ts es l
+  aims_are k ts [] l h = subst (AimsOf k ts []) (same_Some [] l h) tt
+  aims_are k ts (e ∷ es) l h =
+      let behind = beyond C k (name_in e) (next_part ts) in
+      let r = row_given (single_aim C k (name_in e) e) (aims C behind (more_parts ts) es) l h in
+      subst (AimsOf k ts (e ∷ es)) r.4 (record { here = single_is k (name_in e) e r.0 r.2; rest = aims_are behind (more_parts ts) es r.1 r.3 })
 
   -- ---- targets that have a type
 
@@ -180,14 +177,16 @@ module _ (C : Context) where
       subst (λ z. Within z (after_target others target s)) (sym (ap (λ o. (bind_name C ok k o t).names) n))
       (subst (λ z. Within k.names (after_target others z s)) is (bound_other (ItemTarget b i) s k.names others refl w))
 
-  -- what is forgotten of a target's name is left of what is known
-  pub aimed_behind : (e : ExprTree) (target : TypedTarget) → Aimed e target → (k : Known) (s : Sort) (others : List ℕ) → Within k.names others → Within (beyond k e).names (after_target others target s)
-  aimed_behind e target (aimed_local x i n q is) k s others w =
-      subst (λ z. Within z (after_target others target s)) (sym (ap (λ o. forgotten C o k.names) n ∙ ap (λ z. without (local_of z) k.names) q))
-      (subst (λ z. Within (without (i ∷ []) k.names) (after_target others z s)) is (forgotten_local i s k.names others w))
-  aimed_behind e target (aimed_global x i n q is) k s others w =
-      subst (λ z. Within z (after_target others target s)) (sym (ap (λ o. forgotten C o k.names) n ∙ ap (λ z. without (local_of z) k.names) q))
-      (subst (λ z. Within (without [] k.names) (after_target others z s)) is (bound_other (GlobalTarget i) s (without [] k.names) others refl (within_less [] k.names others w)))
-  aimed_behind e target (aimed_item b i n is) k s others w =
-      subst (λ z. Within z (after_target others target s)) (sym (ap (λ o. forgotten C o k.names) n))
-      (subst (λ z. Within k.names (after_target others z s)) is (bound_other (ItemTarget b i) s k.names others refl w))
+  -- what is known behind a target is what is known behind its binding
+  bound_known : (k : Known) (x : Option (List ℕ)) (t : Option Sort) → (bind_name C true k x t).names ≡ known_behind C x t k.names
+  bound_known k None t = refl
+  bound_known k (Some x) t = by (C.meaning x)
+    where
+      by : (n : Meaning) → (bind_variable true k n t).names ≡ names_behind n t k.names
+      by (meaning.Local i) = refl
+      by (meaning.Global i) = refl
+      by _ = refl
+
+  pub aimed_behind : (e : ExprTree) (target : TypedTarget) → Aimed e target → (k : Known) (t : Option Sort) (s : Sort) (others : List ℕ) → Within k.names others → (is_plain t ≡ true → may_be_none s ≡ false) → Within (beyond C k (name_in e) t).names (after_target others target s)
+  aimed_behind e target a k t s others w h =
+      subst (λ z. Within z (after_target others target s)) (bound_known k (name_in e) t) (aimed_bound e target a true k t s others w h)

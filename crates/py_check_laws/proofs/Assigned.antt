@@ -1,7 +1,6 @@
 -- What is known of targets and of a value's type where a value is bound to them.
 use Rattle.std.proofs.Common.{◌≡◌, ℕ, suc, Bool, true, false, List, [], ◌∷◌, length, map, Option, Some, None, Result, Ok, Err, refl, ap, sym, ◌∙◌, if◌then◌else◌, nat_eq, eqb-true}
 use Rattle.std.proofs.lemmas.Option.{same_Some}
-use Rattle.std.proofs.lemmas.List.{length-map}
 use Rattle.std.specs.Option.{option_map}
 use Rattle.py_syntax.specs.declared.token.Span.{Span}
 use Rattle.py_syntax.specs.declared.expression.BinOp.{BinOp}
@@ -19,14 +18,14 @@ use Rattle.py_check_messages.specs.Seen.{Message}
 use Rattle.py_check_messages.specs.Messages.{no_target, cannot_assign, index_target}
 use Rattle.py_check_coercions.specs.Rows.{first_of}
 use Rattle.py_check_operators.specs.Operators.{arithmetic}
-use Rattle.py_check_values.specs.Assignments.{binding_fault, as_bound, assignment, first_refused, first_itemless, items_for, items_fault, unpacking_fault}
+use Rattle.py_check_values.specs.Aims.{Aim}
+use Rattle.py_check_values.specs.Assignments.{binding_fault, as_bound, assignment, first_barred, first_unwritten, items_for, items_fault, unpacking_fault}
 use Rattle.py_check_places.specs.Places.{Known, bind_name, bind_names}
 use Rattle.py_check_places.specs.Shapes.{is_row, is_flat, leaves, target_names, some_parts, parts_for}
-use Rattle.py_check_targets.specs.Targets.{Aim, slot_of, is_placed, targets_of, are_placed, parts_fault, several_fault, one_assigned, value_assigned, act_of, assigned, annotation_fault, given_after, given, target_of, written_back, of_operation, updated, single_aim, aims}
+use Rattle.py_check_targets.specs.Targets.{is_placed, targets_of, are_placed, parts_fault, several_fault, one_assigned, value_assigned, act_of, assigned, annotation_fault, given_after, given, target_of, written_back, of_operation, updated, next_part, more_parts, single_aim, beyond, aims}
 use Rattle.py_check_places.specs.Shapes.{bind_target}
 use Rattle.py_check_loops.specs.Loops.{Course, course_type, course_items, are_names, head_fault, head}
 use Rattle.py_check_loops.specs.Loops as loops
-use Rattle.py_check_laws.proofs.Aims.{beyond}
 use Rattle.py_check_laws.proofs.Given.{ok_same, if_then, unless_ok, mapped_none, row_given}
 
 -- ---- targets
@@ -55,11 +54,12 @@ module _ (C : Context) where
       ap (λ (b : Bool). bind_names C ok k (target_names target) (parts_for b (length (leaves target)) t)) h
       ∙ ap (λ (o : Option (List Sort)). bind_names C ok k (target_names target) (some_parts o)) e
 
-  pub aims_length : (k : Known) (es : List ExprTree) (l : List Aim) → (aims C k es).got ≡ Some l → length l ≡ length es
-  aims_length k [] l e = ap length (sym (same_Some [] l e))
-  aims_length k (x ∷ es) l e =
-      let r = row_given (single_aim C k (name_in x) x) (aims C (beyond C k x) es) l e in
-      ap length (sym r.4) ∙ ap suc (aims_length (beyond C k x) es r.1 r.3)
+  pub aims_length : (k : Known) (ts : Option (List Sort)) (es : List ExprTree) (l : List Aim) → (aims C k ts es).got ≡ Some l → length l ≡ length es
+  aims_length k ts [] l e = ap length (sym (same_Some [] l e))
+  aims_length k ts (x ∷ es) l e =
+      let behind = beyond C k (name_in x) (next_part ts) in
+      let r = row_given (single_aim C k (name_in x) x) (aims C behind (more_parts ts) es) l e in
+      ap length (sym r.4) ∙ ap suc (aims_length behind (more_parts ts) es r.1 r.3)
 
 -- ---- a value's type for targets
 
@@ -80,16 +80,16 @@ items_are _ n ss e = absurd (cc)
 pub record RowBound (classes : List ClassEntry) (l : List Aim) (t : Sort) : Type 0 where
   pub parts : List Sort
   pub items : items_for t (length l) ≡ Some parts
-  pub refused : first_refused (map slot_of l) ≡ None
-  pub itemless : first_itemless (map slot_of l) ≡ None
+  pub refused : first_barred l ≡ None
+  pub itemless : first_unwritten l ≡ None
   pub fit : parts_fault classes [] l parts ≡ None
 
 -- and to one, or to several
 abbrev pub BoundTo : List ClassEntry → Bool → List Aim → Sort → Type 0
 BoundTo classes true l t = RowBound classes l t
-BoundTo classes false l t = (a : Aim) × (l ≡ a ∷ []) × (binding_fault classes (slot_of a) t ≡ None)
+BoundTo classes false l t = (a : Aim) × (l ≡ a ∷ []) × (binding_fault classes a t ≡ None)
 
-row_by : (classes : List ClassEntry) (l : List Aim) (t : Sort) (n : ℕ) (o : Option (List Sort)) → n ≡ length l → items_for t n ≡ o → first_refused (map slot_of l) ≡ None → first_itemless (map slot_of l) ≡ None → items_fault classes n t o ≡ None
+row_by : (classes : List ClassEntry) (l : List Aim) (t : Sort) (n : ℕ) (o : Option (List Sort)) → n ≡ length l → items_for t n ≡ o → first_barred l ≡ None → first_unwritten l ≡ None → items_fault classes n t o ≡ None
     → parts_fault classes [] l (some_parts (items_for t (length l))) ≡ None → RowBound classes l t
 row_by classes l t n None same q ref less e w = absurd (cc)
 row_by classes l t n (Some ss) same q ref less e w =
@@ -104,10 +104,10 @@ row_by classes l t n (Some ss) same q ref less e w =
 
 pub several_bound : (classes : List ClassEntry) (l : List Aim) (t : Sort) → several_fault classes l t ≡ None → RowBound classes l t
 several_bound classes l t e =
-    let p = first_none (unpacking_fault classes (map slot_of l) t) (parts_fault classes [] l (some_parts (items_for t (length l)))) e in
-    let q = first_none (option_map cannot_assign (first_refused (map slot_of l))) _ p.0 in
-    let r = first_none (option_map (index_target classes) (first_itemless (map slot_of l))) _ q.1 in
-    row_by classes l t (length (map slot_of l)) (items_for t (length (map slot_of l))) (length-map l slot_of) refl (mapped_none cannot_assign (first_refused (map slot_of l)) q.0) (mapped_none (index_target classes) (first_itemless (map slot_of l)) r.0) r.1 p.1
+    let p = first_none (unpacking_fault classes l t) (parts_fault classes [] l (some_parts (items_for t (length l)))) e in
+    let q = first_none (option_map cannot_assign (first_barred l)) _ p.0 in
+    let r = first_none (option_map (index_target classes) (first_unwritten l)) _ q.1 in
+    row_by classes l t (length l) (items_for t (length l)) refl refl (mapped_none cannot_assign (first_barred l) q.0) (mapped_none (index_target classes) (first_unwritten l) r.0) r.1 p.1
 
 -- ---- assignments
 
@@ -119,11 +119,11 @@ act_given ts (Err m) a h = absurd (cc)
 abbrev pub as_value : Bool → List Aim → TypedExpr → TypedExpr
 as_value true l e = e
 as_value false [] e = e
-as_value false (a ∷ more) e = as_bound (slot_of a) e
+as_value false (a ∷ more) e = as_bound a e
 
 one_by : (classes : List ClassEntry) (l : List Aim) (v e : TypedExpr) → one_assigned classes l v ≡ Ok e → BoundTo classes false l (type_of v) × (as_value false l v ≡ e)
 one_by classes [] v e h = absurd (cc)
-one_by classes (a ∷ []) v e h = let r = unless_ok (binding_fault classes (slot_of a) (type_of v)) (as_bound (slot_of a) v) e h in ((a, refl, r.0), r.1)
+one_by classes (a ∷ []) v e h = let r = unless_ok (binding_fault classes a (type_of v)) (as_bound a v) e h in ((a, refl, r.0), r.1)
 one_by classes (a ∷ b ∷ l) v e h = absurd (cc)
 
 value_by : (classes : List ClassEntry) (several : Bool) (l : List Aim) (v e : TypedExpr) → value_assigned classes several l v ≡ Ok e → BoundTo classes several l (type_of v) × (as_value several l v ≡ e)
@@ -147,13 +147,13 @@ assigned_is classes target p a h =
 
 -- the annotation is one, and the value is bound to the name
 pub record Given (classes : List ClassEntry) (a : Aim) (v : TypedExpr) (d : TypedAct) : Type 0 where
-  pub right : binding_fault classes (slot_of a) (type_of v) ≡ None
-  pub is : act.Assign (target_of a) (as_bound (slot_of a) v) ≡ d
+  pub right : binding_fault classes a (type_of v) ≡ None
+  pub is : act.Assign (target_of a) (as_bound a v) ≡ d
 
 given_by : (classes : List ClassEntry) (o : Option Message) (a : Aim) (v : TypedExpr) (d : TypedAct) → given_after classes o a v ≡ Ok d → Given classes a v d
 given_by classes None a v d h =
-    let q = act_given (target_of a) (assignment classes (slot_of a) v) d h in
-    let r = unless_ok (binding_fault classes (slot_of a) (type_of v)) (as_bound (slot_of a) v) q.0 q.1 in
+    let q = act_given (target_of a) (assignment classes a v) d h in
+    let r = unless_ok (binding_fault classes a (type_of v)) (as_bound a v) q.0 q.1 in
     record { right = r.0; is = ap (act.Assign (target_of a)) r.1 ∙ q.2 }
 given_by classes (Some m) a v d h = absurd (cc)
 
@@ -166,7 +166,7 @@ pub record Updated (classes : List ClassEntry) (span : Span) (o : BinOp) (a : Ai
   pub result : TypedExpr
   pub operates : arithmetic classes span o p ≡ Ok result
   pub placed : is_placed a ≡ true
-  pub right : binding_fault classes (slot_of a) (type_of result) ≡ None
+  pub right : binding_fault classes a (type_of result) ≡ None
   pub target : TypedTarget
   pub more : List TypedTarget
   pub aimed : target_of a ≡ target ∷ more
@@ -180,8 +180,8 @@ written_by o b s None (t ∷ more) d h = (refl, t, more, refl, ok_same (act.Aug 
 updated_by : (classes : List ClassEntry) (span : Span) (o : BinOp) (a : Aim) (p : TypedExpr × TypedExpr) (d : TypedAct) (r : Result TypedExpr Message) → arithmetic classes span o p ≡ r → of_operation classes a o p.1 r ≡ Ok d → Updated classes span o a p d
 updated_by classes span o a p d (Err m) q h = absurd (cc)
 updated_by classes span o a p d (Ok v) q h =
-    let c = if_then (is_placed a) (written_back o p.1 (type_of v) (binding_fault classes (slot_of a) (type_of v)) (target_of a)) no_target d h in
-    let w = written_by o p.1 (type_of v) (binding_fault classes (slot_of a) (type_of v)) (target_of a) d c.1 in
+    let c = if_then (is_placed a) (written_back o p.1 (type_of v) (binding_fault classes a (type_of v)) (target_of a)) no_target d h in
+    let w = written_by o p.1 (type_of v) (binding_fault classes a (type_of v)) (target_of a) d c.1 in
     record { result = v; operates = q; placed = c.0; right = w.0; target = w.1; more = w.2; aimed = w.3; is = w.4 }
 
 pub updated_is : (classes : List ClassEntry) (span : Span) (o : BinOp) (aim : TypedExpr → Aim) (p : TypedExpr × TypedExpr) (d : TypedAct) → updated classes span o aim p ≡ Ok d → Updated classes span o (aim p.0) p d

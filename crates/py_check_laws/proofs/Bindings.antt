@@ -17,7 +17,7 @@ use Rattle.py_check_definitions.specs.Definitions.{headed_functions}
 use Rattle.py_check_definitions.specs.Starts.{start_sort}
 use Rattle.py_check.specs.Module.{context_in, module_start, global_sorts, environment}
 use Rattle.py_check.proofs.Kept.{is_open}
-use Rattle.py_check_laws.specs.Variables.{is_there, is_try_in_suite}
+use Rattle.py_check_laws.specs.Variables.{is_there}
 use Rattle.py_check_laws.proofs.Sights.{suite_binds, names_of}
 use Rattle.py_check_laws.proofs.NameRows.{sights_differ, differ_filter, number_at, at_place}
 use Rattle.py_check_laws.proofs.Roles.{seen_means, variable_bound}
@@ -65,8 +65,8 @@ module _ (m : Suite) where
       ap (is_there start.types) (means_it i x at)
       ∙ lt-ltb i (length start.types.globals) (subst (λ n. i < n) (sym (length-map vs (start_sort (module_meaning m) (suite_bindings m)))) (slice_get_within vs i x at))
 
-  pub module_fixes : (i : ℕ) (x : List ℕ) → is_try_in_suite m ≡ false → slice_get vs i ≡ Some x → is_unset (var_at (global_sorts (environment m) (module_scope m) (headed_functions m) m) i) ≡ false
-  module_fixes i x untried at =
+  pub module_fixes : (i : ℕ) (x : List ℕ) → slice_get vs i ≡ Some x → is_unset (var_at (global_sorts (environment m) (module_scope m) (headed_functions m) m) i) ≡ false
+  module_fixes i x at =
       let bound : contains (bound_names (suite_bindings m)) x ≡ true =
       sym (ap (λ (l : List (List ℕ)). contains l x) (suite_binds InModule m ∙ names_same (suite_bindings m))) ∙ variable_bound m x (variable_at i x at).0 in
-      ap (is_open last.types) (sym (means_it i x at)) ∙ set_block here x start m (there_it i x at) untried bound
+      ap (is_open last.types) (sym (means_it i x at)) ∙ set_block here x start m (there_it i x at) bound

@@ -24,25 +24,25 @@ use Rattle.py_check_context.specs.Context.{Context, VarSorts, free}
 use Rattle.py_check_flow.specs.Bindings.{name_in}
 use Rattle.py_check_messages.specs.Seen.{both}
 use Rattle.py_check_coercions.specs.Values.{coerced}
+use Rattle.py_check_values.specs.Aims.{Aim, held, first, barred, unwritten, misplaced}
 use Rattle.py_check_values.specs.Assignments.{binding_fault, as_bound, items_for}
 use Rattle.py_check_places.specs.Places.{Known, is_plain, bind_name, bind_names}
-use Rattle.py_check_places.specs.Shapes.{is_row, leaves, target_names}
-use Rattle.py_check_targets.specs.Targets.{Aim, held, first, barred, unwritten, misplaced, slot_of, target_of, targets_of, asked_by, assigned, typed_at}
-use Rattle.py_check_places.specs.Shapes.{bind_target}
-use Rattle.py_check_targets.specs.Targets.{target_aims}
+use Rattle.py_check_places.specs.Shapes.{is_row, leaves, target_names, bind_target}
+use Rattle.py_check_targets.specs.Targets.{target_of, targets_of, assigned, target_aims, aims_behind, bound_aims}
 use Rattle.py_check_assignments.specs.Assignments.{value_for, assigns, binds}
 use Rattle.py_check_expressions_laws.specs.WellTyped as law
 use Rattle.py_check_expressions_laws.specs.WellTyped.{Describes, Within}
 use Rattle.py_check_expressions_laws.proofs.Stands.{coerced_stands}
 use Rattle.py_check_laws.specs.Variables.{sort_in}
+use Rattle.py_check_laws.proofs.Looked.{LookedAt, looked_at, is_chosen}
 use Rattle.py_check_laws.specs.WellTyped.{are_targets, IsScope}
 use Rattle.py_check_laws.proofs.Given.{some_is, both_given, rule_given}
 use Rattle.py_check.proofs.Kept.{Follows, follows_itself, follows_name, follows_target, is_open}
-use Rattle.py_check_laws.proofs.Assigned.{leaves_one, single_bound, row_bound, aims_length, items_are, BoundTo, as_value, assigned_is}
+use Rattle.py_check_laws.proofs.Assigned.{leaves_one, single_bound, row_bound, items_are, BoundTo, as_value, assigned_is}
 use Rattle.py_check_laws.proofs.Whole.{bound_same}
 use Rattle.py_check_laws.proofs.Names.{within_kept}
-use Rattle.py_check_laws.proofs.Aims.{AimAt, AimsOf, aims_are, aim_held, aim_first, first_name, held_aimed, first_aimed, aimed_bound}
-use Rattle.py_check_laws.proofs.Values.{scene, value_stands, held_value, fault_fits, stands_type, parts_type}
+use Rattle.py_check_laws.proofs.Aims.{AimAt, AimsOf, aim_held, aim_first, first_name, held_aimed, first_aimed, aimed_bound}
+use Rattle.py_check_laws.proofs.Values.{scene, held_value, fault_fits, stands_type, parts_type, chosen_stands}
 use Rattle.py_check_laws.proofs.Towers.{no_tower}
 use Rattle.py_check_laws.proofs.Targets.{not_true, own_plain, own_coerced, given_start, TargetStands, held_stands, variable_stands, bind_first, open_unset, open_variable, first_open, RowStands, rows}
 use Rattle.py_check_laws.proofs.Closed.{scope_there}
@@ -98,8 +98,8 @@ module _ (means : List ℕ → Meaning) (signatures : List (Option Signature)) (
   first_type_there k s y t o = bind_first k (means y) t (scope_there here k.types s y) (open_variable k.types (means y) o) (open_unset k.types (means y) o)
 
   -- ONE TARGET, that is looked at with the types of this place
-  pub good_one : (loops handling : Bool) (k : Known) (target : ExprTree) → law.is_written target ≡ true → IsScope here k.types → (a : Aim) → AimAt here k (name_in target) target a → (v : TypedExpr) → binding_fault m.classes.classes (slot_of a) (type_of v) ≡ None → Describes here (bind_name here true k (name_in target) (Some (type_of v))).types m locals
-      → (others : List ℕ) → Within k.names others → stands m locals init false others v ≡ true → Good loops handling others (bind_name here true k (name_in target) (Some (type_of v))).names (act.Assign (target_of a) (as_bound (slot_of a) v))
+  pub good_one : (loops handling : Bool) (k : Known) (target : ExprTree) → law.is_written target ≡ true → IsScope here k.types → (a : Aim) → AimAt here k (name_in target) target a → (v : TypedExpr) → binding_fault m.classes.classes a (type_of v) ≡ None → Describes here (bind_name here true k (name_in target) (Some (type_of v))).types m locals
+      → (others : List ℕ) → Within k.names others → stands m locals init false others v ≡ true → Good loops handling others (bind_name here true k (name_in target) (Some (type_of v))).names (act.Assign (target_of a) (as_bound a v))
   good_one loops handling k target wt s (held u t) a v f E others w sv =
       let D = described_before here k.types (bind_name here true k (name_in target) (Some (type_of v))).types m locals (follows_name here true k (name_in target) (Some (type_of v))) E in
       let h = aim_held here k target u t a in
@@ -181,23 +181,23 @@ module _ (means : List ℕ → Meaning) (signatures : List (Option Signature)) (
   one_target_of (unwritten s) = refl
   one_target_of (misplaced s) = refl
 
-  pub single_aim_of : (k : Known) (target : ExprTree) (l : List Aim) (a : Aim) → l ≡ a ∷ [] → leaves target ≡ target ∷ [] → AimsOf here k (leaves target) l → AimAt here k (name_in target) target a
-  single_aim_of k target l a q p h = (subst (λ z. AimsOf here k z (a ∷ [])) p (subst (AimsOf here k (leaves target)) q h)).here
+  pub single_aim_of : (k : Known) (target : ExprTree) (l : List Aim) (a : Aim) (ts : Option (List Sort)) → l ≡ a ∷ [] → leaves target ≡ target ∷ [] → AimsOf here k ts (leaves target) l → AimAt here k (name_in target) target a
+  single_aim_of k target l a ts q p h = (subst (λ z. AimsOf here k ts z (a ∷ [])) p (subst (AimsOf here k ts (leaves target)) q h)).here
 
-  assign_by : (loops handling : Bool) (k : Known) (target : ExprTree) → IsScope here k.types → (l : List Aim) (v : TypedExpr) → AimsOf here k (leaves target) l → length l ≡ length (leaves target) → list_all law.is_written (leaves target) ≡ true → Describes here k.types m locals
+  assign_by : (loops handling : Bool) (k : Known) (target : ExprTree) → IsScope here k.types → (l : List Aim) (v : TypedExpr) → LookedAt here k target l (type_of v) → list_all law.is_written (leaves target) ≡ true → Describes here k.types m locals
       → (end : Known) → end ≡ bind_target here true k target (Some (type_of v)) → Describes here end.types m locals → (others : List ℕ) → Within k.names others → stands m locals init false others v ≡ true → (c : Bool) → is_row target ≡ c → BoundTo m.classes.classes c l (type_of v)
       → Good loops handling others end.names (act.Assign (targets_of l) (as_value c l v))
-  assign_by loops handling k target sc l v all n written D end same E others w sv false q r =
+  assign_by loops handling k target sc l v looked written D end same E others w sv false q r =
       let one = leaves_one target q in
       let p : end ≡ bind_name here true k (name_in target) (Some (type_of v)) = same ∙ single_bound here true k target (Some (type_of v)) q in
       subst (λ z. Good loops handling others end.names (act.Assign (targets_of z) (as_value false z v))) (sym r.1)
-      (subst (λ z. Good loops handling others end.names (act.Assign z (as_bound (slot_of r.0) v))) (sym (one_target_of r.0))
-      (subst (λ (z : Known). Good loops handling others z.names (act.Assign (target_of r.0) (as_bound (slot_of r.0) v))) (sym p)
-      (good_one loops handling k target (and_left (law.is_written target) true (subst (λ z. list_all law.is_written z ≡ true) one written)) sc r.0 (single_aim_of k target l r.0 r.1 one all) v r.2 (subst (λ (z : Known). Describes here z.types m locals) p E) others w sv)))
-  assign_by loops handling k target sc l v all n written D end same E others w sv true q r =
+      (subst (λ z. Good loops handling others end.names (act.Assign z (as_bound r.0 v))) (sym (one_target_of r.0))
+      (subst (λ (z : Known). Good loops handling others z.names (act.Assign (target_of r.0) (as_bound r.0 v))) (sym p)
+      (good_one loops handling k target (and_left (law.is_written target) true (subst (λ z. list_all law.is_written z ≡ true) one written)) sc r.0 (single_aim_of k target l r.0 looked.parts r.1 one looked.aims) v r.2 (subst (λ (z : Known). Describes here z.types m locals) p E) others w sv)))
+  assign_by loops handling k target sc l v looked written D end same E others w sv true q r =
       let i = items_are (type_of v) (length l) r.parts r.items in
-      let p : end ≡ bind_names here true k (target_names target) r.parts = same ∙ row_bound here true k target (type_of v) r.parts q (ap (items_for (type_of v)) (sym n) ∙ r.items) in
-      let g = rows means signatures m locals init result k D (leaves target) l r.parts [] k others (follows_itself k.types) sc (given_start here k.types) w (inl w) all written r.refused r.itemless r.fit i.3 (subst (λ (z : Known). Describes here z.types m locals) p E) in
+      let p : end ≡ bind_names here true k (target_names target) r.parts = same ∙ row_bound here true k target (type_of v) r.parts q (ap (items_for (type_of v)) (sym looked.many) ∙ r.items) in
+      let g = rows means signatures m locals init result k D (leaves target) l looked.parts r.parts (looked.fair r.parts q r.items) [] k others (follows_itself k.types) sc (given_start here k.types) w (inl w) looked.aims written r.refused r.itemless r.fit i.3 (subst (λ (z : Known). Describes here z.types m locals) p E) in
       subst (λ (z : Known). Good loops handling others z.names (act.Assign (targets_of l) v)) (sym p)
       (bound_row loops handling others (bind_names here true k (target_names target) r.parts).names l i.0 v sv i.1
       (subst (λ z. RowStands means signatures m locals init result others l z (bind_names here true k (target_names target) r.parts).names) (sym i.2) g))
@@ -206,13 +206,16 @@ module _ (means : List ℕ → Meaning) (signatures : List (Option Signature)) (
   pub good_assign : (loops handling : Bool) (k : Known) (span : Span) (target e : ExprTree) → IsScope here k.types → are_targets (leaves target) ≡ true → law.is_written e ≡ true → Describes here (binds here k span target e).types m locals → (a : TypedAct) → (assigns here k span target e).got ≡ Some a → (others : List ℕ) → Within k.names others
       → Good loops handling others (binds here k span target e).names a
   good_assign loops handling k span target e sc wt we E a h others w =
-      let r = rule_given span (assigned m.classes.classes target) (both (target_aims here k target) (value_for here k target e)) a h in
-      let b = both_given (target_aims here k target) (value_for here k target e) r.0 r.1 in
+      let value = value_for here k target e in
+      let late = aims_behind here k target (option_map type_of value.got) in
+      let targets = bound_aims here k target (option_map type_of value.got) in
+      let r = rule_given span (assigned m.classes.classes target) (both targets value) a h in
+      let b = both_given targets value r.0 r.1 in
       let d = assigned_is m.classes.classes target r.0 a r.2 in
       let ok = is_some (assigns here k span target e).got in
-      let D = described_before here k.types (binds here k span target e).types m locals (follows_target here ok k target (option_map type_of (value_for here k target e).got)) E in
-      let all = aims_are here k (leaves target) r.0.0 b.0 in
-      let sv = value_stands means signatures m locals init k D (leaves target) wt (is_row target) r.0.0 all e we r.0.1 d.bound (ap (λ o. (typed_at here k (asked_by (is_row target) o) e).got) (sym b.0) ∙ b.1) others w in
-      let same = bound_same here k target ok (option_map type_of (value_for here k target e).got) (type_of r.0.1) (some_is (assigns here k span target e).got a h) (ap (option_map type_of) b.1) in
+      let D = described_before here k.types (binds here k span target e).types m locals (follows_target here ok k target (option_map type_of value.got)) E in
+      let looked = looked_at here k target r.0.0 (option_map type_of value.got) (type_of r.0.1) b.0 (ap (option_map type_of) b.1) in
+      let sv = chosen_stands means signatures m locals init k D target wt late r.0.0 (is_chosen (is_row target) (target_aims here k target) late r.0.0 b.0) e we r.0.1 d.bound b.1 others w in
+      let same = bound_same here k target ok (option_map type_of value.got) (type_of r.0.1) (some_is (assigns here k span target e).got a h) (ap (option_map type_of) b.1) in
       subst (Good loops handling others (binds here k span target e).names) d.is
-      (assign_by loops handling k target sc r.0.0 r.0.1 all (aims_length here k (leaves target) r.0.0 b.0) wt D (binds here k span target e) same E others w sv (is_row target) refl d.bound)
+      (assign_by loops handling k target sc r.0.0 r.0.1 looked wt D (binds here k span target e) same E others w sv (is_row target) refl d.bound)

@@ -29,6 +29,7 @@ use Rattle.py_check_names.specs.Outline.{suite_definitions}
 use Rattle.py_check_signatures.specs.Headers.{marked, all_of, signature_of}
 use Rattle.py_check_signatures.specs.Definitions.{gives_value}
 use Rattle.py_check_places.specs.Places.{Known, is_unset}
+use Rattle.py_check_statements.specs.Bodies.{nothing_around}
 use Rattle.py_check_definitions.specs.Definitions.{Headed, headed, inner_definitions_said, headed_functions}
 use Rattle.py_check_definitions.specs.Starts.{given_sort, start_sort, own_sort}
 use Rattle.py_check_definitions.specs.Variables.{typed_variables}
@@ -175,11 +176,11 @@ module _ (is_identifier : List ℕ → Bool) (m : Suite) (nothing : said m ≡ [
         let s = some_of (signature_of hd.header) (signed hd.header sg.types) in
         let sig : slice_get tree.classes.signatures i ≡ Some s.0 = at ∙ ap (λ o. Some (plain_signature o)) s.1 in
         let long : length F.locals ≡ length own = variables_long last.types.locals 0 own in
-        let shape = shape_block C (return_of hd.header.ret) false first f.body ts got in
+        let shape = shape_block C (return_of hd.header.ret) nothing_around first f.body ts got in
         thirteen (is_identifier f.name) true (nat_lt F.params (suc (length F.locals))) (nat_lt (length F.locals) 101) (variables_typed is_identifier tree F.locals) (is_result_type 0 F.ret) true (signature_fits (slice_get tree.classes.signatures i) F) (init_gives_nothing F)
         (not (is_init_of_trait [] (init_class F))) (has_statement F.body) (ends_well F) (suite_typed tree F.locals (init_class F) (Some F.ret) [] false false F.body) id refl (ap (λ n. nat_lt F.params (suc n)) long ∙ params_few f roles hd.header.ret sg.sound)
         (ap (λ n. nat_lt n 101) long ∙ own_few f roles hd.header.ret sg.sound) (variables_good last.types.locals own ids own_differ have values) result_good refl (ap (λ o. signature_fits o F) sig ∙ signature_good s.0 s.1) (gives_none F none_init)
-        (ap (λ o. not (is_init_of_trait [] o)) none_init) (ap (λ o. has_statement (statements_of o)) got ∙ filled_block C (return_of hd.header.ret) false first f.body ts full pure got)
+        (ap (λ o. not (is_init_of_trait [] o)) none_init) (ap (λ o. has_statement (statements_of o)) got ∙ filled_block C (return_of hd.header.ret) nothing_around first f.body ts full pure got)
         (ends_by hd.header.ret (flow.is_closed f.body) (typed_flow.is_closed F.body) sg.types.ret sg.sound.ends (ap (λ o. typed_flow.is_closed (statements_of o)) got ∙ shape.closed)) stands
 
   abbrev written_name : Headed → Bool

@@ -30,7 +30,7 @@ use Rattle.py_check_names.specs.Outline.{suite_definitions}
 use Rattle.py_check_signatures.specs.Headers.{marked, returned, param_types, header, all_of, signature_of}
 use Rattle.py_check_values.specs.Returns as ret
 use Rattle.py_check_places.specs.Places.{Known, is_unset}
-use Rattle.py_check_statements.specs.Bodies.{block_after}
+use Rattle.py_check_statements.specs.Bodies.{nothing_around, block_after}
 use Rattle.py_check_definitions.specs.Definitions.{Headed, headed, inner_definitions_said, headed_functions, signatures}
 use Rattle.py_check_definitions.specs.Starts.{given_sort, first_mark, by_mark, start_sort, or_param, param_sort, own_sort}
 use Rattle.py_check_definitions.specs.Variables.{sort_or_none, variables_from, typed_variables}
@@ -226,7 +226,7 @@ module _ (m : Suite) (nothing : said m ≡ []) where
       values : Valued 0 end.types
 
     rows_stand : IsScope C start.types → IsMarked C start.types (suite_bindings text) → Valued 0 start.types → AreDeclared tree locals end.types → IsResult 0 r result → start.names ≡ [] → is_suite_written text ≡ true → (is_some result ≡ true → suite_definitions text ≡ []) → (ts : List TypedStmt)
-        → (Rattle.py_check_statements.specs.Bodies.block C r false start text).got ≡ Some ts → Stands ts
+        → (Rattle.py_check_statements.specs.Bodies.block C r nothing_around start text).got ≡ Some ts → Stands ts
     rows_stand sc mk v d is none written pure ts got =
         let follows = follows_block C start text in
         let setting : Setting means (signatures m) tree locals None start.types (suite_bindings text) end.types = record {
@@ -236,8 +236,8 @@ module _ (m : Suite) (nothing : said m ≡ []) where
           follows = follows;
           declared = d;
         } in
-        let settled = settled_block means (signatures m) tree locals None r false start text end.types setting (follows_itself end.types) written ts got in
-        let all = stands_in C r false start text tree locals None result false sc is (describes means end.types locals d settled.valued) written pure ts got [] (λ x h. ap (λ l. Rattle.py_typed.specs.Narrowing.is_in l x) (sym none) ∙ h) in
+        let settled = settled_block means (signatures m) tree locals None r nothing_around start text end.types setting (follows_itself end.types) written ts got in
+        let all = stands_in C r nothing_around start text tree locals None result sc is (describes means end.types locals d settled.valued) written pure ts got [] (λ x h. ap (λ l. Rattle.py_typed.specs.Narrowing.is_in l x) (sym none) ∙ h) in
         record { typed = all.0; values = settled.valued }
 
   -- ---- functions
@@ -402,7 +402,7 @@ module _ (m : Suite) (nothing : said m ≡ []) where
   top_stands : is_suite_written m ≡ true → TopStands
   top_stands written =
       let one = own_statements (whole.top m nothing) e.variables m in
-      let g = quiet_got one (loud_block (whole.top m nothing) (whole.top_voiced m nothing) ret.outside refl InModule false top_first (whole.start_all m nothing) m (whole.top_known m nothing)) (whole.own_quiet m nothing) in
+      let g = quiet_got one (loud_block (whole.top m nothing) (whole.top_voiced m nothing) ret.outside refl InModule nothing_around top_first (whole.start_all m nothing) m (whole.top_known m nothing)) (whole.own_quiet m nothing) in
       let s = rows_stand meant ret.outside top_first m [] None (vary.top_scope m nothing) top_marked top_values top_declared tt refl written (λ z. absurd (not_there z)) g.0 g.1 in
       record { typed = ap (λ o. suite_typed tree [] None None [] false false (statements_of o)) g.1 ∙ s.typed; values = s.values.globals }
     where

@@ -24,7 +24,7 @@ use Rattle.py_check_definitions.specs.Definitions.{headed_functions}
 use Rattle.py_check_definitions.specs.Starts.{given_sort, first_mark, by_mark, start_sort}
 use Rattle.py_check.specs.Module.{context_in, module_start, global_sorts, environment}
 use Rattle.py_check.proofs.Kept.{Follows, fix_first, follows_block, is_open}
-use Rattle.py_check_laws.specs.Variables.{sort_in, is_there, is_try_in_suite, is_bound_in, joined}
+use Rattle.py_check_laws.specs.Variables.{sort_in, is_there, is_bound_in, joined}
 use Rattle.py_check_laws.specs.WellTyped.{IsScope}
 use Rattle.py_check_laws.proofs.Assigned.{name_no_row, single_bound}
 use Rattle.py_check_laws.proofs.Closed.{scope_on, scope_there, type_set}
@@ -47,8 +47,8 @@ set_in V (meaning.Local i) v h = h
 set_in V (meaning.Global i) v h = h
 set_in V _ v h = absurd (cc)
 
-pub bindings_give : (c : Context) (k : Known) (body : Suite) (x : List ℕ) → is_variable (c.meaning x) ≡ true → is_there k.types (c.meaning x) ≡ true → is_try_in_suite body ≡ false → is_bound_in body x ≡ true → is_unset (sort_in (block_after c k body).types (c.meaning x)) ≡ false
-bindings_give c k body x v there untried bound = set_in (block_after c k body).types (c.meaning x) v (set_block c x k body there untried bound)
+pub bindings_give : (c : Context) (k : Known) (body : Suite) (x : List ℕ) → is_variable (c.meaning x) ≡ true → is_there k.types (c.meaning x) ≡ true → is_bound_in body x ≡ true → is_unset (sort_in (block_after c k body).types (c.meaning x)) ≡ false
+bindings_give c k body x v there bound = set_in (block_after c k body).types (c.meaning x) v (set_block c x k body there bound)
 
 -- ---- a first assignment
 

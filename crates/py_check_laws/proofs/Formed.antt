@@ -31,6 +31,7 @@ use Rattle.py_check_values.specs.Returns.{ReturnSort}
 use Rattle.py_check_messages.specs.Messages as message
 use Rattle.py_check_messages.specs.Rows.{row_then}
 use Rattle.py_check_places.specs.Places.{Known}
+use Rattle.py_check_statements.specs.declared.bodies.Around.{Around}
 use Rattle.py_check_statements.specs.Bodies.{is_definition, after, statement, block}
 use Rattle.py_check_names.specs.Builtins as names
 use Rattle.py_check_names.specs.Builtins.{exception_meaning}
@@ -245,10 +246,10 @@ defs_there (s.at (s.ClassDef name bases body marks) span) h q = cc
 defs_there _ h q = absurd (cc)
 
 -- a body with statements has typed ones
-pub filled_block : (C : Context) (r : ReturnSort) (loops : Bool) (k : Known) (body : Suite) (ts : List TypedStmt) → is_filled body ≡ true → suite_definitions body ≡ [] → (block C r loops k body).got ≡ Some ts → has_statement (suite_of ts) ≡ true
-filled_block C r loops k s.no_stmts ts h pure g = absurd (cc)
-filled_block C r loops k (s.stmt_then x more) ts h pure g = by (is_definition x) refl g
+pub filled_block : (C : Context) (r : ReturnSort) (around : Around) (k : Known) (body : Suite) (ts : List TypedStmt) → is_filled body ≡ true → suite_definitions body ≡ [] → (block C r around k body).got ≡ Some ts → has_statement (suite_of ts) ≡ true
+filled_block C r around k s.no_stmts ts h pure g = absurd (cc)
+filled_block C r around k (s.stmt_then x more) ts h pure g = by (is_definition x) refl g
   where
-    by : (b : Bool) → is_definition x ≡ b → (if b then block C r loops k more else row_then (statement C r loops k x) (block C r loops (after C k x) more)).got ≡ Some ts → has_statement (suite_of ts) ≡ true
+    by : (b : Bool) → is_definition x ≡ b → (if b then block C r around k more else row_then (statement C r around k x) (block C r around (after C k x) more)).got ≡ Some ts → has_statement (suite_of ts) ≡ true
     by true q e = absurd (defs_there x q (none_before (stmt_definitions x) (suite_definitions more) pure))
-    by false q e = let p = row_given (statement C r loops k x) (block C r loops (after C k x) more) ts e in subst (λ l. has_statement (suite_of l) ≡ true) p.4 refl
+    by false q e = let p = row_given (statement C r around k x) (block C r around (after C k x) more) ts e in subst (λ l. has_statement (suite_of l) ≡ true) p.4 refl

@@ -7,7 +7,9 @@ mod Annotated
 mod Whole
 mod Names
 mod Aims
+mod Exceptions
 mod Literals
+mod Looked
 mod Shapes
 mod Values
 mod Closed
@@ -18,6 +20,8 @@ mod Targets
 mod Bound
 mod Updated
 mod Loops
+mod Raised
+mod Deleted
 mod Stand
 mod Sights
 mod NameRows
@@ -37,9 +41,14 @@ mod Marked
 mod Inner
 mod Described
 mod Firsts
-mod RightRules
-mod Formless
-mod FormlessModules
 mod Differ
 mod Formed
+mod QuietParts
+mod StatementLayers
+mod OwnTypes
+mod Binds
+mod LessNames
+mod LessBound
+mod LessHeads
+mod LessKnown
 pub mod Complete

@@ -3,6 +3,7 @@ use Rattle.std.proofs.Common.{◌≡◌, ℕ, suc, Bool, true, false, ◌==◌, 
 use Rattle.std.proofs.lemmas.Option.{same_Some}
 use Rattle.std.specs.Str.{bytes_eq}
 use Rattle.std.specs.Prelude.{codes}
+use Rattle.value_core.specs.declared.exception.ExcClass.{ExcClass}
 use Rattle.py_syntax.specs.declared.token.Span.{Span}
 use Rattle.py_syntax.specs.Expressions as tree
 use Rattle.py_syntax.specs.Expressions.{ExprTree, ExprNode, at, Arguments, no_arguments, argument_then, keyed_then}
@@ -30,14 +31,16 @@ use Rattle.py_check_operators.specs.Chains.{faults_of, chain}
 use Rattle.py_check_operators.specs.Choices.{word_node, junction, operand, choice, choice_type}
 use Rattle.py_check_displays.specs.Displays.{item_sort, items_row, list_of, expected_list, common, joined_list, inferred_list, list_display, parts_row, tuple_of, tuple_display, is_invalid_tuple, kept_row}
 use Rattle.py_check_coercions.specs.Rows.{changed_row}
+use Rattle.py_check_displays.specs.Dicts.{entry_sorts, key_wanted, value_wanted, unfit_entry, entry_fault, dict_of, common_entry, are_entry_types, joined_dict, dict_display}
 use Rattle.py_check_displays.specs.Indexing.{Literal, literal, indexing, is_tuple, part_of, part_made, part_at, parts_of, keyed_by, item_of, item_at}
 use Rattle.py_check_calls.specs.declared.callees.Single.{Single}
 use Rattle.py_check_calls.specs.declared.callees.Single.TheVariants as one
-use Rattle.py_check_calls.specs.Callees.{Callee, function, print, input, range, single, method, voiceless, uncalled, value, callee, has_key}
+use Rattle.py_check_calls.specs.Callees.{Callee, function, print, input, range, single, exception, method, voiceless, uncalled, value, callee, has_key}
 use Rattle.py_check_calls.specs.Builtins.{as_value, gives_value, unprintable, printed, the_only, single_takes, single_made, single_given, single_call, print_call, input_call}
+use Rattle.py_check_calls.specs.Exceptions.{is_text, exception_made, exception_call}
 use Rattle.py_check_calls.specs.Methods.{attribute, is_list_method, pop_call, append_given, append_call, value_call, method_call, item_of as item_sort_of}
 use Rattle.py_check_calls.specs.Calls.{arguments_row, call_made, function_given, function_call, positional, refused, called}
-use Rattle.py_check_expressions.specs.Typing.{typing, items, operands, arguments, part, count}
+use Rattle.py_check_expressions.specs.Typing.{typing, items, entries, operands, arguments, part, count}
 use Rattle.py_check_expressions_laws.proofs.Given.{Gives, gives_is, gives_silent, gives_fails, gives_any, gives_made, gives_rule, gives_ruled_all, gives_compare, gives_row, gives_after, gives_judged}
 use Rattle.py_check_expressions_laws.proofs.Types.{clash}
 use Rattle.py_check_expressions_laws.proofs.Telling.{done, ok_same, joined_made, junction_is}
@@ -125,6 +128,11 @@ module _ (classes : List ClassEntry) where
   single_plain f span None e h g = absurd (cc)
   single_plain f span (Some x) e h g = let r = if_ok (single_takes f (type_of x)) (single_made f span x) e _ g in subst IsPlain r.1 (made_plain f span x (h x refl))
 
+  exception_plain : (span : Span) (x : ExcClass) (es : List TypedExpr) (e : TypedExpr) → exception_call classes span x es ≡ Ok e → IsPlain e
+  exception_plain span x [] e h = subst IsPlain (ok_same (exception_made span x None) e h) (record { flag = refl; none = refl })
+  exception_plain span x (a ∷ []) e h = let r = if_ok (is_text (type_of a)) (exception_made span x (Some a)) e _ h in subst IsPlain r.1 (record { flag = refl; none = refl })
+  exception_plain span x (a ∷ b ∷ es) e h = absurd (cc)
+
   append_plain : (w : Wanted) (span : Span) (a : TypedExpr) (t : Sort) (o : Option TypedExpr) (e : TypedExpr) → append_given classes w span a t o ≡ Ok e → IsPlain e
   append_plain w span a t None e h = absurd (cc)
   append_plain w span a t (Some x) e h = by (fits classes (type_of x) t) h
@@ -185,6 +193,8 @@ module _ (classes : List ClassEntry) where
   called_plain w span keyed range p args h = gives_rule AllLiteral IsPlain span (refused Rattle.py_check_messages.specs.Messages.range_outside_for) (positional span keyed args) (given_args span keyed args h) (λ es q e g. absurd (refused_never _ es e g))
   called_plain w span keyed (single f) p args h =
       gives_rule AllLiteral IsPlain span (single_call classes f span) (positional span keyed args) (given_args span keyed args h) (λ es q e g. single_plain f span (the_only es) e (λ x r. only_literal es x q r) g)
+  called_plain w span keyed (exception x) p args h =
+      gives_rule AllLiteral IsPlain span (exception_call classes span x) (positional span keyed args) (given_args span keyed args h) (λ es q e g. exception_plain span x es e g)
   called_plain w span keyed (method f) None args h = gives_silent IsPlain
   called_plain w span keyed (method f) (Some a) args h = gives_rule AllLiteral IsPlain span (method_call classes w span f a) (positional span keyed args) (given_args span keyed args h) (λ es q e g. method_plain w span f a es e g)
   called_plain w span keyed voiceless p args h = gives_silent IsPlain
@@ -231,6 +241,15 @@ module _ (classes : List ClassEntry) where
   list_display_plain (Some t) span es e h = unless_plain (Rattle.std.specs.Option.option_map (Rattle.py_check_displays.specs.Displays.item_fault classes) (unfit classes (Rattle.py_check_context.specs.Context.each t) 0 es)) (list_of span t es) e (record { flag = refl; none = refl }) h
   list_display_plain None span [] e h = absurd (cc)
   list_display_plain None span (x ∷ es) e h = inferred_plain span (x ∷ es) e (common classes (Some (type_of x)) es) h
+
+  joined_dict_plain : (span : Span) (es : List (TypedExpr × TypedExpr)) (e : TypedExpr) (o : Option (Sort × Sort)) → joined_dict span es o ≡ Ok e → IsPlain e
+  joined_dict_plain span es e None h = absurd (cc)
+  joined_dict_plain span es e (Some p) h = let r = if_ok (are_entry_types p) (dict_of span p es) e _ h in subst IsPlain r.1 (record { flag = refl; none = refl })
+
+  dict_display_plain : (o : Option (Sort × Sort)) (span : Span) (es : List (TypedExpr × TypedExpr)) (e : TypedExpr) → dict_display classes o span es ≡ Ok e → IsPlain e
+  dict_display_plain (Some p) span es e h = unless_plain (Rattle.std.specs.Option.option_map (entry_fault classes p) (unfit_entry classes p 0 es)) (dict_of span p es) e (record { flag = refl; none = refl }) h
+  dict_display_plain None span [] e h = absurd (cc)
+  dict_display_plain None span (x ∷ es) e h = joined_dict_plain span (x ∷ es) e (common_entry classes x es) h
 
   tuple_plain : (row : WantedRow) (span : Span) (es : List TypedExpr) (e : TypedExpr) → tuple_display classes row span es ≡ Ok e → IsPlain e
   tuple_plain row span es e h = by (is_invalid_tuple row es) h
@@ -329,7 +348,8 @@ module _ (C : Context) (V : VarSorts) where
         gives_after IsPlain (arguments C V (arguments_row (callee C f) o) 0 known args) (called C.classes w span (has_key args) (callee C f) o) (λ es ees.
         called_plain C.classes w span (has_key args) (callee C f) o es (λ l q. (literal_args (arguments_row (callee C f) o) 0 known args).each l (ees ∙ q)))))
     heads w known (at (tree.Attr a x) span) = plain_all (at (tree.Attr a x) span) _ refl refl (ruled_plain span (attribute C.classes x) (typing C V free known a) (λ t e q. absurd (attribute_never C.classes x t e q)))
-    heads w known (at (tree.DictOf es) span) = gives_fails (IsHead (at (tree.DictOf es) span)) span _
+    heads w known (at (tree.DictOf es) span) =
+        plain_all (at (tree.DictOf es) span) _ refl refl (ruled_plain span (dict_display C.classes (entry_sorts w) span) (entries C V (key_wanted (entry_sorts w)) (value_wanted (entry_sorts w)) known es) (λ l e q. dict_display_plain C.classes (entry_sorts w) span l e q))
 
     literal_args : (row : WantedRow) (i : ℕ) (known : List ℕ) (args : Arguments) → Gives (arguments C V row i known args) (AllLiteral C.classes)
     literal_args row i known no_arguments = gives_is (AllLiteral C.classes) [] tt

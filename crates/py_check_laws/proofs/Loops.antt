@@ -1,5 +1,5 @@
 -- The heads of loops that are typed stand well typed, and so do the loops.
-use Rattle.std.proofs.Common.{◌≡◌, ℕ, Bool, true, false, not, ◌&&◌, List, [], ◌∷◌, ◌++◌, length, map, Option, Some, None, refl, ap, sym, ◌∙◌, subst, ◌⊎◌, inl, inr}
+use Rattle.std.proofs.Common.{◌≡◌, ℕ, Bool, true, false, not, ◌&&◌, List, [], ◌∷◌, ◌++◌, length, Option, Some, None, refl, ap, sym, ◌∙◌, subst, ◌⊎◌, inl, inr}
 use Rattle.std.proofs.lemmas.Bool.{and_from, or_left, or_right}
 use Rattle.std.proofs.lemmas.Option.{same_Some}
 use Rattle.std.specs.List.{list_all}
@@ -23,24 +23,24 @@ use Rattle.py_check_context.specs.declared.scope.Meaning.{Meaning}
 use Rattle.py_check_context.specs.Context.{Context, VarSorts}
 use Rattle.py_check_flow.specs.Bindings.{name_in}
 use Rattle.py_check_messages.specs.Seen.{both, rule}
-use Rattle.py_check_values.specs.Assignments.{binding_fault, first_refused, first_itemless, items_for}
+use Rattle.py_check_values.specs.Aims.{Aim, held, first, barred, unwritten, misplaced}
+use Rattle.py_check_values.specs.Assignments.{binding_fault, first_barred, first_unwritten, items_for}
 use Rattle.py_check_places.specs.Places.{Known, entering, bind_name, bind_names}
-use Rattle.py_check_places.specs.Shapes.{is_row, is_flat, leaves, target_names}
-use Rattle.py_check_targets.specs.Targets.{Aim, held, first, barred, unwritten, misplaced, slot_of, target_of, targets_of, is_name_aim, value_aim, item_aim}
-use Rattle.py_check_places.specs.Shapes.{bind_target}
-use Rattle.py_check_targets.specs.Targets.{target_aims}
+use Rattle.py_check_places.specs.Shapes.{is_row, is_flat, leaves, target_names, bind_target}
+use Rattle.py_check_targets.specs.Targets.{target_of, targets_of, is_name_aim, value_aim, item_aim, next_part, more_parts, beyond, aims_behind}
 use Rattle.py_check_loops.specs.Loops.{Course, numbers, value, items_of, course_items, course, are_names, head, loop_over, loop_of}
 use Rattle.py_check_loops.specs.Heads.{some_items, for_head, in_for}
 use Rattle.py_check_expressions_laws.specs.WellTyped as law
 use Rattle.py_check_expressions_laws.specs.WellTyped.{Describes, Within}
 use Rattle.py_check_laws.specs.Variables.{sort_in}
+use Rattle.py_check_laws.proofs.Looked.{LookedAt, looked_behind}
 use Rattle.py_check_laws.specs.WellTyped.{IsScope}
 use Rattle.py_check_laws.proofs.Given.{some_is, made_given, both_given, rule_given}
 use Rattle.py_check.proofs.Kept.{Follows, follows_itself, is_open}
-use Rattle.py_check_laws.proofs.Assigned.{leaves_one, single_bound, row_bound, aims_length, items_are, BoundTo, Headed, head_is}
+use Rattle.py_check_laws.proofs.Assigned.{leaves_one, single_bound, row_bound, items_are, BoundTo, Headed, head_is}
 use Rattle.py_check_laws.proofs.Whole.{bound_same}
 use Rattle.py_check_laws.proofs.Names.{within_kept}
-use Rattle.py_check_laws.proofs.Aims.{AimAt, beyond, AimsOf, aims_are, Held, held_local, held_global, held_item, aim_held, aim_first, first_name, Aimed, aimed_local, aimed_global, aimed_item, held_aimed, first_aimed, aimed_bound}
+use Rattle.py_check_laws.proofs.Aims.{AimAt, AimsOf, Held, held_local, held_global, held_item, aim_held, aim_first, first_name, Aimed, aimed_local, aimed_global, aimed_item, held_aimed, first_aimed, aimed_bound}
 use Rattle.py_check_laws.proofs.Values.{scene, fault_fits, third}
 use Rattle.py_check_laws.proofs.Courses.{CourseStands, course_stands, item_type}
 use Rattle.py_check_laws.proofs.Targets.{not_true, is_named, given_start, TargetStands, held_stands, variable_stands, first_open, RowStands, rows}
@@ -54,7 +54,7 @@ name_is_written _ x h = absurd (cc)
 pub record HeadParts (C : Context) (k : Known) (target e : ExprTree) (p : List TypedTarget × Course) : Type 0 where
   pub aims : List Aim
   pub course : Course
-  pub seen : (target_aims C k target).got ≡ Some aims
+  pub seen : (aims_behind C k target (some_items (Rattle.py_check_loops.specs.Loops.course C k e).got)).got ≡ Some aims
   pub over : (Rattle.py_check_loops.specs.Loops.course C k e).got ≡ Some course
   pub headed : Headed C.classes target aims course
   pub targets : targets_of aims ≡ p.0
@@ -62,10 +62,11 @@ pub record HeadParts (C : Context) (k : Known) (target e : ExprTree) (p : List T
 
 pub head_parts : (C : Context) (k : Known) (span : Span) (target e : ExprTree) (p : List TypedTarget × Course) → (for_head C k span target e).got ≡ Some p → HeadParts C k target e p
 head_parts C k span target e p h =
-    let parts = both (target_aims C k target) (course C k e) in
+    let targets = aims_behind C k target (some_items (course C k e).got) in
+    let parts = both targets (course C k e) in
     let q = made_given (λ (z : List Aim × Course). (targets_of z.0, z.1)) (rule span (head C.classes (is_flat target) (is_row target)) parts) p h in
     let g = rule_given span (head C.classes (is_flat target) (is_row target)) parts q.0 q.1 in
-    let b = both_given (target_aims C k target) (course C k e) g.0 g.1 in
+    let b = both_given targets (course C k e) g.0 g.1 in
     let d = head_is C.classes target g.0 q.0 g.2 in
     record {
       aims = g.0.0;
@@ -77,6 +78,9 @@ head_parts C k span target e p h =
       is = ap (λ (z : List Aim × Course). z.1) d.1 ∙ ap (λ (z : List TypedTarget × Course). z.1) q.2;
     }
 
+pub head_looked : (C : Context) (k : Known) (target e : ExprTree) (p : List TypedTarget × Course) → (h : HeadParts C k target e p) → LookedAt C k target h.aims h.headed.item
+head_looked C k target e p h = looked_behind C k target h.aims (some_items (course C k e).got) h.headed.item h.seen (ap some_items h.over ∙ h.headed.items)
+
 module _ (means : List ℕ → Meaning) (signatures : List (Option Signature)) (m : TypedModule) (locals : List Variable) (init : Option ℕ) (result : Option Sort) where
   abbrev here : Context
   here = scene means signatures m locals init
@@ -86,18 +90,18 @@ module _ (means : List ℕ → Meaning) (signatures : List (Option Signature)) (
 
   -- ---- targets that are names
 
-  aimed_name : (e : ExprTree) (t : TypedTarget) → Aimed here e t → (name_in e ≡ None → ⊥) → is_name t ≡ true
+  pub aimed_name : (e : ExprTree) (t : TypedTarget) → Aimed here e t → (name_in e ≡ None → ⊥) → is_name t ≡ true
   aimed_name e t (aimed_local x i n q is) h = subst (λ z. is_name z ≡ true) is refl
   aimed_name e t (aimed_global x i n q is) h = subst (λ z. is_name z ≡ true) is refl
   aimed_name e t (aimed_item b i n is) h = absurd (h n)
 
   -- what is a name is written as one
-  held_named : (k : Known) (e : ExprTree) (t : TypedTarget) (s : Sort) → Held here k e t s → is_name_aim (held t s) ≡ true → (x : List ℕ) × (name_in e ≡ Some x)
+  pub held_named : (k : Known) (e : ExprTree) (t : TypedTarget) (s : Sort) → Held here k e t s → is_name_aim (held t s) ≡ true → (x : List ℕ) × (name_in e ≡ Some x)
   held_named k e t s (held_local x i n q is v) h = (x, n)
   held_named k e t s (held_global x i n q is v) h = (x, n)
   held_named k e t s (held_item b i place n g w is) h = let bad : not (Rattle.py_check_targets.specs.Targets.is_item_target (ItemTarget b i)) ≡ true = ap (λ z. not (Rattle.py_check_targets.specs.Targets.is_item_target z)) is ∙ h in absurd (cc)
 
-  no_none : (o : Option (List ℕ)) (x : List ℕ) → o ≡ Some x → o ≡ None → ⊥
+  pub no_none : (o : Option (List ℕ)) (x : List ℕ) → o ≡ Some x → o ≡ None → ⊥
   no_none o x p q = let bad : Some x ≡ None = sym p ∙ q in cc
 
   -- a row of names
@@ -113,21 +117,21 @@ module _ (means : List ℕ → Meaning) (signatures : List (Option Signature)) (
     names = subst (λ (z : List TypedTarget). list_all is_name (z ++ targets_of l) ≡ true) (sym q) (and_from (is_name t) (list_all is_name (targets_of l)) h r.names);
   }
 
-  are_named : (k : Known) (es : List ExprTree) (l : List Aim) → AimsOf here k es l → list_all is_name_aim l ≡ true → first_refused (map slot_of l) ≡ None → first_itemless (map slot_of l) ≡ None → AreNames es l
-  are_named k [] [] a h p q = record { named = refl; written = refl; names = refl }
-  are_named k [] (x ∷ l) a h p q = absurd a
-  are_named k (e ∷ es) [] a h p q = absurd a
-  are_named k (e ∷ es) (held t s ∷ l) a h p q =
+  pub are_named : (k : Known) (es : List ExprTree) (l : List Aim) (ts : Option (List Sort)) → AimsOf here k ts es l → list_all is_name_aim l ≡ true → first_barred l ≡ None → first_unwritten l ≡ None → AreNames es l
+  are_named k [] [] ts a h p q = record { named = refl; written = refl; names = refl }
+  are_named k [] (x ∷ l) ts a h p q = absurd a
+  are_named k (e ∷ es) [] ts a h p q = absurd a
+  are_named k (e ∷ es) (held t s ∷ l) ts a h p q =
       let d = aim_held here k e t s a.here in
       let n = held_named k e t s d (and_left (is_name_aim (held t s)) (list_all is_name_aim l) h) in
-      one_name e n.0 es (held t s) l t n.1 refl (aimed_name e t (held_aimed here k e t s d) (no_none (name_in e) n.0 n.1)) (are_named (beyond here k e) es l a.rest (and_right (is_name_aim (held t s)) (list_all is_name_aim l) h) p q)
-  are_named k (e ∷ es) (first t y ∷ l) a h p q =
+      one_name e n.0 es (held t s) l t n.1 refl (aimed_name e t (held_aimed here k e t s d) (no_none (name_in e) n.0 n.1)) (are_named (beyond here k (name_in e) (next_part ts)) es l (more_parts ts) a.rest (and_right (is_name_aim (held t s)) (list_all is_name_aim l) h) p q)
+  are_named k (e ∷ es) (first t y ∷ l) ts a h p q =
       let d = aim_first here k e t y a.here in
       let n = first_name here k e t y a.here in
-      one_name e y es (first t y) l t n refl (aimed_name e t (first_aimed here k e t d) (no_none (name_in e) y n)) (are_named (beyond here k e) es l a.rest h p q)
-  are_named k (e ∷ es) (barred x ∷ l) a h p q = absurd (cc)
-  are_named k (e ∷ es) (unwritten s ∷ l) a h p q = absurd (cc)
-  are_named k (e ∷ es) (misplaced s ∷ l) a h p q = absurd (cc)
+      one_name e y es (first t y) l t n refl (aimed_name e t (first_aimed here k e t d) (no_none (name_in e) y n)) (are_named (beyond here k (name_in e) (next_part ts)) es l (more_parts ts) a.rest h p q)
+  are_named k (e ∷ es) (barred x ∷ l) ts a h p q = absurd (cc)
+  are_named k (e ∷ es) (unwritten s ∷ l) ts a h p q = absurd (cc)
+  are_named k (e ∷ es) (misplaced s ∷ l) ts a h p q = absurd (cc)
 
   -- names stand wherever they stand
   name_anywhere : (others more : List ℕ) (t : TypedTarget) → is_name t ≡ true → stmt.target_typed m locals init result others t ≡ true → stmt.target_typed m locals init result more t ≡ true
@@ -178,7 +182,7 @@ module _ (means : List ℕ → Meaning) (signatures : List (Option Signature)) (
       }
 
   -- a head with one target
-  single_head : (k : Known) → Describes here k.types m locals → IsScope here k.types → (inner : Known) → inner.types ≡ k.types → (target : ExprTree) (a : Aim) → AimAt here k (name_in target) target a → is_name_aim a ≡ true → (item : Sort) → binding_fault m.classes.classes (slot_of a) item ≡ None
+  single_head : (k : Known) → Describes here k.types m locals → IsScope here k.types → (inner : Known) → inner.types ≡ k.types → (target : ExprTree) (a : Aim) → AimAt here k (name_in target) target a → is_name_aim a ≡ true → (item : Sort) → binding_fault m.classes.classes a item ≡ None
       → Describes here (bind_name here true inner (name_in target) (Some item)).types m locals → (body : TypedSuite) (others : List ℕ) → Within inner.names (without (bound_by_all (targets_of (a ∷ [])) ++ bound_suite body) others)
       → HeadStands others (targets_of (a ∷ [])) item body (bind_name here true inner (name_in target) (Some item)).names
   single_head k D sc inner same target (held t s) a n item f E body others w =
@@ -206,22 +210,22 @@ module _ (means : List ℕ → Meaning) (signatures : List (Option Signature)) (
   single_head k D sc inner same target (misplaced s) a n item f E body others w = absurd (cc)
 
   -- A HEAD whose targets are looked at in one place, and bound in another one with the same types
-  head_by : (k : Known) → Describes here k.types m locals → IsScope here k.types → (inner : Known) → inner.types ≡ k.types → (target : ExprTree) (l : List Aim) → AimsOf here k (leaves target) l → length l ≡ length (leaves target) → list_all is_name_aim l ≡ true → (item : Sort) → is_value_type (length m.classes.classes) item ≡ true
+  head_by : (k : Known) → Describes here k.types m locals → IsScope here k.types → (inner : Known) → inner.types ≡ k.types → (target : ExprTree) (l : List Aim) (item : Sort) → LookedAt here k target l item → list_all is_name_aim l ≡ true → is_value_type (length m.classes.classes) item ≡ true
       → (end : Known) → end ≡ bind_target here true inner target (Some item) → Describes here end.types m locals → (body : TypedSuite) (others : List ℕ) → Within inner.names (without (bound_by_all (targets_of l) ++ bound_suite body) others) → (c : Bool) → is_row target ≡ c → BoundTo m.classes.classes c l item → HeadStands others (targets_of l) item body end.names
-  head_by k D sc inner same target l all n names item v end p E body others w false q r =
+  head_by k D sc inner same target l item looked names v end p E body others w false q r =
       let b : end ≡ bind_name here true inner (name_in target) (Some item) = p ∙ single_bound here true inner target (Some item) q in
       let one = leaves_one target q in
       subst (λ z. HeadStands others (targets_of z) item body end.names) (sym r.1)
       (subst (λ (z : Known). HeadStands others (targets_of (r.0 ∷ [])) item body z.names) (sym b)
-      (single_head k D sc inner same target r.0 (single_aim_of means signatures m locals init result k target l r.0 r.1 one all) (and_left (is_name_aim r.0) true (subst (λ z. list_all is_name_aim z ≡ true) r.1 names)) item r.2 (subst (λ (z : Known). Describes here z.types m locals) b E) body others
+      (single_head k D sc inner same target r.0 (single_aim_of means signatures m locals init result k target l r.0 looked.parts r.1 one looked.aims) (and_left (is_name_aim r.0) true (subst (λ z. list_all is_name_aim z ≡ true) r.1 names)) item r.2 (subst (λ (z : Known). Describes here z.types m locals) b E) body others
       (subst (λ z. Within inner.names (without (bound_by_all (targets_of z) ++ bound_suite body) others)) r.1 w)))
-  head_by k D sc inner same target l all n names item v end p E body others w true q r =
+  head_by k D sc inner same target l item looked names v end p E body others w true q r =
       let i = items_are item (length l) r.parts r.items in
-      let b : end ≡ bind_names here true inner (target_names target) r.parts = p ∙ row_bound here true inner target item r.parts q (ap (items_for item) (sym n) ∙ r.items) in
-      let a = are_named k (leaves target) l all names r.refused r.itemless in
+      let b : end ≡ bind_names here true inner (target_names target) r.parts = p ∙ row_bound here true inner target item r.parts q (ap (items_for item) (sym looked.many) ∙ r.items) in
+      let a = are_named k (leaves target) l looked.parts looked.aims names r.refused r.itemless in
       let inside = without (bound_by_all (targets_of l) ++ bound_suite body) others in
-      let g = rows means signatures m locals init result k D (leaves target) l r.parts [] inner inside (subst (Follows k.types) (sym same) (follows_itself k.types)) (subst (IsScope here) (sym same) sc)
-      (subst (λ V. Rattle.py_check_laws.proofs.Targets.Given here k.types V []) (sym same) (given_start here k.types)) w (inr a.named) all a.written r.refused r.itemless r.fit i.3 (subst (λ (z : Known). Describes here z.types m locals) b E) in
+      let g = rows means signatures m locals init result k D (leaves target) l looked.parts r.parts (looked.fair r.parts q r.items) [] inner inside (subst (Follows k.types) (sym same) (follows_itself k.types)) (subst (IsScope here) (sym same) sc)
+      (subst (λ V. Rattle.py_check_laws.proofs.Targets.Given here k.types V []) (sym same) (given_start here k.types)) w (inr a.named) looked.aims a.written r.refused r.itemless r.fit i.3 (subst (λ (z : Known). Describes here z.types m locals) b E) in
       subst (λ (z : Known). HeadStands others (targets_of l) item body z.names) (sym b)
       (by i.0 i.1 r.parts i.2 a.names g)
     where
@@ -240,7 +244,7 @@ module _ (means : List ℕ → Meaning) (signatures : List (Option Signature)) (
       let same = bound_same here l target (is_some (for_head here k span target e).got) (some_items (course here k e).got) h.headed.item (some_is (for_head here k span target e).got p g) (ap some_items h.over ∙ h.headed.items) in
       let c = course_stands means signatures m locals init result k D e we h.course h.over k.names (λ x z. z) in
       subst (λ z. HeadStands others z h.headed.item body (in_for here k s span target e).names) h.targets
-      (head_by k D sc l refl target h.aims (aims_are here k (leaves target) h.aims h.seen) (aims_length here k (leaves target) h.aims h.seen) (and_right (is_flat target) (list_all is_name_aim h.aims) h.headed.names) h.headed.item (item_type means signatures m locals init result k.names h.course h.headed.item c h.headed.items)
+      (head_by k D sc l refl target h.aims h.headed.item (head_looked here k target e p h) (and_right (is_flat target) (list_all is_name_aim h.aims) h.headed.names) (item_type means signatures m locals init result k.names h.course h.headed.item c h.headed.items)
       (in_for here k s span target e) same E body others (subst (λ z. Within l.names (without (bound_by_all z ++ bound_suite body) others)) (sym h.targets) w) (is_row target) refl h.headed.bound)
 
   -- ---- whole loops

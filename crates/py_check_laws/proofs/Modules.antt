@@ -26,6 +26,7 @@ use Rattle.py_check_names.specs.Meanings.{variables, own_names, meaning_in, said
 use Rattle.py_check_signatures.specs.Headers.{header, header_said, signature_of}
 use Rattle.py_check_values.specs.Returns as ret
 use Rattle.py_check_places.specs.Places.{Known}
+use Rattle.py_check_statements.specs.Bodies.{nothing_around}
 use Rattle.py_check_definitions.specs.Definitions.{Headed, headed, inner_definitions_said, refusal, headed_functions, signatures}
 use Rattle.py_check_definitions.specs.Starts.{given_sort, start_sort, or_param, param_sort, own_sort}
 use Rattle.py_check.specs.Module.{Environment, context_in, module_start, own_statements, walk_said, return_of, function_start, body, body_after, bodies_said, global_sorts, environment, walked, said, diagnostics}
@@ -113,13 +114,13 @@ module _ (e : Environment) (sorts : List VarSort) (f : Headed) where
   pub body_typed : Voiced C → ((x : List ℕ) → is_untyped (C.meaning x) ≡ false) → AreKnown C.meaning (body_sights f.tree) → HasTypes f.header → ((i : ℕ) → law.is_untyped (var_at sorts i) ≡ false) → (body C e.variables sorts f).said ≡ [] → BodyTyped
   body_typed names all known types before h =
       let bs = suite_bindings f.tree.body in
-      let quiet = suite_marks C (return_of f.header.ret) false start f.tree.body h in
+      let quiet = suite_marks C (return_of f.header.ret) nothing_around start f.tree.body h in
       let each : (x : List ℕ) → law.is_untyped (own_sort C.meaning bs (param_names f.tree) f.header.params x) ≡ false =
       λ x. own_typed (param_names f.tree) f.header.params types.params x (start_sort C.meaning bs x) (start_typed C.meaning all bs (suite_known C.meaning InFunction f.tree.body known) quiet x) in
       let typed : AllTyped start.types = record { locals = typed_map (own_sort C.meaning bs (param_names f.tree) f.header.params) each (own_names f.inside); globals = before } in
       let j = judged f.header.ret types.ret in
-      let g = quiet_got (body C e.variables sorts f) (loud_block C names (return_of f.header.ret) j InFunction false start typed f.tree.body known) h in
-      let after = quiet_block C names (return_of f.header.ret) j InFunction false start typed f.tree.body known h in
+      let g = quiet_got (body C e.variables sorts f) (loud_block C names (return_of f.header.ret) j InFunction nothing_around start typed f.tree.body known) h in
+      let after = quiet_block C names (return_of f.header.ret) j InFunction nothing_around start typed f.tree.body known h in
       record { typed = some_is (body C e.variables sorts f).got g.0 g.1; locals = after.locals }
 
 module _ (e : Environment) (roles : Roles) (meanings : List ℕ → Meaning) (all : (x : List ℕ) → is_untyped (meanings x) ≡ false) (names : (f : FuncTree) → Voiced (context_in e (headed roles meanings f).inside)) (inner : (f : FuncTree) (x : List ℕ) → is_untyped ((context_in e (headed roles meanings f).inside).meaning x) ≡ false) (known : (f : FuncTree) → function_faults roles f ≡ [] → AreKnown (context_in e (headed roles meanings f).inside).meaning (body_sights f)) where
@@ -250,15 +251,15 @@ module _ (m : Suite) (nothing : said m ≡ []) where
   pub start_all : AllTyped (module_start top e.variables m).types
   start_all = record {
     locals = λ i. refl;
-    globals = typed_map (start_sort meant (suite_bindings m)) (start_typed meant typed_names (suite_bindings m) (suite_known meant InModule m top_known) (suite_marks top ret.outside false (module_start top e.variables m) m own_quiet)) e.variables;
+    globals = typed_map (start_sort meant (suite_bindings m)) (start_typed meant typed_names (suite_bindings m) (suite_known meant InModule m top_known) (suite_marks top ret.outside nothing_around (module_start top e.variables m) m own_quiet)) e.variables;
   }
 
   -- THE WHOLE MODULE is typed
   pub typed_whole : is_typed_whole m ≡ true
   typed_whole =
       let k = module_start top e.variables m in
-      let g = quiet_got (own_statements top e.variables m) (loud_block top top_voiced ret.outside refl InModule false k start_all m top_known) own_quiet in
-      let b = quiet_block top top_voiced ret.outside refl InModule false k start_all m top_known own_quiet in
+      let g = quiet_got (own_statements top e.variables m) (loud_block top top_voiced ret.outside refl InModule nothing_around k start_all m top_known) own_quiet in
+      let b = quiet_block top top_voiced ret.outside refl InModule nothing_around k start_all m top_known own_quiet in
       and_from (is_some (own_statements top e.variables m).got) (are_typed e (global_sorts e (module_scope m) (headed_functions m) m) (headed_functions m)) (some_is (own_statements top e.variables m).got g.0 g.1)
       (bodies_typed e (module_role m) meant typed_names (λ f x. voiced (signatures m) signs ((inside f).meaning x) (inner_heard f x)) (λ f x. heard_typed n ((inside f).meaning x) (inner_heard f x)) inner_known (global_sorts e (module_scope m) (headed_functions m) m) b.globals (functions m) all_functions
       bodies_quiet)

@@ -49,14 +49,6 @@ bound_by_test false false i names others w h = within_more i (without (i ∷ [])
 pub bound_local : (i : ℕ) (t : Option Sort) (s : Sort) (names others : List ℕ) → Within names others → (is_plain t ≡ true → may_be_none s ≡ false) → Within (rebound i t names) (after_target others (LocalTarget i) s)
 bound_local i t s names others w h = bound_by_test (is_plain t) (may_be_none s) i names others w h
 
-forgotten_by_test : (loose : Bool) (i : ℕ) (names others : List ℕ) → Within names others → Within (without (i ∷ []) names) (bound_names loose i others)
-forgotten_by_test true i names others w = within_without (i ∷ []) (i ∷ []) names others (within_itself (i ∷ [])) w
-forgotten_by_test false i names others w = within_more i (without (i ∷ []) names) others (within_less (i ∷ []) names others w)
-
--- what was known of a name that is bound is forgotten
-pub forgotten_local : (i : ℕ) (s : Sort) (names others : List ℕ) → Within names others → Within (without (i ∷ []) names) (after_target others (LocalTarget i) s)
-forgotten_local i s names others w = forgotten_by_test (may_be_none s) i names others w
-
 other_by_test : (loose : Bool) (gone : List ℕ) (names others : List ℕ) → gone ≡ [] → Within names others → Within names (if loose then without gone others else gone ++ others)
 other_by_test true gone names others g w = subst (λ l. Within names (without l others)) (sym g) (within_kept names others w)
 other_by_test false gone names others g w = subst (λ l. Within names (l ++ others)) (sym g) w

@@ -4,26 +4,28 @@ use Rattle.std.specs.Prelude.{is_some}
 use Rattle.std.specs.List.{flat_map}
 use Rattle.std.specs.Option.{option_map}
 use Rattle.std.specs.Str.{bytes_eq}
+use Rattle.value_core.specs.declared.exception.ExcClass.TheVariants.{Exception}
 use Rattle.py_syntax.specs.declared.token.Span.{Span}
 use Rattle.py_syntax.specs.Expressions.{ExprTree}
 use Rattle.py_syntax.specs.Statements as node
-use Rattle.py_syntax.specs.Statements.{StmtTree, StmtNode, Suite, no_stmts, stmt_then, Arms, no_arms, arm_then}
+use Rattle.py_syntax.specs.Statements.{StmtTree, StmtNode, Suite, no_stmts, stmt_then, Arms, no_arms, arm_then, Handlers, no_handlers, handler_then, MaybeSuite, no_suite, some_suite}
 use Rattle.py_binder.specs.Scope.{contains}
-use Rattle.py_typed.specs.Sorts.{Sort}
+use Rattle.py_typed.specs.Sorts.{Sort, Exc}
 use Rattle.py_typed.specs.Expressions.{type_of}
 use Rattle.py_check_context.specs.declared.scope.Meaning.{Meaning}
 use Rattle.py_check_context.specs.declared.scope.Meaning.TheVariants as meaning
 use Rattle.py_check_context.specs.Context.{Context, VarSort, VarSorts, var_at}
-use Rattle.py_check_flow.specs.Bindings.{Binding, bound_names, target_bindings, name_in, marked, stmt_bindings, act_bindings, suite_bindings, arms_bindings}
+use Rattle.py_check_flow.specs.Bindings.{Binding, bound_names, target_bindings, name_in, marked, caught, stmt_bindings, act_bindings, suite_bindings, arms_bindings, handlers_bindings, last_bindings}
 use Rattle.py_check_flow.specs.Closed.{is_closed}
 use Rattle.py_check_calls.specs.Callees.{is_variable}
-use Rattle.py_check_places.specs.Places.{Known, is_unset, fix, first_type, bind_variable, bind_name, bind_names, where_test, entering, Way, setting_out, behind_arm}
+use Rattle.py_check_places.specs.Places.{Known, is_unset, fix, first_type, bind_variable, bind_name, bind_names, with_names, where_test, entering, Way, setting_out, behind_arm}
 use Rattle.py_check_places.specs.Shapes.{is_row, leaves, parts_of}
 use Rattle.py_check_places.specs.Shapes.{bind_target}
 use Rattle.py_check_assignments.specs.Assignments.{value_for, assigns, annotates_name, value_sort, binds_annotated}
 use Rattle.py_check_loops.specs.Loops.{course}
 use Rattle.py_check_loops.specs.Heads.{some_items, for_head, in_for}
-use Rattle.py_check_statements.specs.Bodies.{after, node_after, block_after, arms_after}
+use Rattle.py_check_exceptions.specs.Handlers.{handler_head, in_handler}
+use Rattle.py_check_statements.specs.Bodies.{is_last, outside_try, after, node_after, block_after, arms_after, handlers_after, last_after}
 use Rattle.py_check_expressions_laws.proofs.Types.{clash}
 use Rattle.py_check_laws.specs.Variables.{sort_in}
 use Rattle.py_check_laws.specs.WellTyped.{IsScope}
@@ -98,6 +100,11 @@ module _ (C : Context) (x : List ℕ) (V : VarSorts) (scope : IsScope C V) where
   other_leaf ok k None t h = refl
   other_leaf ok k (Some y) t h = other_name ok k y t (front_false (bytes_eq x y) h)
 
+  -- the name of an except clause
+  other_caught : (ok : Bool) (k : Known) (y : Option (List ℕ)) → Absent (caught y) → seen (bind_name C ok k y (Some (Exc Exception))) ≡ seen k
+  other_caught ok k None h = refl
+  other_caught ok k (Some y) h = other_name ok k y (Some (Exc Exception)) (front_false (bytes_eq x y) h)
+
   other_leaves : (ok : Bool) (k : Known) (es : List ExprTree) (ts : List Sort) → Absent (flat_map leaf_bindings es) → seen (bind_names C ok k (map name_in es) ts) ≡ seen k
   other_leaves ok k [] ts h = refl
   other_leaves ok k (e ∷ es) [] h =
@@ -135,6 +142,12 @@ module _ (C : Context) (x : List ℕ) (V : VarSorts) (scope : IsScope C V) where
         let s = node.at (node.For target e body) span in
         let q = absent_two (target_bindings target) (suite_bindings body) h in
         other_block (in_for C k s span target e) body q.1 ∙ other_target (is_some (for_head C k span target e).got) (entering C k s) target (some_items (course C k e).got) q.0
+    other_node k span (node.Try body handlers last) h =
+        let names = outside_try C k (node.at (node.Try body handlers last) span) in
+        let end = block_after C k body in
+        let q = absent_two (suite_bindings body) (handlers_bindings handlers ++ last_bindings last) h in
+        let p = absent_two (handlers_bindings handlers) (last_bindings last) q.1 in
+        other_last names (handlers_after C names end handlers) last p.1 ∙ other_clauses names end handlers p.0 ∙ other_block k body q.0
     other_node k span _ h = refl
 
     pub other_block : (k : Known) (body : Suite) → Absent (suite_bindings body) → seen (block_after C k body) ≡ seen k
@@ -147,3 +160,16 @@ module _ (C : Context) (x : List ℕ) (V : VarSorts) (scope : IsScope C V) where
         let q = absent_two (suite_bindings body) (arms_bindings more) h in
         let end = block_after C (where_test C w.at true e) body in
         other_arms (behind_arm C w e (is_closed body) end) more q.1 ∙ other_block (where_test C w.at true e) body q.0
+
+    other_clauses : (names : List ℕ) (k : Known) (handlers : Handlers) → Absent (handlers_bindings handlers) → seen (handlers_after C names k handlers) ≡ seen k
+    other_clauses names k no_handlers h = refl
+    other_clauses names k (handler_then e y body span more) h =
+        let begun = with_names k names in
+        let inner = in_handler C begun span e y (is_last more) in
+        let q = absent_two (caught y) (suite_bindings body ++ handlers_bindings more) h in
+        let p = absent_two (suite_bindings body) (handlers_bindings more) q.1 in
+        other_clauses names (block_after C inner body) more p.1 ∙ other_block inner body p.0 ∙ other_caught (is_some (handler_head C begun span e y (is_last more)).got) begun y q.0
+
+    other_last : (names : List ℕ) (k : Known) (last : MaybeSuite) → Absent (last_bindings last) → seen (last_after C names k last) ≡ seen k
+    other_last names k no_suite h = refl
+    other_last names k (some_suite body) h = other_block (with_names k names) body h

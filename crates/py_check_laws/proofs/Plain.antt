@@ -18,7 +18,7 @@ use Rattle.py_check_signatures.specs.Headers.{header, header_said}
 use Rattle.py_check_signatures.specs.Definitions.{is_new, own_count, def_said}
 use Rattle.py_check_values.specs.Returns.{outside}
 use Rattle.py_check_places.specs.Places.{Known}
-use Rattle.py_check_statements.specs.Bodies.{is_definition, after, statement, block}
+use Rattle.py_check_statements.specs.Bodies.{nothing_around, is_definition, after, statement, block}
 use Rattle.py_check_definitions.specs.Definitions.{import_said, names_given, definition_said, definitions_said, refusal, or_refused}
 use Rattle.py_check.specs.Module.{walk_said}
 use Rattle.py_check_expressions_laws.proofs.Loud.{none_before, none_behind}
@@ -84,15 +84,15 @@ module _ (roles : Roles) (c : Context) where
   -- ---- along a module
 
   abbrev left : Known → Suite → Seen (List TypedStmt)
-  left k more = block c outside false k more
+  left k more = block c outside nothing_around k more
 
   -- what is said of a statement, and of those behind it
   said_splits : (k : Known) (x : StmtTree) (more : Suite) → (left k (s.stmt_then x more)).said ≡ (left k (s.stmt_then x s.no_stmts)).said ++ (left (after c k x) more).said
   said_splits k x more = by (is_definition x) refl
     where
-      by : (b : Bool) → is_definition x ≡ b → (if b then left k more else row_then (statement c outside false k x) (left (after c k x) more)).said ≡ (if b then left k s.no_stmts else row_then (statement c outside false k x) (left (after c k x) s.no_stmts)).said ++ (left (after c k x) more).said
+      by : (b : Bool) → is_definition x ≡ b → (if b then left k more else row_then (statement c outside nothing_around k x) (left (after c k x) more)).said ≡ (if b then left k s.no_stmts else row_then (statement c outside nothing_around k x) (left (after c k x) s.no_stmts)).said ++ (left (after c k x) more).said
       by true d = ap (λ y. (left y more).said) (sym (definition_after c k x d))
-      by false d = ap (λ l. l ++ (left (after c k x) more).said) (sym (append-nil (statement c outside false k x).said))
+      by false d = ap (λ l. l ++ (left (after c k x) more).said) (sym (append-nil (statement c outside nothing_around k x).said))
 
   -- a module of which the walk says nothing
   pub record IsWalked (earlier : List (List ℕ)) (k : Known) (m : Suite) : Type 0 where

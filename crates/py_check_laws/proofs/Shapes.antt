@@ -1,26 +1,27 @@
 -- How typed statements end, and what they bind, is how they end as they are written, and some of what they bind there.
-use Rattle.std.proofs.Common.{◌≡◌, ℕ, Bool, true, false, not, ◌&&◌, ◌||◌, List, [], ◌∷◌, ◌++◌, Option, Some, None, refl, ap, ap₂, sym, ◌∙◌, subst, if◌then◌else◌}
+use Rattle.std.proofs.Common.{◌≡◌, ℕ, Bool, true, false, not, ◌&&◌, ◌||◌, List, [], ◌∷◌, ◌++◌, Option, Some, None, refl, ap, ap₂, sym, ◌∙◌, subst, append_assoc, if◌then◌else◌}
 use Rattle.std.proofs.lemmas.Option.{same_Some}
 use Rattle.std.proofs.lemmas.Grind.{flat_map-append}
 use Rattle.std.proofs.lemmas.List.{append-nil}
 use Rattle.std.specs.List.{flat_map}
+use Rattle.value_core.specs.declared.exception.ExcClass.{ExcClass}
 use Rattle.py_syntax.specs.declared.token.Span.{Span}
 use Rattle.py_syntax.specs.declared.expression.BinOp.{BinOp}
 use Rattle.py_syntax.specs.Expressions as tree
 use Rattle.py_syntax.specs.Expressions.{ExprTree, ExprNode, at, ExprTrees, no_exprs, expr_then}
 use Rattle.py_syntax.specs.Statements as node
-use Rattle.py_syntax.specs.Statements.{StmtTree, StmtNode, Suite, no_stmts, stmt_then, Arms, no_arms, arm_then}
+use Rattle.py_syntax.specs.Statements.{StmtTree, StmtNode, Suite, no_stmts, stmt_then, Arms, no_arms, arm_then, Handlers, no_handlers, handler_then, MaybeSuite, no_suite, some_suite}
 use Rattle.py_typed.specs.Sorts as sort
 use Rattle.py_typed.specs.Sorts.{Sort}
 use Rattle.py_typed.specs.Expressions.{TypedExpr, type_of}
 use Rattle.py_typed.specs.Statements as act
-use Rattle.py_typed.specs.Statements.{TypedTarget, LocalTarget, GlobalTarget, ItemTarget, TypedStmt, TypedAct, TypedSuite, on_line, suite_of, arms_of}
+use Rattle.py_typed.specs.Statements.{TypedTarget, LocalTarget, GlobalTarget, ItemTarget, TypedStmt, TypedAct, TypedSuite, HandlerParts, on_line, suite_of, arms_of}
 use Rattle.py_typed.specs.Narrowing as typed
-use Rattle.py_typed.specs.Narrowing.{is_in, bound_by, bound_by_all, is_true_literal}
+use Rattle.py_typed.specs.Narrowing.{is_in, bound_by, bound_by_all, bound_by_name, is_true_literal}
 use Rattle.py_check_context.specs.declared.scope.Meaning.{Meaning}
 use Rattle.py_check_context.specs.declared.scope.Meaning.TheVariants as meaning
 use Rattle.py_check_context.specs.Context.{Context, free, test}
-use Rattle.py_check_flow.specs.Bindings.{Binding, bound, target_bindings, node_bindings, targets_bindings, name_in, marked, stmt_bindings, act_bindings, suite_bindings, arms_bindings}
+use Rattle.py_check_flow.specs.Bindings.{Binding, bound, target_bindings, node_bindings, targets_bindings, name_in, marked, caught, stmt_bindings, act_bindings, suite_bindings, arms_bindings, handlers_bindings, last_bindings}
 use Rattle.py_check_flow.specs.Closed as flow
 use Rattle.py_check_flow.specs.Closed.{is_true}
 use Rattle.py_check_messages.specs.Seen.{Seen, both, behind, rule, made}
@@ -31,20 +32,27 @@ use Rattle.py_check_operators.specs.Facts.{local_of}
 use Rattle.py_check_coercions.specs.Values.{truth}
 use Rattle.py_check_coercions.specs.Several.{with_part}
 use Rattle.py_check_values.specs.Returns.{ReturnSort, bare_return, value_return}
-use Rattle.py_check_places.specs.Places.{Known, is_bound, locals_among, where_test, entering, Way, setting_out, behind_arm}
+use Rattle.py_check_places.specs.Places.{Known, with_names, is_bound, locals_among, where_test, entering, Way, setting_out, behind_arm}
 use Rattle.py_check_places.specs.Shapes.{is_row, is_item, is_flat, leaves, node_leaves, row_leaves}
-use Rattle.py_check_targets.specs.Targets.{Aim, held, first, barred, unwritten, misplaced, target_of, targets_of, is_placed, name_aim, seen_aim, read_aim, assigned, declared, given, updated, annotation_fault, typed_at}
-use Rattle.py_check_targets.specs.Targets.{target_aims}
+use Rattle.py_check_values.specs.Aims.{Aim, held, first, barred, unwritten, misplaced}
+use Rattle.py_check_targets.specs.Targets.{target_of, targets_of, is_placed, name_aim, seen_aim, read_aim, assigned, declared, given, updated, annotation_fault, typed_at, target_aims, next_part, more_parts, beyond, aims_behind, bound_aims}
 use Rattle.py_check_assignments.specs.Assignments.{value_for, assigns, declares, annotated_value, gives_value, annotates_other, annotates, updates_one, updates_row, updates}
 use Rattle.py_check_loops.specs.Loops.{Course, numbers, value, course, head, loop_over, loop_of}
-use Rattle.py_check_loops.specs.Heads.{for_head, in_for}
-use Rattle.py_check_statements.specs.Bodies.{is_definition, condition, after, block_after, arms_after, return_wanted, returns, in_loop, statement, node_statement, block, branches}
+use Rattle.py_check_loops.specs.Heads.{for_head, in_for, some_items}
+use Rattle.py_check_exceptions.specs.Raises.{raises, asserts}
+use Rattle.py_check_exceptions.specs.Handlers.{name_target, handler_head, in_handler}
+use Rattle.py_check_statements.specs.Bodies.{is_definition, around_loop, around_clause, is_last, clause_of, present, try_of, condition, outside_try, after, block_after, arms_after, handlers_after, return_wanted, returns, in_loop, statement, node_statement, block, branches, clauses, maybe_block}
+use Rattle.py_check_statements.specs.declared.bodies.Around.{Around}
 use Rattle.py_check_expressions_laws.specs.WellTyped.{Within}
 use Rattle.py_check_expressions_laws.proofs.Inside.{within_none, within_append, in_left}
+use Rattle.py_check_laws.proofs.Deleted.{deleted_item}
+use Rattle.std.specs.Option.{option_map}
+use Rattle.py_check_laws.proofs.Looked.{looked_at, looked_behind}
 use Rattle.py_check_laws.proofs.Given.{made_given, both_given, rule_given, row_given, unless_ok}
 use Rattle.py_check_laws.proofs.Assigned.{leaves_one, assigned_is, given_is, updated_is, head_is}
 use Rattle.py_check_laws.proofs.Names.{within_itself}
-use Rattle.py_check_laws.proofs.Aims.{AimAt, beyond, AimsOf, aims_are, Held, held_local, held_global, held_item, aim_held, First, first_local, first_global, aim_first}
+use Rattle.py_check_laws.proofs.Aims.{AimAt, AimsOf, Held, held_local, held_global, held_item, aim_held, First, first_local, first_global, aim_first}
+use Rattle.py_check_laws.proofs.Exceptions.{Raised, raised_on, raised_class, raised_value, raise_given, assert_given, NameAt, head_given}
 use Rattle.py_check_laws.proofs.Literals.{heads, truth_literal}
 
 -- ---- the names of targets
@@ -93,7 +101,7 @@ loop_breaks : (ts : List TypedTarget) (w : Course) (body : TypedSuite) → typed
 loop_breaks ts (numbers a b) body = refl
 loop_breaks ts (value e) body = over_breaks ts (type_of e) e body
 
-loop_binds : (ts : List TypedTarget) (w : Course) (body : TypedSuite) → typed.bound_in (loop_of ts w body) ≡ bound_by_all ts ++ typed.bound_suite body
+pub loop_binds : (ts : List TypedTarget) (w : Course) (body : TypedSuite) → typed.bound_in (loop_of ts w body) ≡ bound_by_all ts ++ typed.bound_suite body
 loop_binds ts (numbers a b) body = refl
 loop_binds ts (value e) body = over_binds ts (type_of e) e body
 
@@ -109,6 +117,13 @@ definition_shape _ h = absurd (cc)
 pub no_part_given : {A B : Type 0} (o : Option A) (span : Span) (m : Rattle.py_check_messages.specs.Seen.Message) (b : B) → (with_part {A = A} {B = B} o (λ q. Rattle.py_check_messages.specs.Seen.fails span m)).got ≡ Some b → ⊥
 no_part_given None span m b h = cc
 no_part_given (Some a) span m b h = cc
+
+-- the parts of a `try` in the order of its typed form
+or_turned : (a b : Bool) → (a || b) ≡ (b || a)
+or_turned true true = refl
+or_turned true false = refl
+or_turned false true = refl
+or_turned false false = refl
 
 module _ (C : Context) where
   pub locals_two : (a b : List Binding) → locals_among C (a ++ b) ≡ locals_among C a ++ locals_among C b
@@ -144,17 +159,17 @@ module _ (C : Context) where
   aim_within k e (unwritten s) h = within_none (locals_among C (leaf_bindings e))
   aim_within k e (misplaced s) h = within_none (locals_among C (leaf_bindings e))
 
-  aims_within : (k : Known) (es : List ExprTree) (l : List Aim) → AimsOf C k es l → Within (bound_by_all (targets_of l)) (locals_among C (flat_map leaf_bindings es))
-  aims_within k [] [] h = within_none []
-  aims_within k [] (a ∷ l) h = absurd h
-  aims_within k (e ∷ es) [] h = absurd h
-  aims_within k (e ∷ es) (a ∷ l) h =
+  aims_within : (k : Known) (ts : Option (List Sort)) (es : List ExprTree) (l : List Aim) → AimsOf C k ts es l → Within (bound_by_all (targets_of l)) (locals_among C (flat_map leaf_bindings es))
+  aims_within k ts [] [] h = within_none []
+  aims_within k ts [] (a ∷ l) h = absurd h
+  aims_within k ts (e ∷ es) [] h = absurd h
+  aims_within k ts (e ∷ es) (a ∷ l) h =
       subst (λ z. Within z (locals_among C (flat_map leaf_bindings (e ∷ es)))) (sym (flat_map-append bound_by (target_of a) (targets_of l)))
       (subst (Within (bound_by_all (target_of a) ++ bound_by_all (targets_of l))) (sym (locals_two (leaf_bindings e) (flat_map leaf_bindings es)))
-      (within_append (bound_by_all (target_of a)) (bound_by_all (targets_of l)) (locals_among C (leaf_bindings e)) (locals_among C (flat_map leaf_bindings es)) (aim_within k e a h.here) (aims_within (beyond C k e) es l h.rest)))
+      (within_append (bound_by_all (target_of a)) (bound_by_all (targets_of l)) (locals_among C (leaf_bindings e)) (locals_among C (flat_map leaf_bindings es)) (aim_within k e a h.here) (aims_within (beyond C k (name_in e) (next_part ts)) (more_parts ts) es l h.rest)))
 
-  pub targets_within : (k : Known) (target : ExprTree) (l : List Aim) → (target_aims C k target).got ≡ Some l → Within (bound_by_all (targets_of l)) (locals_among C (target_bindings target))
-  targets_within k target l g = subst (λ bs. Within (bound_by_all (targets_of l)) (locals_among C bs)) (sym (target_leaves target)) (aims_within k (leaves target) l (aims_are C k (leaves target) l g))
+  pub targets_within : (k : Known) (target : ExprTree) (l : List Aim) (ts : Option (List Sort)) → AimsOf C k ts (leaves target) l → Within (bound_by_all (targets_of l)) (locals_among C (target_bindings target))
+  targets_within k target l ts a = subst (λ bs. Within (bound_by_all (targets_of l)) (locals_among C bs)) (sym (target_leaves target)) (aims_within k ts (leaves target) l a)
 
   -- ---- statements
 
@@ -178,15 +193,32 @@ module _ (C : Context) where
     pub breaks : typed.breaks_arms t ≡ flow.breaks_arms arms
     pub bound : Within (typed.bound_arms t) (locals_among C (arms_bindings arms))
 
+  pub record HandlersShape (handlers : Handlers) (t : act.Handlers) : Type 0 where
+    pub closed : typed.closed_handlers t ≡ flow.closed_handlers handlers
+    pub breaks : typed.breaks_handlers t ≡ flow.breaks_handlers handlers
+    pub bound : Within (typed.bound_handlers t) (locals_among C (handlers_bindings handlers))
+
+  pub record LastShape (last : MaybeSuite) (t : act.MaybeSuite) : Type 0 where
+    pub closed : typed.closed_last t ≡ flow.closed_last last
+    pub breaks : typed.breaks_last t ≡ flow.breaks_last last
+    pub bound : Within (typed.bound_last t) (locals_among C (last_bindings last))
+
   within_two : (xs ys : List ℕ) (a b : List Binding) → Within xs (locals_among C a) → Within ys (locals_among C b) → Within (xs ++ ys) (locals_among C (a ++ b))
   within_two xs ys a b v w = subst (Within (xs ++ ys)) (sym (locals_two a b)) (within_append xs ys (locals_among C a) (locals_among C b) v w)
 
+  within_three : (xs ys zs : List ℕ) (a b c : List Binding) → Within xs (locals_among C a) → Within ys (locals_among C b) → Within zs (locals_among C c) → Within ((xs ++ ys) ++ zs) (locals_among C (a ++ (b ++ c)))
+  within_three xs ys zs a b c u v w =
+      subst (λ l. Within l (locals_among C (a ++ (b ++ c)))) (sym (append_assoc xs ys zs)) (within_two xs (ys ++ zs) a (b ++ c) u (within_two ys zs b c v w))
+
   assign_shape : (k : Known) (span : Span) (target e : ExprTree) (a : TypedAct) → (assigns C k span target e).got ≡ Some a → ActShape (node.Assign target e) a
   assign_shape k span target e a h =
-      let r = rule_given span (assigned C.classes target) (both (target_aims C k target) (value_for C k target e)) a h in
-      let b = both_given (target_aims C k target) (value_for C k target e) r.0 r.1 in
+      let value = value_for C k target e in
+      let targets = bound_aims C k target (option_map type_of value.got) in
+      let r = rule_given span (assigned C.classes target) (both targets value) a h in
+      let b = both_given targets value r.0 r.1 in
       let d = assigned_is C.classes target r.0 a r.2 in
-      subst (ActShape (node.Assign target e)) d.is (record { closes = refl; breaks = refl; bound = targets_within k target r.0.0 b.0 })
+      let looked = looked_at C k target r.0.0 (option_map type_of value.got) (type_of r.0.1) b.0 (ap (option_map type_of) b.1) in
+      subst (ActShape (node.Assign target e)) d.is (record { closes = refl; breaks = refl; bound = targets_within k target r.0.0 looked.parts looked.aims })
 
   named_within : (target mark : ExprTree) (x : List ℕ) (xs : List ℕ) → name_in target ≡ Some x → Within xs (locals_among C (leaf_bindings target)) → Within xs (locals_among C (marked (name_in target) target mark))
   named_within target mark x xs n w = subst (Within xs) (ap (λ o. locals_among C (named o)) n ∙ sym (ap (λ o. locals_among C (marked o target mark)) n)) w
@@ -212,7 +244,7 @@ module _ (C : Context) where
   one_bound : (t : TypedTarget) (more l : List TypedTarget) (ys : List ℕ) → l ≡ t ∷ more → Within (bound_by_all l) ys → Within (bound_by t) ys
   one_bound t more l ys q w x e = w x (subst (λ z. is_in (bound_by_all z) x ≡ true) (sym q) (in_left (bound_by t) (bound_by_all more) x e))
 
-  one_target : (target : ExprTree) → is_row target ≡ false → target_bindings target ≡ leaf_bindings target
+  pub one_target : (target : ExprTree) → is_row target ≡ false → target_bindings target ≡ leaf_bindings target
   one_target target q = target_leaves target ∙ ap (flat_map leaf_bindings) (leaves_one target q) ∙ append-nil (leaf_bindings target)
 
   update_shape : (k : Known) (span : Span) (target : ExprTree) (op : BinOp) (e : ExprTree) (a : TypedAct) → is_row target ≡ false → (updates_one C k span target op e).got ≡ Some a → ActShape (node.Aug target op e) a
@@ -278,8 +310,53 @@ module _ (C : Context) where
     bound = subst (λ xs. Within xs (locals_among C (act_bindings (node.For target e body)))) (sym (loop_binds ts w t)) (within_two (bound_by_all ts) (typed.bound_suite t) (target_bindings target) (suite_bindings body) b h.bound);
   }
 
+  clause_step : (e : Option ExprTree) (x : Option (List ℕ)) (body : Suite) (span : Span) (more : Handlers) (classes : List ExcClass) (name : Option TypedTarget) (ts : TypedSuite) (rest : act.Handlers) → Within (bound_by_name name) (locals_among C (caught x)) → SuiteShape body ts → HandlersShape more rest
+      → HandlersShape (handler_then e x body span more) (act.handler_then classes name ts rest)
+  clause_step e x body span more classes name ts rest b h r = record {
+    closed = ap₂ (λ (a b : Bool). a && b) h.closed r.closed;
+    breaks = ap₂ (λ (a b : Bool). a || b) h.breaks r.breaks;
+    bound = within_three (bound_by_name name) (typed.bound_suite ts) (typed.bound_handlers rest) (caught x) (suite_bindings body) (handlers_bindings more) b h.bound r.bound;
+  }
+
+  try_shape : (body : Suite) (handlers : Handlers) (last : MaybeSuite) (t : TypedSuite) (hs : act.Handlers) (l : act.MaybeSuite) → SuiteShape body t → HandlersShape handlers hs → LastShape last l → ActShape (node.Try body handlers last) (act.Try t hs l)
+  try_shape body handlers last t hs l h r s = record {
+    closes = ap₂ (λ (a b : Bool). a || b) s.closed (ap₂ (λ (a b : Bool). a && b) h.closed r.closed) ∙ or_turned (flow.closed_last last) (flow.is_closed body && flow.closed_handlers handlers);
+    breaks = ap₂ (λ (a b : Bool). a || b) (ap₂ (λ (a b : Bool). a || b) h.breaks r.breaks) s.breaks;
+    bound = within_three (typed.bound_suite t) (typed.bound_handlers hs) (typed.bound_last l) (suite_bindings body) (handlers_bindings handlers) (last_bindings last) h.bound r.bound s.bound;
+  }
+
+  -- ---- names of except clauses
+
+  name_bound : (a : Aim) (ys : List ℕ) → Within (bound_by_all (target_of a)) ys → Within (bound_by_name (name_target (Some a))) ys
+  name_bound (held t s) ys w = one_bound t [] (t ∷ []) ys refl w
+  name_bound (first t x) ys w = one_bound t [] (t ∷ []) ys refl w
+  name_bound (barred x) ys w = within_none ys
+  name_bound (unwritten s) ys w = within_none ys
+  name_bound (misplaced s) ys w = within_none ys
+
+  name_within : (k : Known) (span : Span) (x : Option (List ℕ)) (a : Option Aim) → NameAt C k span x a → Within (bound_by_name (name_target a)) (locals_among C (caught x))
+  name_within k span None a n = subst (λ o. Within (bound_by_name (name_target o)) (locals_among C (caught None))) n (within_none [])
+  name_within k span (Some x) a n =
+      subst (λ o. Within (bound_by_name (name_target o)) (locals_among C (caught (Some x)))) n.2
+      (name_bound n.0 (locals_among C (caught (Some x))) (aim_within k (at (tree.Name x) span) n.0 n.1))
+
+  clause_within : (k : Known) (span : Span) (e : Option ExprTree) (x : Option (List ℕ)) (last : Bool) (p : List ExcClass × Option TypedTarget) → (handler_head C k span e x last).got ≡ Some p → Within (bound_by_name p.1) (locals_among C (caught x))
+  clause_within k span e x last p h =
+      let g = head_given C k span e x last p h in subst (λ o. Within (bound_by_name o) (locals_among C (caught x))) g.target (name_within k span x g.aim g.name)
+
   plain_shape : (n : StmtNode) (a b : TypedAct) → typed.closes_in a ≡ flow.closes_in n → typed.breaks_in a ≡ flow.breaks_in n → typed.bound_in a ≡ [] → a ≡ b → ActShape n b
   plain_shape n a b c d e q = subst (ActShape n) q (record { closes = c; breaks = d; bound = subst (λ xs. Within xs (locals_among C (act_bindings n))) (sym e) (within_none (locals_among C (act_bindings n))) })
+
+  raise_shape : (handling : Bool) (k : Known) (span : Span) (e : Option ExprTree) (a : TypedAct) → (raises C handling k span e).got ≡ Some a → ActShape (node.Raise e) a
+  raise_shape handling k span e a h = by (raise_given C handling k span e a h)
+    where
+      by : Raised C handling k e a → ActShape (node.Raise e) a
+      by (raised_on q is) = plain_shape (node.Raise e) (act.Raise None) a refl refl refl is
+      by (raised_class place x is) = plain_shape (node.Raise e) (act.Raise (Some (Rattle.py_check_exceptions.specs.Raises.exception_of place x))) a refl refl refl is
+      by (raised_value v t p g x is) = plain_shape (node.Raise e) (act.Raise (Some t)) a refl refl refl is
+
+  assert_shape : (k : Known) (span : Span) (e : ExprTree) (text : Option ExprTree) (a : TypedAct) → (asserts C k span e text).got ≡ Some a → ActShape (node.Assert e text) a
+  assert_shape k span e text a h = let g = assert_given C k span e text a h in plain_shape (node.Assert e text) (act.Assert g.test g.message) a refl refl refl g.is
 
   module _ (r : ReturnSort) where
     return_shape : (k : Known) (span : Span) (e : Option ExprTree) (a : TypedAct) → (returns C r k span e).got ≡ Some a → ActShape (node.Return e) a
@@ -294,12 +371,15 @@ module _ (C : Context) where
 
     head_within : (k : Known) (span : Span) (target e : ExprTree) (p : List TypedTarget × Course) → (for_head C k span target e).got ≡ Some p → Within (bound_by_all p.0) (locals_among C (target_bindings target))
     head_within k span target e p h =
-        let parts = both (target_aims C k target) (course C k e) in
+        let over = course C k e in
+        let targets = aims_behind C k target (some_items over.got) in
+        let parts = both targets over in
         let q = made_given (λ (z : List Aim × Course). (targets_of z.0, z.1)) (rule span (head C.classes (is_flat target) (is_row target)) parts) p h in
         let g = rule_given span (head C.classes (is_flat target) (is_row target)) parts q.0 q.1 in
-        let b = both_given (target_aims C k target) (course C k e) g.0 g.1 in
+        let b = both_given targets over g.0 g.1 in
         let d = head_is C.classes target g.0 q.0 g.2 in
-        subst (λ (z : List TypedTarget × Course). Within (bound_by_all z.0) (locals_among C (target_bindings target))) (ap (λ (z : List Aim × Course). (targets_of z.0, z.1)) d.1 ∙ q.2) (targets_within k target g.0.0 b.0)
+        let looked = looked_behind C k target g.0.0 (some_items over.got) d.0.item b.0 (ap some_items b.1 ∙ d.0.items) in
+        subst (λ (z : List TypedTarget × Course). Within (bound_by_all z.0) (locals_among C (target_bindings target))) (ap (λ (z : List Aim × Course). (targets_of z.0, z.1)) d.1 ∙ q.2) (targets_within k target g.0.0 looked.parts looked.aims)
 
     suite_step : (s : StmtTree) (more : Suite) (same : Seen (List TypedStmt)) (one : Seen TypedStmt) (rest : Seen (List TypedStmt)) (ts : List TypedStmt) (b : Bool) → is_definition s ≡ b → (same.got ≡ Some ts → SuiteShape more (suite_of ts)) → ((t : TypedStmt) → one.got ≡ Some t → StmtShape s t)
         → ((l : List TypedStmt) → rest.got ≡ Some l → SuiteShape more (suite_of l)) → (if b then same else row_then one rest).got ≡ Some ts → SuiteShape (stmt_then s more) (suite_of ts)
@@ -309,64 +389,99 @@ module _ (C : Context) where
         subst (λ l. SuiteShape (stmt_then s more) (suite_of l)) q.4 (stmt_step s more q.0 (suite_of q.1) (g q.0 q.2) (i q.1 q.3))
 
     mutual
-      shape_stmt : (loops : Bool) (k : Known) (s : StmtTree) (t : TypedStmt) → (statement C r loops k s).got ≡ Some t → StmtShape s t
-      shape_stmt loops k (node.at n span) t h =
-          let q = made_given (λ a. on_line a span.line) (node_statement C r loops k span n) t h in
-          let d = shape_act loops k span n q.0 q.1 in
+      shape_stmt : (around : Around) (k : Known) (s : StmtTree) (t : TypedStmt) → (statement C r around k s).got ≡ Some t → StmtShape s t
+      shape_stmt around k (node.at n span) t h =
+          let q = made_given (λ a. on_line a span.line) (node_statement C r around k span n) t h in
+          let d = shape_act around k span n q.0 q.1 in
           subst (StmtShape (node.at n span)) q.2 (record { closes = d.closes; breaks = d.breaks; bound = d.bound })
 
-      pub shape_act : (loops : Bool) (k : Known) (span : Span) (n : StmtNode) (a : TypedAct) → (node_statement C r loops k span n).got ≡ Some a → ActShape n a
-      shape_act loops k span (node.Do e) a h = let q = made_given act.Do (typed_at C k _ e) a h in plain_shape (node.Do e) (act.Do q.0) a refl refl refl q.2
-      shape_act loops k span (node.Assign target e) a h = assign_shape k span target e a h
-      shape_act loops k span (node.Annot target mark e) a h = annotated_shape k span (name_in target) target mark e a refl h
-      shape_act loops k span (node.Aug target op e) a h = updates_shape k span target op e a h
-      shape_act loops k span (node.Return e) a h = return_shape k span e a h
-      shape_act loops k span node.Pass a h = plain_shape node.Pass act.Pass a refl refl refl (same_Some act.Pass a h)
-      shape_act loops k span (node.Global names) a h = plain_shape (node.Global names) act.Pass a refl refl refl (same_Some act.Pass a h)
-      shape_act loops k span node.Break a h = break_shape loops span _ node.Break act.Break a refl refl refl h
-      shape_act loops k span node.Continue a h = break_shape loops span _ node.Continue act.Continue a refl refl refl h
-      shape_act loops k span (node.If arms other) a h =
+      pub shape_act : (around : Around) (k : Known) (span : Span) (n : StmtNode) (a : TypedAct) → (node_statement C r around k span n).got ≡ Some a → ActShape n a
+      shape_act around k span (node.Do e) a h = let q = made_given act.Do (typed_at C k _ e) a h in plain_shape (node.Do e) (act.Do q.0) a refl refl refl q.2
+      shape_act around k span (node.Assign target e) a h = assign_shape k span target e a h
+      shape_act around k span (node.Annot target mark e) a h = annotated_shape k span (name_in target) target mark e a refl h
+      shape_act around k span (node.Aug target op e) a h = updates_shape k span target op e a h
+      shape_act around k span (node.Del e) a h =
+          let d = (deleted_item C k span e a h).2 in plain_shape (node.Del e) (act.Del d.held d.key) a refl refl refl d.made
+      shape_act around k span (node.Return e) a h = return_shape k span e a h
+      shape_act around k span node.Pass a h = plain_shape node.Pass act.Pass a refl refl refl (same_Some act.Pass a h)
+      shape_act around k span (node.Global names) a h = plain_shape (node.Global names) act.Pass a refl refl refl (same_Some act.Pass a h)
+      shape_act around k span node.Break a h = break_shape around.looping span _ node.Break act.Break a refl refl refl h
+      shape_act around k span node.Continue a h = break_shape around.looping span _ node.Continue act.Continue a refl refl refl h
+      shape_act around k span (node.If arms other) a h =
           let w = arms_after C (setting_out k) arms in
-          let s = branches C r loops (setting_out k) arms in
-          let t = block C r loops w.at other in
+          let s = branches C r around (setting_out k) arms in
+          let t = block C r around w.at other in
           let q = made_given (λ p. act.If (arms_of p.0) (suite_of p.1)) (both s t) a h in
           let b = both_given s t q.0 q.1 in
-          subst (ActShape (node.If arms other)) q.2 (if_shape arms other (arms_of q.0.0) (suite_of q.0.1) (shape_arms loops (setting_out k) arms q.0.0 b.0) (shape_block loops w.at other q.0.1 b.1))
-      shape_act loops k span (node.While e body) a h =
+          subst (ActShape (node.If arms other)) q.2 (if_shape arms other (arms_of q.0.0) (suite_of q.0.1) (shape_arms around (setting_out k) arms q.0.0 b.0) (shape_block around w.at other q.0.1 b.1))
+      shape_act around k span (node.While e body) a h =
           let l = entering C k (node.at (node.While e body) span) in
           let s = condition C l e in
-          let t = block C r true (where_test C l true e) body in
+          let t = block C r (around_loop around) (where_test C l true e) body in
           let q = made_given (λ p. act.While p.0 (suite_of p.1)) (both s t) a h in
           let b = both_given s t q.0 q.1 in
           let v = made_given truth (typed_at C l test e) q.0.0 b.0 in
-          subst (ActShape (node.While e body)) q.2 (while_shape e body q.0.0 (suite_of q.0.1) (ap is_true_literal (sym v.2) ∙ truth_literal e v.0 ((heads C l.types test l.names e).each v.0 v.1)) (shape_block true (where_test C l true e) body q.0.1 b.1))
-      shape_act loops k span (node.For target e body) a h =
+          subst (ActShape (node.While e body)) q.2 (while_shape e body q.0.0 (suite_of q.0.1) (ap is_true_literal (sym v.2) ∙ truth_literal e v.0 ((heads C l.types test l.names e).each v.0 v.1)) (shape_block (around_loop around) (where_test C l true e) body q.0.1 b.1))
+      shape_act around k span (node.For target e body) a h =
           let here = node.at (node.For target e body) span in
           let s = for_head C k span target e in
           let l = in_for C k here span target e in
-          let t = block C r true l body in
+          let t = block C r (around_loop around) l body in
           let q = made_given (λ p. loop_of p.0.0 p.0.1 (suite_of p.1)) (both s t) a h in
           let b = both_given s t q.0 q.1 in
-          subst (ActShape (node.For target e body)) q.2 (for_shape target e body q.0.0.0 q.0.0.1 (suite_of q.0.1) (head_within k span target e q.0.0 b.0) (shape_block true l body q.0.1 b.1))
-      shape_act loops k span _ a h = absurd (cc)
+          subst (ActShape (node.For target e body)) q.2 (for_shape target e body q.0.0.0 q.0.0.1 (suite_of q.0.1) (head_within k span target e q.0.0 b.0) (shape_block (around_loop around) l body q.0.1 b.1))
+      shape_act around k span (node.Raise e) a h = raise_shape around.handling k span e a h
+      shape_act around k span (node.Assert e text) a h = assert_shape k span e text a h
+      shape_act around k span (node.Try body handlers last) a h =
+          let names = outside_try C k (node.at (node.Try body handlers last) span) in
+          let l = block_after C k body in
+          let s = block C r around k body in
+          let t = clauses C r around names l handlers in
+          let u = maybe_block C r around names (handlers_after C names l handlers) last in
+          let q = made_given try_of (both (both s t) u) a h in
+          let b = both_given (both s t) u q.0 q.1 in
+          let d = both_given s t q.0.0 b.0 in
+          subst (ActShape (node.Try body handlers last)) q.2
+          (try_shape body handlers last (suite_of q.0.0.0) (act.handlers_of q.0.0.1) (act.maybe_suite (option_map suite_of q.0.1)) (shape_block around k body q.0.0.0 d.0) (shape_clauses around names l handlers q.0.0.1 d.1) (shape_last around names (handlers_after C names l handlers) last q.0.1 b.1))
+      shape_act around k span _ a h = absurd (cc)
 
-      pub shape_block : (loops : Bool) (k : Known) (body : Suite) (ts : List TypedStmt) → (block C r loops k body).got ≡ Some ts → SuiteShape body (suite_of ts)
-      shape_block loops k no_stmts ts h = subst (λ l. SuiteShape no_stmts (suite_of l)) (same_Some [] ts h) (record { closed = refl; breaks = refl; bound = within_none [] })
-      shape_block loops k (stmt_then s more) ts h =
-          let one = statement C r loops k s in
-          let rest = block C r loops (after C k s) more in
-          suite_step s more (block C r loops k more) one rest ts (is_definition s) refl (λ q. shape_block loops k more ts q) (λ t q. shape_stmt loops k s t q) (λ l q. shape_block loops (after C k s) more l q) h
+      pub shape_block : (around : Around) (k : Known) (body : Suite) (ts : List TypedStmt) → (block C r around k body).got ≡ Some ts → SuiteShape body (suite_of ts)
+      shape_block around k no_stmts ts h = subst (λ l. SuiteShape no_stmts (suite_of l)) (same_Some [] ts h) (record { closed = refl; breaks = refl; bound = within_none [] })
+      shape_block around k (stmt_then s more) ts h =
+          let one = statement C r around k s in
+          let rest = block C r around (after C k s) more in
+          suite_step s more (block C r around k more) one rest ts (is_definition s) refl (λ q. shape_block around k more ts q) (λ t q. shape_stmt around k s t q) (λ l q. shape_block around (after C k s) more l q) h
 
-      shape_arms : (loops : Bool) (w : Way) (arms : Arms) (l : List (TypedExpr × TypedSuite)) → (branches C r loops w arms).got ≡ Some l → ArmsShape arms (arms_of l)
-      shape_arms loops w no_arms l h = subst (λ z. ArmsShape no_arms (arms_of z)) (same_Some [] l h) (record { closed = refl; breaks = refl; bound = within_none [] })
-      shape_arms loops w (arm_then e body more) l h =
+      shape_arms : (around : Around) (w : Way) (arms : Arms) (l : List (TypedExpr × TypedSuite)) → (branches C r around w arms).got ≡ Some l → ArmsShape arms (arms_of l)
+      shape_arms around w no_arms l h = subst (λ z. ArmsShape no_arms (arms_of z)) (same_Some [] l h) (record { closed = refl; breaks = refl; bound = within_none [] })
+      shape_arms around w (arm_then e body more) l h =
           let s = condition C w.at e in
           let inner = where_test C w.at true e in
-          let t = block C r loops inner body in
+          let t = block C r around inner body in
           let next = behind_arm C w e (flow.is_closed body) (block_after C inner body) in
           let one = made (λ p. (p.0, suite_of p.1)) (both s t) in
-          let q = row_given one (branches C r loops next more) l h in
+          let q = row_given one (branches C r around next more) l h in
           let v = made_given (λ p. (p.0, suite_of p.1)) (both s t) q.0 q.2 in
           let b = both_given s t v.0 v.1 in
           subst (λ z. ArmsShape (arm_then e body more) (arms_of z)) q.4 (subst (λ (z : TypedExpr × TypedSuite). ArmsShape (arm_then e body more) (arms_of (z ∷ q.1))) v.2
-          (arm_step e body more v.0.0 (suite_of v.0.1) (arms_of q.1) (shape_block loops inner body v.0.1 b.1) (shape_arms loops next more q.1 q.3)))
+          (arm_step e body more v.0.0 (suite_of v.0.1) (arms_of q.1) (shape_block around inner body v.0.1 b.1) (shape_arms around next more q.1 q.3)))
+
+      shape_clauses : (around : Around) (names : List ℕ) (k : Known) (handlers : Handlers) (l : List HandlerParts) → (clauses C r around names k handlers).got ≡ Some l → HandlersShape handlers (act.handlers_of l)
+      shape_clauses around names k no_handlers l h = subst (λ z. HandlersShape no_handlers (act.handlers_of z)) (same_Some [] l h) (record { closed = refl; breaks = refl; bound = within_none [] })
+      shape_clauses around names k (handler_then e x body span more) l h =
+          let begun = in_handler C (with_names k names) span e x (is_last more) in
+          let s = handler_head C (with_names k names) span e x (is_last more) in
+          let t = block C r (around_clause around) begun body in
+          let q = row_given (made clause_of (both s t)) (clauses C r around names (block_after C begun body) more) l h in
+          let v = made_given clause_of (both s t) q.0 q.2 in
+          let b = both_given s t v.0 v.1 in
+          subst (λ z. HandlersShape (handler_then e x body span more) (act.handlers_of z)) q.4 (subst (λ (z : HandlerParts). HandlersShape (handler_then e x body span more) (act.handlers_of (z ∷ q.1))) v.2
+          (clause_step e x body span more v.0.0.0 v.0.0.1 (suite_of v.0.1) (act.handlers_of q.1) (clause_within (with_names k names) span e x (is_last more) v.0.0 b.0) (shape_block (around_clause around) begun body v.0.1 b.1)
+          (shape_clauses around names (block_after C begun body) more q.1 q.3)))
+
+      shape_last : (around : Around) (names : List ℕ) (k : Known) (last : MaybeSuite) (o : Option (List TypedStmt)) → (maybe_block C r around names k last).got ≡ Some o → LastShape last (act.maybe_suite (option_map suite_of o))
+      shape_last around names k no_suite o h = subst (λ z. LastShape no_suite (act.maybe_suite (option_map suite_of z))) (same_Some None o h) (record { closed = refl; breaks = refl; bound = within_none [] })
+      shape_last around names k (some_suite body) o h =
+          let q = made_given present (block C r around (with_names k names) body) o h in
+          let g = shape_block around (with_names k names) body q.0 q.1 in
+          subst (λ z. LastShape (some_suite body) (act.maybe_suite (option_map suite_of z))) q.2 (record { closed = g.closed; breaks = g.breaks; bound = g.bound })

@@ -26,19 +26,21 @@ use Rattle.py_check_context.specs.Context.{Context, VarSort, unset, untyped, has
 use Rattle.py_check_flow.specs.Bindings.{name_in}
 use Rattle.py_check_coercions.specs.Values.{place_of, coerced}
 use Rattle.py_check_calls.specs.Callees.{is_variable}
-use Rattle.py_check_values.specs.Assignments.{first_refused, first_itemless}
-use Rattle.py_check_places.specs.Places.{Known, is_unset, fix, first_type, bind_variable, bind_name, bind_names}
-use Rattle.py_check_targets.specs.Targets.{Aim, held, first, barred, unwritten, misplaced, slot_of, targets_of, is_written, again_fault, parts_fault}
+use Rattle.py_check_values.specs.Aims.{Aim, held, first, barred, unwritten, misplaced}
+use Rattle.py_check_values.specs.Assignments.{first_barred, first_unwritten}
+use Rattle.py_check_places.specs.Places.{Known, is_unset, fix, first_type, bind_variable, bind_name, bind_names, is_plain}
+use Rattle.py_check_targets.specs.Targets.{targets_of, is_written, again_fault, parts_fault, next_part, more_parts, beyond}
 use Rattle.py_check_expressions_laws.specs.WellTyped as law
 use Rattle.py_check_expressions_laws.specs.WellTyped.{Describes, Within}
 use Rattle.py_check_expressions_laws.proofs.Types.{clash}
 use Rattle.py_check_expressions_laws.proofs.Stands.{parts_of_stands}
 use Rattle.py_check_laws.specs.Variables.{sort_in, is_there}
+use Rattle.py_check_laws.proofs.Looked.{Fair}
 use Rattle.py_check_laws.specs.WellTyped.{IsScope}
 use Rattle.py_check.proofs.Kept.{fix_set, fix_open, fix_first, Follows, follows_on, follows_name, follows_names, is_open, bind_set}
 use Rattle.py_check_laws.proofs.Assigned.{first_none}
 use Rattle.py_check_laws.proofs.Names.{within_kept}
-use Rattle.py_check_laws.proofs.Aims.{beyond, AimsOf, Held, held_local, held_global, held_item, aim_held, First, first_local, first_global, aim_first, first_name, Aimed, held_aimed, first_aimed, aimed_bound, aimed_behind}
+use Rattle.py_check_laws.proofs.Aims.{AimsOf, Held, held_local, held_global, held_item, aim_held, First, first_local, first_global, aim_first, first_name, Aimed, held_aimed, first_aimed, aimed_bound, aimed_behind}
 use Rattle.py_check_laws.proofs.Values.{scene, declared_there, part_fits, item_at_place}
 use Rattle.py_check_laws.proofs.Closed.{scope_there, scope_on, open_follows}
 
@@ -301,9 +303,18 @@ module _ (means : List ℕ → Meaning) (signatures : List (Option Signature)) (
   near_item names others e es (inl w) n = w
   near_item names others e es (inr h) n = clash (is_named e) (and_left (is_named e) (list_all is_named es) h) (ap is_some n)
 
-  near_rest : (k : Known) (e : ExprTree) (es : List ExprTree) (target : TypedTarget) (s : Sort) (others : List ℕ) → Aimed here e target → Near k.names others (e ∷ es) → Near (beyond here k e).names (after_target others target s) es
-  near_rest k e es target s others a (inl w) = inl (aimed_behind here e target a k s others w)
-  near_rest k e es target s others a (inr h) = inr (and_right (is_named e) (list_all is_named es) h)
+  near_rest : (k : Known) (e : ExprTree) (es : List ExprTree) (target : TypedTarget) (t : Option Sort) (s : Sort) (others : List ℕ) → Aimed here e target → (is_plain t ≡ true → may_be_none s ≡ false) → Near k.names others (e ∷ es) → Near (beyond here k (name_in e) t).names (after_target others target s) es
+  near_rest k e es target t s others a p (inl w) = inl (aimed_behind here e target a k t s others w p)
+  near_rest k e es target t s others a p (inr h) = inr (and_right (is_named e) (list_all is_named es) h)
+
+  -- the part that a target takes, and those behind it
+  next_plain : (o : Option (List Sort)) (t : Sort) (ts : List Sort) → Fair o (t ∷ ts) → is_plain (next_part o) ≡ true → may_be_none t ≡ false
+  next_plain None t ts f p = absurd (cc)
+  next_plain (Some ss) t ts f p = not_true (may_be_none t) (subst (λ z. is_plain (next_part (Some z)) ≡ true) f p)
+
+  more_fair : (o : Option (List Sort)) (t : Sort) (ts : List Sort) → Fair o (t ∷ ts) → Fair (more_parts o) ts
+  more_fair None t ts f = tt
+  more_fair (Some ss) t ts f = subst (λ z. Fair (more_parts (Some z)) ts) (sym f) refl
 
   -- a target that has a type keeps it
   held_kept : (k0 k : Known) (e : ExprTree) (target : TypedTarget) (t : Sort) (o : Option Sort) → Held here k0 e target t → Follows k0.types k.types → (bind_name here true k (name_in e) o).types ≡ k.types
@@ -325,27 +336,27 @@ module _ (means : List ℕ → Meaning) (signatures : List (Option Signature)) (
   one_less a b h = cc
 
   -- SEVERAL TARGETS that were looked at in one place, and are bound one behind the other to parts that fit them
-  pub rows : (k0 : Known) → Describes here k0.types m locals → (es : List ExprTree) (l : List Aim) (ts : List Sort) (seen : Seen) (k : Known) (others : List ℕ) → Follows k0.types k.types → IsScope here k.types → Given here k0.types k.types seen → Within k.names others → Near k0.names others es → AimsOf here k0 es l
-      → list_all law.is_written es ≡ true → first_refused (map slot_of l) ≡ None → first_itemless (map slot_of l) ≡ None → parts_fault m.classes.classes seen l ts ≡ None → length ts ≡ length l
+  pub rows : (k0 : Known) → Describes here k0.types m locals → (es : List ExprTree) (l : List Aim) (parts : Option (List Sort)) (ts : List Sort) → Fair parts ts → (seen : Seen) (k : Known) (others : List ℕ) → Follows k0.types k.types → IsScope here k.types → Given here k0.types k.types seen → Within k.names others → Near k0.names others es → AimsOf here k0 parts es l
+      → list_all law.is_written es ≡ true → first_barred l ≡ None → first_unwritten l ≡ None → parts_fault m.classes.classes seen l ts ≡ None → length ts ≡ length l
       → Describes here (bind_names here true k (map name_in es) ts).types m locals → RowStands others l ts (bind_names here true k (map name_in es) ts).names
-  rows k0 D [] [] [] seen k others f s g w near a wr ref less part n E = record { typed = refl; fit = refl; types = refl; names = within_kept k.names others w }
-  rows k0 D [] [] (t ∷ ts) seen k others f s g w near a wr ref less part n E = absurd (cc)
-  rows k0 D [] (x ∷ l) ts seen k others f s g w near a wr ref less part n E = absurd a
-  rows k0 D (e ∷ es) [] ts seen k others f s g w near a wr ref less part n E = absurd a
-  rows k0 D (e ∷ es) (x ∷ l) [] seen k others f s g w near a wr ref less part n E = absurd (cc)
-  rows k0 D (e ∷ es) (held target r ∷ l) (t ∷ ts) seen k others f s g w near a wr ref less part n E =
+  rows k0 D [] [] parts [] fair seen k others f s g w near a wr ref less part n E = record { typed = refl; fit = refl; types = refl; names = within_kept k.names others w }
+  rows k0 D [] [] parts (t ∷ ts) fair seen k others f s g w near a wr ref less part n E = absurd (cc)
+  rows k0 D [] (x ∷ l) parts ts fair seen k others f s g w near a wr ref less part n E = absurd a
+  rows k0 D (e ∷ es) [] parts ts fair seen k others f s g w near a wr ref less part n E = absurd a
+  rows k0 D (e ∷ es) (x ∷ l) parts [] fair seen k others f s g w near a wr ref less part n E = absurd (cc)
+  rows k0 D (e ∷ es) (held target r ∷ l) parts (t ∷ ts) fair seen k others f s g w near a wr ref less part n E =
       let k1 = bind_name here true k (name_in e) (Some t) in
       let h = aim_held here k0 e target r a.here in
       let p = first_none (again_fault m.classes.classes (Some r) t) (parts_fault m.classes.classes seen l ts) part in
       let st = held_stands k0 D e (λ q. and_left (law.is_written e) (list_all law.is_written es) wr) target r h others (near_item k0.names others e es near) in
       let w1 = aimed_bound here e target (held_aimed here k0 e target r h) true k (Some t) t others w (λ q. not_true (may_be_none t) q) in
-      let rest = rows (beyond here k0 e) D es l ts seen k1 (after_target others target t) (follows_on k0.types k.types k1.types f (follows_name here true k (name_in e) (Some t))) (scope_on here k.types k1.types (follows_name here true k (name_in e) (Some t)) s)
+      let rest = rows (beyond here k0 (name_in e) (next_part parts)) D es l (more_parts parts) ts (more_fair parts t ts fair) seen k1 (after_target others target t) (follows_on k0.types k.types k1.types f (follows_name here true k (name_in e) (Some t))) (scope_on here k.types k1.types (follows_name here true k (name_in e) (Some t)) s)
       (given_same here k0.types k.types k1.types seen (held_kept k0 k e target r (Some t) h f) g) w1
-      (near_rest k0 e es target t others (held_aimed here k0 e target r h) near)
+      (near_rest k0 e es target (next_part parts) t others (held_aimed here k0 e target r h) (next_plain parts t ts fair) near)
       a.rest (and_right (law.is_written e) (list_all law.is_written es) wr) ref less p.1 (one_less (length ts) (length l) n) E in
       let q = in_front others target (targets_of l) r t ts st (part_fits m.classes.classes t r p.0) rest.typed rest.fit in
       record { typed = q.0; fit = q.1; types = type_in_front others target (targets_of l) r st rest.types; names = rest.names }
-  rows k0 D (e ∷ es) (first target y ∷ l) (t ∷ ts) seen k others f s g w near a wr ref less part n E =
+  rows k0 D (e ∷ es) (first target y ∷ l) parts (t ∷ ts) fair seen k others f s g w near a wr ref less part n E =
       let k1 = bind_name here true k (name_in e) (Some t) in
       let end = bind_names here true k1 (map name_in es) ts in
       let x = first_name here k0 e target y a.here in
@@ -358,11 +369,11 @@ module _ (means : List ℕ → Meaning) (signatures : List (Option Signature)) (
       g1 y o ∙ ap seen_sort (found_last y seen y t) ∙ ap (λ (b : Bool). seen_sort (or_last (lookup (bytes_eq y) seen) (cond b (Some t) None))) (text_is_itself y) ∙ r.1 in
       let st = variable_stands end.types E e target k0 h r.0 (λ z q. ap (λ v. sort_in end.types (means v)) (same_Some z y (sym q ∙ x)) ∙ sort_follows k1.types end.types (means y) r.0 (follows_names here true k1 (map name_in es) ts) has_type) others in
       let w1 = aimed_bound here e target (first_aimed here k0 e target h) true k (Some t) t others w (λ q. not_true (may_be_none t) q) in
-      let rest = rows (beyond here k0 e) D es l ts (seen ++ (y, t) ∷ []) k1 (after_target others target t) (follows_on k0.types k.types k1.types f (follows_name here true k (name_in e) (Some t))) (scope_on here k.types k1.types (follows_name here true k (name_in e) (Some t)) s)
-      g1 w1 (near_rest k0 e es target t others (first_aimed here k0 e target h) near)
+      let rest = rows (beyond here k0 (name_in e) (next_part parts)) D es l (more_parts parts) ts (more_fair parts t ts fair) (seen ++ (y, t) ∷ []) k1 (after_target others target t) (follows_on k0.types k.types k1.types f (follows_name here true k (name_in e) (Some t))) (scope_on here k.types k1.types (follows_name here true k (name_in e) (Some t)) s)
+      g1 w1 (near_rest k0 e es target (next_part parts) t others (first_aimed here k0 e target h) (next_plain parts t ts fair) near)
       a.rest (and_right (law.is_written e) (list_all law.is_written es) wr) ref less p.1 (one_less (length ts) (length l) n) E in
       let q = in_front others target (targets_of l) r.0 t ts st (again_fits t (lookup (bytes_eq y) seen) p.0 r.0 r.1) rest.typed rest.fit in
       record { typed = q.0; fit = q.1; types = type_in_front others target (targets_of l) r.0 st rest.types; names = rest.names }
-  rows k0 D (e ∷ es) (barred x ∷ l) (t ∷ ts) seen k others f s g w near a wr ref less part n E = absurd (cc)
-  rows k0 D (e ∷ es) (unwritten x ∷ l) (t ∷ ts) seen k others f s g w near a wr ref less part n E = absurd (cc)
-  rows k0 D (e ∷ es) (misplaced x ∷ l) (t ∷ ts) seen k others f s g w near a wr ref less part n E = absurd (cc)
+  rows k0 D (e ∷ es) (barred x ∷ l) parts (t ∷ ts) fair seen k others f s g w near a wr ref less part n E = absurd (cc)
+  rows k0 D (e ∷ es) (unwritten x ∷ l) parts (t ∷ ts) fair seen k others f s g w near a wr ref less part n E = absurd (cc)
+  rows k0 D (e ∷ es) (misplaced x ∷ l) parts (t ∷ ts) fair seen k others f s g w near a wr ref less part n E = absurd (cc)

@@ -34,12 +34,11 @@ use Rattle.py_check_operators.specs.Names.{variable, named}
 use Rattle.py_check_operators.specs.Operators.{is_sum, is_concat, is_numeric, op_text, arithmetic}
 use Rattle.py_check_values.specs.Returns as ret
 use Rattle.py_check_values.specs.Returns.{ReturnSort, gives, bare_return, value_return, due}
+use Rattle.py_check_values.specs.Aims.{Aim, held, first, barred, unwritten, misplaced}
 use Rattle.py_check_values.specs.Assignments.{binding_fault, as_bound}
 use Rattle.py_check_places.specs.Places.{Known, is_bound, variable_at, bind_variable, bind_name}
-use Rattle.py_check_places.specs.Shapes.{is_row, is_item}
-use Rattle.py_check_targets.specs.Targets.{Aim, held, first, barred, unwritten, misplaced, slot_of, target_of, variable_aim, name_aim, seen_aim, asked_by, declared, given, annotation_fault, read_aim, updated, typed_at}
-use Rattle.py_check_places.specs.Shapes.{bind_target}
-use Rattle.py_check_targets.specs.Targets.{target_aims}
+use Rattle.py_check_places.specs.Shapes.{is_row, is_item, bind_target}
+use Rattle.py_check_targets.specs.Targets.{target_of, variable_aim, name_aim, seen_aim, asked_by, declared, given, annotation_fault, read_aim, updated, typed_at, target_aims}
 use Rattle.py_check_assignments.specs.Assignments.{asked, annotated_value, declares, gives_value, annotates_name, annotates, binds_annotated, updates_row, updates_one, updates}
 use Rattle.py_check_statements.specs.Bodies.{return_wanted, returns}
 use Rattle.py_check_expressions_laws.specs.WellTyped as law
@@ -64,7 +63,7 @@ use Rattle.py_check_laws.proofs.Bound.{described_before, Good, good_one}
 
 -- ---- a name that is annotated
 
-name_written : (e : ExprTree) (x : List ℕ) → name_in e ≡ Some x → law.is_written e ≡ true
+pub name_written : (e : ExprTree) (x : List ℕ) → name_in e ≡ Some x → law.is_written e ≡ true
 name_written (at (tree.Name y) span) x h = refl
 name_written _ x h = absurd (cc)
 
@@ -74,7 +73,7 @@ asked_same_by t x untyped a h = absurd (cc)
 asked_same_by t x (has s) a h = ap (λ z. asked_by false (Some (z ∷ []))) (same_Some (held t s) a h)
 
 -- what a variable asks of its value is what its target asks
-asked_same : (k : Known) (x : List ℕ) (n : Meaning) (a : Aim) → name_aim k x n ≡ Some a → asked (variable_at k n) ≡ asked_by false (Some (a ∷ []))
+pub asked_same : (k : Known) (x : List ℕ) (n : Meaning) (a : Aim) → name_aim k x n ≡ Some a → asked (variable_at k n) ≡ asked_by false (Some (a ∷ []))
 asked_same k x (meaning.Local i) a h = asked_same_by (LocalTarget i) x (var_at k.types.locals i) a h
 asked_same k x (meaning.Global i) a h = asked_same_by (GlobalTarget i) x (var_at k.types.globals i) a h
 asked_same k x _ a h = ap (λ z. asked_by false (Some (z ∷ []))) (same_Some (barred x) a h)
@@ -192,10 +191,10 @@ module _ (means : List ℕ → Meaning) (signatures : List (Option Signature)) (
       let D = described_before here k.types (bind_target here (is_some s.got) k target (option_map type_of (annotated_value here k x e).got)).types m locals (follows_target here (is_some s.got) k target (option_map type_of (annotated_value here k x e).got)) E in
       let at_name : AimAt here k (name_in target) target aim = subst (λ o. AimAt here k o target aim) (sym n) c.0 in
       let wt = name_written target x n in
-      let sv = value_stands means signatures m locals init k D (target ∷ []) (and_from (law.is_written target) true wt refl) false (aim ∷ []) (record { here = at_name; rest = tt }) e we v (aim, refl, g.right)
+      let sv = value_stands means signatures m locals init k D (target ∷ []) (and_from (law.is_written target) true wt refl) false (aim ∷ []) None (record { here = at_name; rest = tt }) e we v (aim, refl, g.right)
       (ap (λ z. (typed_at here k z e).got) (sym (asked_same k x (means x) aim c.0)) ∙ b.1) others w in
       subst (Fine loops handling others (bind_target here (is_some s.got) k target (option_map type_of (annotated_value here k x e).got)).names) g.is
-      (subst (λ (z : Known). Fine loops handling others z.names (act.Assign (target_of aim) (as_bound (slot_of aim) v))) (sym p)
+      (subst (λ (z : Known). Fine loops handling others z.names (act.Assign (target_of aim) (as_bound aim v))) (sym p)
       (good_one means signatures m locals init result loops handling k target wt sc aim at_name v g.right (subst (λ (z : Known). Describes here z.types m locals) p E) others w sv))
 
   -- AN ASSIGNMENT WITH AN ANNOTATION
@@ -234,7 +233,7 @@ module _ (means : List ℕ → Meaning) (signatures : List (Option Signature)) (
   only_target t u more h = cc
 
   update_by : (loops handling : Bool) (k : Known) (target : ExprTree) (o : BinOp) (a : Aim) → AimAt here k (name_in target) target a → law.is_written target ≡ true → Describes here k.types m locals → (p : TypedExpr × TypedExpr) → (typed_at here k free target).got ≡ Some p.0 → (r : TypedExpr) → Operates o (type_of p.0) (type_of p.1) (type_of r)
-      → binding_fault m.classes.classes (slot_of a) (type_of r) ≡ None → (u : TypedTarget) (more : List TypedTarget) → target_of a ≡ u ∷ more → (others : List ℕ) → Within k.names others → stands m locals init false others p.1 ≡ true → Fine loops handling others (bind_name here false k (name_in target) None).names (act.Aug u o p.1 (type_of r))
+      → binding_fault m.classes.classes a (type_of r) ≡ None → (u : TypedTarget) (more : List TypedTarget) → target_of a ≡ u ∷ more → (others : List ℕ) → Within k.names others → stands m locals init false others p.1 ≡ true → Fine loops handling others (bind_name here false k (name_in target) None).names (act.Aug u o p.1 (type_of r))
   update_by loops handling k target o (held t s) a wt D p g r ops f u more is others w sv =
       let h = aim_held here k target t s a in
       let st = held_stands means signatures m locals init result k D target (λ q. wt) t s h others (λ q. w) in

@@ -1,5 +1,5 @@
 -- Values that are typed at a place stand there, and so do the targets that they are bound to.
-use Rattle.std.proofs.Common.{◌≡◌, ℕ, zero, suc, ◌<◌, Bool, true, false, ◌&&◌, nat_lt, List, [], ◌∷◌, length, Option, Some, None, refl, ap, sym, ◌∙◌, subst, if◌then◌else◌, lt-ltb, arith}
+use Rattle.std.proofs.Common.{◌≡◌, ℕ, zero, suc, ◌<◌, Bool, true, false, ◌&&◌, nat_lt, List, [], ◌∷◌, length, Option, Some, None, refl, ap, sym, ◌∙◌, subst, if◌then◌else◌, lt-ltb, arith, inl, inr}
 use Rattle.std.proofs.lemmas.Bool.{and_from, or_left, or_right}
 use Rattle.std.proofs.lemmas.Option.{same_Some}
 use Rattle.std.specs.List.{list_all}
@@ -19,20 +19,22 @@ use Rattle.py_typed.proofs.FitLemmas.{one_type, and_left, and_right}
 use Rattle.py_check_context.specs.declared.scope.Meaning.{Meaning}
 use Rattle.py_check_context.specs.Context.{Context, free, wants, wants_some}
 use Rattle.py_check_flow.specs.Bindings.{name_in}
-use Rattle.py_check_messages.specs.Seen.{Message}
+use Rattle.py_check_messages.specs.Seen.{Message, Seen}
 use Rattle.py_check_messages.specs.Messages.{wrong_assignment}
-use Rattle.py_check_values.specs.Slots.{known}
+use Rattle.py_check_values.specs.Aims.{Aim, held, first, barred, unwritten, misplaced}
 use Rattle.py_check_values.specs.Assignments.{binding_fault}
 use Rattle.py_check_places.specs.Places.{Known}
-use Rattle.py_check_targets.specs.Targets.{Aim, held, first, barred, unwritten, misplaced, slot_of, is_written, held_sorts, tuple_sort, single_sort, asked_by, again_fault, parts_fault, typed_at}
+use Rattle.py_check_targets.specs.Targets.{is_written, held_sorts, tuple_sort, single_sort, asked_by, again_fault, parts_fault, typed_at, next_part, more_parts, beyond, target_aims}
 use Rattle.py_check_expressions_laws.specs.WellTyped as law
 use Rattle.py_check_expressions_laws.specs.WellTyped.{Describes, Within}
 use Rattle.py_check_expressions_laws.proofs.Types.{result_of_value, value_of_result}
 use Rattle.py_check_expressions_laws.proofs.Stands.{parts_of_stands, value_type}
 use Rattle.py_check_expressions_laws.proofs.Rows.{all_fits, is_sought, sought_of_asked}
 use Rattle.py_check_expressions_laws.proofs.Sound.{sound_typing}
+use Rattle.py_check_places.specs.Shapes.{is_row, leaves}
+use Rattle.py_check_laws.proofs.Looked.{Chosen}
 use Rattle.py_check_laws.proofs.Assigned.{items_are, RowBound, BoundTo, first_none}
-use Rattle.py_check_laws.proofs.Aims.{AimAt, beyond, AimsOf, Held, held_local, held_global, held_item, aim_held}
+use Rattle.py_check_laws.proofs.Aims.{AimAt, AimsOf, Held, held_local, held_global, held_item, aim_held, aims_are}
 
 pub of_three : (a b c : Bool) → (a && b && c) ≡ true → (a ≡ true) × (b ≡ true) × (c ≡ true)
 of_three true true true h = (refl, refl, refl)
@@ -41,6 +43,10 @@ of_three _ _ _ h = absurd (cc)
 pub of_four : (a b c d : Bool) → (a && b && c && d) ≡ true → (a ≡ true) × (b ≡ true) × (c ≡ true) × (d ≡ true)
 of_four true true true true h = (refl, refl, refl, refl)
 of_four _ _ _ _ h = absurd (cc)
+
+pub of_five : (a b c d e : Bool) → (a && b && c && d && e) ≡ true → (a ≡ true) × (b ≡ true) × (c ≡ true) × (d ≡ true) × (e ≡ true)
+of_five true true true true true h = (refl, refl, refl, refl, refl)
+of_five _ _ _ _ _ h = absurd (cc)
 
 pub third : (a b c : Bool) → (a && b && c) ≡ true → c ≡ true
 third true true true h = refl
@@ -133,19 +139,19 @@ module _ (means : List ℕ → Meaning) (signatures : List (Option Signature)) (
   some_sorts t None ts h = absurd (cc)
   some_sorts t (Some l) ts h = (l, refl, same_Some (t ∷ l) ts h)
 
-  sorts_sought : (k : Known) → Describes scene k.types m locals → (es : List ExprTree) → list_all law.is_written es ≡ true → (l : List Aim) → AimsOf scene k es l → (ts : List Sort) → held_sorts l ≡ Some ts → are_value_types (length m.classes.classes) (sorts_of ts) ≡ true
-  sorts_sought k D [] w [] a ts h = subst (λ z. are_value_types (length m.classes.classes) (sorts_of z) ≡ true) (same_Some [] ts h) refl
-  sorts_sought k D [] w (x ∷ l) a ts h = absurd a
-  sorts_sought k D (e ∷ es) w [] a ts h = absurd a
-  sorts_sought k D (e ∷ es) w (held t s ∷ l) a ts h =
+  sorts_sought : (k : Known) → Describes scene k.types m locals → (es : List ExprTree) → list_all law.is_written es ≡ true → (l : List Aim) (parts : Option (List Sort)) → AimsOf scene k parts es l → (ts : List Sort) → held_sorts l ≡ Some ts → are_value_types (length m.classes.classes) (sorts_of ts) ≡ true
+  sorts_sought k D [] w [] parts a ts h = subst (λ z. are_value_types (length m.classes.classes) (sorts_of z) ≡ true) (same_Some [] ts h) refl
+  sorts_sought k D [] w (x ∷ l) parts a ts h = absurd a
+  sorts_sought k D (e ∷ es) w [] parts a ts h = absurd a
+  sorts_sought k D (e ∷ es) w (held t s ∷ l) parts a ts h =
       let r = some_sorts s (held_sorts l) ts h in
       subst (λ z. are_value_types (length m.classes.classes) (sorts_of z) ≡ true) r.2
       (and_from (is_value_type (length m.classes.classes) s) (are_value_types (length m.classes.classes) (sorts_of r.0)) (held_value k D e (and_left (law.is_written e) (list_all law.is_written es) w) t s (aim_held scene k e t s a.here))
-      (sorts_sought (beyond scene k e) D es (and_right (law.is_written e) (list_all law.is_written es) w) l a.rest r.0 r.1))
-  sorts_sought k D (e ∷ es) w (first t x ∷ l) a ts h = absurd (cc)
-  sorts_sought k D (e ∷ es) w (barred x ∷ l) a ts h = absurd (cc)
-  sorts_sought k D (e ∷ es) w (unwritten s ∷ l) a ts h = absurd (cc)
-  sorts_sought k D (e ∷ es) w (misplaced s ∷ l) a ts h = absurd (cc)
+      (sorts_sought (beyond scene k (name_in e) (next_part parts)) D es (and_right (law.is_written e) (list_all law.is_written es) w) l (more_parts parts) a.rest r.0 r.1))
+  sorts_sought k D (e ∷ es) w (first t x ∷ l) parts a ts h = absurd (cc)
+  sorts_sought k D (e ∷ es) w (barred x ∷ l) parts a ts h = absurd (cc)
+  sorts_sought k D (e ∷ es) w (unwritten s ∷ l) parts a ts h = absurd (cc)
+  sorts_sought k D (e ∷ es) w (misplaced s ∷ l) parts a ts h = absurd (cc)
 
   sorts_fit : (l : List Aim) (ts ss : List Sort) → held_sorts l ≡ Some ts → length ss ≡ length l → parts_fault m.classes.classes [] l ss ≡ None → all_fits m.classes.classes (sorts_of ss) (sorts_of ts) ≡ true
   sorts_fit [] ts [] h n f = subst (λ z. all_fits m.classes.classes no_sorts (sorts_of z) ≡ true) (same_Some [] ts h) refl
@@ -164,22 +170,22 @@ module _ (means : List ℕ → Meaning) (signatures : List (Option Signature)) (
   sorts_fit (unwritten r ∷ l) ts (s ∷ ss) h n f = absurd (cc)
   sorts_fit (misplaced r ∷ l) ts (s ∷ ss) h n f = absurd (cc)
 
-  row_stands : (k : Known) → Describes scene k.types m locals → (es : List ExprTree) → list_all law.is_written es ≡ true → (l : List Aim) → AimsOf scene k es l → (e : ExprTree) → law.is_written e ≡ true → (v : TypedExpr) → RowBound m.classes.classes l (type_of v) → (o : Option (List Sort)) → held_sorts l ≡ o
+  row_stands : (k : Known) → Describes scene k.types m locals → (es : List ExprTree) → list_all law.is_written es ≡ true → (l : List Aim) (parts : Option (List Sort)) → AimsOf scene k parts es l → (e : ExprTree) → law.is_written e ≡ true → (v : TypedExpr) → RowBound m.classes.classes l (type_of v) → (o : Option (List Sort)) → held_sorts l ≡ o
       → (typed_at scene k (wants_some (option_map tuple_sort o)) e).got ≡ Some v → (others : List ℕ) → Within k.names others → stands m locals init false others v ≡ true
-  row_stands k D es we l a e w v r None q g others wi = stands_free k D e w v g others wi
-  row_stands k D es we l a e w v r (Some ts) q g others wi =
+  row_stands k D es we l parts a e w v r None q g others wi = stands_free k D e w v g others wi
+  row_stands k D es we l parts a e w v r (Some ts) q g others wi =
       let i = items_are (type_of v) (length l) r.parts r.items in
-      stands_parts k D e w (sorts_of ts) i.0 (sorts_sought k D es we l a ts q) v g i.1
+      stands_parts k D e w (sorts_of ts) i.0 (sorts_sought k D es we l parts a ts q) v g i.1
       (subst (λ z. all_fits m.classes.classes z (sorts_of ts) ≡ true) (ap sorts_of (sym i.2) ∙ sorts_again i.0) (sorts_fit l ts r.parts q i.3 r.fit)) others wi
 
-  pub fault_fits : (t s : Sort) → binding_fault m.classes.classes (known t) s ≡ None → fits m.classes.classes s t ≡ true
+  pub fault_fits : (t s : Sort) → again_fault m.classes.classes (Some t) s ≡ None → fits m.classes.classes s t ≡ true
   fault_fits t s h = by (fits m.classes.classes s t) h
     where
       by : (b : Bool) → (if b then None else Some (wrong_assignment m.classes.classes s t)) ≡ None → b ≡ true
       by true q = refl
       by false q = absurd (cc)
 
-  one_stands : (k : Known) → Describes scene k.types m locals → (t : ExprTree) → law.is_written t ≡ true → (a : Aim) → AimAt scene k (name_in t) t a → (e : ExprTree) → law.is_written e ≡ true → (v : TypedExpr) → binding_fault m.classes.classes (slot_of a) (type_of v) ≡ None
+  one_stands : (k : Known) → Describes scene k.types m locals → (t : ExprTree) → law.is_written t ≡ true → (a : Aim) → AimAt scene k (name_in t) t a → (e : ExprTree) → law.is_written e ≡ true → (v : TypedExpr) → binding_fault m.classes.classes a (type_of v) ≡ None
       → (typed_at scene k (wants_some (single_sort (a ∷ []))) e).got ≡ Some v → (others : List ℕ) → Within k.names others → stands m locals init false others v ≡ true
   one_stands k D t wt (held u s) a e w v f g others wi = stands_wanted k D e w s (held_value k D t wt u s (aim_held scene k t u s a)) v g (fault_fits s (type_of v) f) others wi
   one_stands k D t wt (first u x) a e w v f g others wi = stands_free k D e w v g others wi
@@ -188,18 +194,26 @@ module _ (means : List ℕ → Meaning) (signatures : List (Option Signature)) (
   one_stands k D t wt (misplaced s) a e w v f g others wi = absurd (cc)
 
   -- THE VALUE of an assignment stands, where its targets take it
-  pub value_stands : (k : Known) → Describes scene k.types m locals → (es : List ExprTree) → list_all law.is_written es ≡ true → (several : Bool) (l : List Aim) → AimsOf scene k es l → (e : ExprTree) → law.is_written e ≡ true → (v : TypedExpr) → BoundTo m.classes.classes several l (type_of v)
+  pub value_stands : (k : Known) → Describes scene k.types m locals → (es : List ExprTree) → list_all law.is_written es ≡ true → (several : Bool) (l : List Aim) (parts : Option (List Sort)) → AimsOf scene k parts es l → (e : ExprTree) → law.is_written e ≡ true → (v : TypedExpr) → BoundTo m.classes.classes several l (type_of v)
       → (typed_at scene k (asked_by several (Some l)) e).got ≡ Some v → (others : List ℕ) → Within k.names others → stands m locals init false others v ≡ true
-  value_stands k D es we true l a e w v r g others wi = row_stands k D es we l a e w v r (held_sorts l) refl g others wi
-  value_stands k D [] we false [] a e w v r g others wi = let clash = r.1 in absurd (cc)
-  value_stands k D [] we false (x ∷ l) a e w v r g others wi = absurd a
-  value_stands k D (t ∷ es) we false [] a e w v r g others wi = absurd a
-  value_stands k D (t ∷ es) we false (x ∷ []) a e w v r g others wi =
-      one_stands k D t (and_left (law.is_written t) (list_all law.is_written es) we) x a.here e w v (subst (λ z. binding_fault m.classes.classes (slot_of z) (type_of v) ≡ None) (sym (head_same r.1)) r.2) g others wi
+  value_stands k D es we true l parts a e w v r g others wi = row_stands k D es we l parts a e w v r (held_sorts l) refl g others wi
+  value_stands k D [] we false [] parts a e w v r g others wi = let clash = r.1 in absurd (cc)
+  value_stands k D [] we false (x ∷ l) parts a e w v r g others wi = absurd a
+  value_stands k D (t ∷ es) we false [] parts a e w v r g others wi = absurd a
+  value_stands k D (t ∷ es) we false (x ∷ []) parts a e w v r g others wi =
+      one_stands k D t (and_left (law.is_written t) (list_all law.is_written es) we) x a.here e w v (subst (λ z. binding_fault m.classes.classes z (type_of v) ≡ None) (sym (head_same r.1)) r.2) g others wi
     where
       head_same : {y : Aim} → x ∷ [] ≡ y ∷ [] → x ≡ y
       head_same h = cc
-  value_stands k D (t ∷ es) we false (x ∷ y ∷ l) a e w v r g others wi = let clash = r.1 in absurd (cc)
+  value_stands k D (t ∷ es) we false (x ∷ y ∷ l) parts a e w v r g others wi = let clash = r.1 in absurd (cc)
+
+  -- and where its targets were looked at behind it, since they asked it for nothing
+  pub chosen_stands : (k : Known) → Describes scene k.types m locals → (target : ExprTree) → list_all law.is_written (leaves target) ≡ true → (late : Seen (List Aim)) (l : List Aim) → Chosen (is_row target) (target_aims scene k target) late l → (e : ExprTree) → law.is_written e ≡ true → (v : TypedExpr) → BoundTo m.classes.classes (is_row target) l (type_of v)
+      → (typed_at scene k (asked_by (is_row target) (target_aims scene k target).got) e).got ≡ Some v → (others : List ℕ) → Within k.names others → stands m locals init false others v ≡ true
+  chosen_stands k D target we late l (inl q) e w v r g others wi =
+      value_stands k D (leaves target) we (is_row target) l None (aims_are scene k None (leaves target) l q) e w v r (ap (λ o. (typed_at scene k (asked_by (is_row target) o) e).got) (sym q) ∙ g) others wi
+  chosen_stands k D target we late l (inr q) e w v r g others wi =
+      stands_free k D e w v (ap (λ o. (typed_at scene k (wants_some o) e).got) (sym q.0) ∙ g) others wi
 
   -- of a type that a variable may have, where it is no None
   pub stands_type : (others : List ℕ) (v : TypedExpr) → stands m locals init false others v ≡ true → is_nothing (type_of v) ≡ false → is_value_type (length m.classes.classes) (type_of v) ≡ true

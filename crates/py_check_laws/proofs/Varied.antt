@@ -20,20 +20,19 @@ use Rattle.py_check_annotations.specs.Names.{is_untyped}
 use Rattle.py_check_signatures.specs.Headers.{marked}
 use Rattle.py_check_names.specs.Meanings.{is_own, own_names, said_in, module_meaning}
 use Rattle.py_check_places.specs.Places.{Known, is_unset}
-use Rattle.py_check_statements.specs.Bodies.{block_after}
+use Rattle.py_check_statements.specs.Bodies.{nothing_around, block_after}
 use Rattle.py_check_values.specs.Returns as ret
 use Rattle.py_check_definitions.specs.Definitions.{Headed, headed, headed_functions, signatures}
 use Rattle.py_check_definitions.specs.Starts.{given_sort, start_sort, or_param, own_sort}
-use Rattle.py_check.specs.Module.{Environment, context_in, return_of, function_start, module_start, body, body_after, bodies_said, environment, said, diagnostics}
+use Rattle.py_check.specs.Module.{Environment, context_in, function_start, module_start, body, body_after, bodies_said, environment, said, diagnostics}
 use Rattle.py_check_expressions_laws.specs.Laws as law
 use Rattle.py_check_expressions_laws.proofs.Loud.{none_before, none_behind}
-use Rattle.py_check_laws.specs.Variables.{is_try_in_suite}
 use Rattle.py_check_laws.specs.WellTyped.{IsScope}
 use Rattle.py_check_laws.specs.Modules.{has_type, all_have_types, are_own_typed, are_variables_typed}
 use Rattle.py_check.proofs.Kept.{Kept, Follows, follows_block, is_open}
 use Rattle.py_check_laws.proofs.Sights.{suite_binds}
 use Rattle.py_check_laws.proofs.Closed.{scope_there}
-use Rattle.py_check_laws.proofs.Fixed.{set_block, suite_no_try}
+use Rattle.py_check_laws.proofs.Fixed.{set_block}
 use Rattle.py_check_laws.proofs.Owned.{there, filter_none, param_or_bound, param_found, own_means, scope_is}
 use Rattle.py_check_laws.proofs.Bindings.{names_same, module_fixes}
 use Rattle.py_check_laws.proofs.Meant.{Fine, function_fine, scope_names, module_own}
@@ -118,8 +117,8 @@ module _ (e : Environment) (roles : Roles) (meanings : List ℕ → Meaning) (al
     open_has : (i : ℕ) → is_open end.types (meaning.Local i) ≡ false → law.is_untyped (var_at end.types.locals i) ≡ false → has_type (var_at end.types.locals i) ≡ true
     open_has i h g = has_by (var_at end.types.locals i) h g
 
-    own_has : length sorts ≡ length e.variables → HasTypes hd.header → is_try_in_suite f.body ≡ false → ((i : ℕ) → law.is_untyped (var_at end.types.locals i) ≡ false) → (i : ℕ) → i < length own → has_type (var_at end.types.locals i) ≡ true
-    own_has q types untried typed i h =
+    own_has : length sorts ≡ length e.variables → HasTypes hd.header → ((i : ℕ) → law.is_untyped (var_at end.types.locals i) ≡ false) → (i : ℕ) → i < length own → has_type (var_at end.types.locals i) ≡ true
+    own_has q types typed i h =
         let x = there own i h in
         let m = own_means e.said e.variables n (function_role roles f) (function_fine e.said e.variables n roles fine f) seen i x.0 x.1 in
         by x.0 x.1 m.0 (param_or_bound f roles others x.0 m.1)
@@ -127,10 +126,10 @@ module _ (e : Environment) (roles : Roles) (meanings : List ℕ → Meaning) (al
         by : (x : List ℕ) → slice_get own i ≡ Some x → C.meaning x ≡ meaning.Local i → (contains (param_names f) x ≡ true) ⊎ (contains (all_there bound_there (body_sights f)) x ≡ true) → has_type (var_at end.types.locals i) ≡ true
         by x g r (inl p) = kept_has start.types.locals end.types.locals follows.locals i (ap has_type (mapped_at of_own own i x g) ∙ param_has types x p)
         by x g r (inr p) =
-            open_has i (ap (is_open end.types) (sym r) ∙ set_block C x start f.body (scope_there C start.types (scope q) x) untried (sym (ap (λ l. contains l x) (suite_binds InFunction f.body ∙ names_same (suite_bindings f.body))) ∙ p)) (typed i)
+            open_has i (ap (is_open end.types) (sym r) ∙ set_block C x start f.body (scope_there C start.types (scope q) x) (sym (ap (λ l. contains l x) (suite_binds InFunction f.body ∙ names_same (suite_bindings f.body))) ∙ p)) (typed i)
 
     function_has : length sorts ≡ length e.variables → HasTypes hd.header → ((i : ℕ) → law.is_untyped (var_at end.types.locals i) ≡ false) → (body C e.variables sorts hd).said ≡ [] → all_have_types end.types.locals 0 own ≡ true
-    function_has q types typed h = all_have_by end.types.locals 0 own (λ j g. own_has q types (suite_no_try C (return_of hd.header.ret) false start f.body h) typed j (from_zero j (length own) g))
+    function_has q types typed h = all_have_by end.types.locals 0 own (λ j g. own_has q types typed j (from_zero j (length own) g))
       where
         from_zero : (j n : ℕ) → j < 0 + n → j < n
         from_zero j n g = omega arith
@@ -178,13 +177,13 @@ module _ (m : Suite) (nothing : said m ≡ []) where
   top_scope = scope_is (said_in m) e.variables size roles (whole.fine m nothing) sights (signatures m) [] first.types (sym (ap length none_own)) (length-map e.variables (start_sort (module_meaning m) (suite_bindings m)))
 
   pub top_typed : (i : ℕ) → law.is_untyped (var_at last.types.globals i) ≡ false
-  top_typed = (quiet_block here (whole.top_voiced m nothing) ret.outside refl InModule false first (whole.start_all m nothing) m (whole.top_known m nothing) (whole.own_quiet m nothing)).globals
+  top_typed = (quiet_block here (whole.top_voiced m nothing) ret.outside refl InModule nothing_around first (whole.start_all m nothing) m (whole.top_known m nothing) (whole.own_quiet m nothing)).globals
 
   pub top_size : length last.types.globals ≡ length e.variables
   top_size = (follows_block here first m).globals.size ∙ length-map e.variables (start_sort (module_meaning m) (suite_bindings m))
 
   pub global_has : (i : ℕ) → i < length e.variables → has_type (var_at last.types.globals i) ≡ true
-  global_has i h = let x = there e.variables i h in has_by (var_at last.types.globals i) (module_fixes m i x.0 (suite_no_try here ret.outside false first m (whole.own_quiet m nothing)) x.1) (top_typed i)
+  global_has i h = let x = there e.variables i h in has_by (var_at last.types.globals i) (module_fixes m i x.0 x.1) (top_typed i)
 
   -- EACH VARIABLE has a type
   pub variables_typed : are_variables_typed m ≡ true

@@ -4,12 +4,13 @@ use Rattle.std.proofs.lemmas.Option.{same_Some}
 use Rattle.std.proofs.lemmas.List.{length-map}
 use Rattle.std.specs.Prelude.{is_some}
 use Rattle.std.specs.Option.{option_map}
+use Rattle.value_core.specs.declared.exception.ExcClass.TheVariants.{Exception}
 use Rattle.py_syntax.specs.declared.token.Span.{Span}
 use Rattle.py_syntax.specs.declared.expression.BinOp.{BinOp}
 use Rattle.py_syntax.specs.Expressions as tree
-use Rattle.py_syntax.specs.Expressions.{ExprTree, at, Arguments}
+use Rattle.py_syntax.specs.Expressions.{ExprTree, at, ExprTrees, no_exprs, expr_then, Arguments}
 use Rattle.py_syntax.specs.Statements as node
-use Rattle.py_syntax.specs.Statements.{StmtTree, StmtNode, Suite, no_stmts, stmt_then, Arms, no_arms, arm_then}
+use Rattle.py_syntax.specs.Statements.{StmtTree, StmtNode, Suite, no_stmts, stmt_then, Arms, no_arms, arm_then, Handlers, no_handlers, handler_then, MaybeSuite, no_suite, some_suite}
 use Rattle.py_typed.specs.Sorts as sort
 use Rattle.py_typed.specs.Sorts.{Sort}
 use Rattle.py_typed.specs.Fits.{is_nothing}
@@ -18,7 +19,7 @@ use Rattle.py_typed.specs.Statements as act
 use Rattle.py_typed.specs.Statements.{TypedTarget, TypedAct, TypedStmt, TypedSuite, on_line, suite_of, arms_of}
 use Rattle.py_binder.specs.declared.sight.Manner.TheVariants.{Value, Annotation}
 use Rattle.py_binder.specs.declared.sight.Home.{Home}
-use Rattle.py_binder.specs.Sights.{Sight, reads, maybe_reads, list_reads, arguments_reads, target_sights, stmt_sights, stmt_node_sights, suite_sights, arms_sights}
+use Rattle.py_binder.specs.Sights.{Sight, reads, maybe_reads, list_reads, exprs_reads, arguments_reads, target_sights, stmt_sights, stmt_node_sights, suite_sights, arms_sights, caught_sights, handlers_sights, maybe_suite_sights}
 use Rattle.py_check_context.specs.declared.scope.Meaning.{Meaning}
 use Rattle.py_check_context.specs.declared.scope.Meaning.TheVariants as meaning
 use Rattle.py_check_context.specs.Context.{Context, VarSort, unset, untyped, has, VarSorts, var_at, Wanted, free, test, along}
@@ -28,6 +29,7 @@ use Rattle.py_check_messages.specs.Seen.{Seen, Message, is, fails, both, behind,
 use Rattle.py_check_messages.specs.Rows.{row_then}
 use Rattle.py_check_messages.specs.Messages.{no_target}
 use Rattle.py_check_annotations.specs.Annotations.{annotation}
+use Rattle.py_check_annotations.specs.Names.{is_unknown}
 use Rattle.py_check_coercions.specs.Values.{truth}
 use Rattle.py_check_coercions.specs.Several.{with_part}
 use Rattle.py_check_operators.specs.Names.{variable, named}
@@ -36,24 +38,28 @@ use Rattle.py_check_calls.specs.Calls.{positional}
 use Rattle.py_check_expressions.specs.Typing.{arguments}
 use Rattle.py_check_values.specs.Returns as ret
 use Rattle.py_check_values.specs.Returns.{ReturnSort, bare_return, value_return, due}
-use Rattle.py_check_places.specs.Places.{Known, is_unset, fix, is_bound, bind_variable, bind_name, bind_names, where_test, entering, Way, setting_out, behind_arm}
-use Rattle.py_check_places.specs.Shapes.{is_row, is_item, is_flat, leaves, target_names}
-use Rattle.py_check_targets.specs.Targets.{Aim, name_aim, variable_aim, seen_aim, value_aim, read_aim, targets_of, assigned, declared, given, updated, typed_at, single_aim, aims}
-use Rattle.py_check_places.specs.Shapes.{bind_target}
-use Rattle.py_check_targets.specs.Targets.{target_aims}
+use Rattle.py_check_places.specs.Places.{Known, is_unset, fix, is_bound, bind_variable, bind_name, bind_names, with_names, where_test, entering, Way, setting_out, behind_arm}
+use Rattle.py_check_places.specs.Shapes.{is_row, is_item, is_flat, leaves, target_names, bind_target, parts_of}
+use Rattle.py_check_values.specs.Aims.{Aim}
+use Rattle.py_check_targets.specs.Targets.{name_aim, variable_aim, seen_aim, value_aim, read_aim, targets_of, assigned, declared, given, updated, typed_at, single_aim, aims, target_aims, next_part, more_parts, beyond, asked_sort, aims_behind, bound_aims}
 use Rattle.py_check_assignments.specs.Assignments.{value_for, assigns, binds, declares, annotated_value, gives_value, annotates_name, annotates_other, annotates, binds_annotated, updates_one, updates_row, updates}
 use Rattle.py_check_loops.specs.Loops.{value, range_call, is_range_name, range_arguments, span_of, course_by, course, head, loop_of}
 use Rattle.py_check_loops.specs.Heads.{some_items, for_head, in_for}
-use Rattle.py_check_statements.specs.Bodies.{is_definition, condition, after, node_after, block_after, arms_after, return_wanted, returns, in_loop, statement, node_statement, block, branches}
+use Rattle.py_check_statements.specs.Deletions.{deletion}
+use Rattle.py_check_exceptions.specs.Raises.{asked, raised, asserted, raises_value, raises_named, raises_by, raises, asserts}
+use Rattle.py_check_exceptions.specs.Handlers.{only, tuple_items, named_class, class_by, class_at, classes_along, caught_by, caught, name_at, is_early, handler_head, in_handler}
+use Rattle.py_check_exceptions.specs.Handlers as clause
+use Rattle.py_check_statements.specs.declared.bodies.Around.{Around}
+use Rattle.py_check_statements.specs.Bodies.{is_definition, condition, after, node_after, block_after, arms_after, handlers_after, last_after, outside_try, return_wanted, returns, in_loop, around_loop, around_clause, is_last, clause_of, try_of, present, statement, node_statement, block, branches, clauses, maybe_block}
 use Rattle.py_check_expressions_laws.specs.Laws.{is_voiceless, is_untyped, AllHaveTypes}
 use Rattle.py_check_expressions_laws.proofs.Inside.{either}
 use Rattle.py_check_expressions_laws.proofs.Loud.{IsLoud, loud_is, loud_fails, none_before, none_behind, both_say, loud_both, loud_made, loud_behind, loud_judged, loud_rule, loud_row, loud_positional, loud_typing, loud_arguments}
+use Rattle.py_check_laws.proofs.Looked.{looked_at, looked_behind}
 use Rattle.py_check_laws.specs.Statements.{is_judged}
 use Rattle.py_check_laws.proofs.Given.{some_is, rule_given, both_given, made_given}
 use Rattle.py_check.proofs.Kept.{fix_cases, is_open, bind_set}
-use Rattle.py_check_laws.proofs.Assigned.{single_bound, row_bound, name_no_row, aims_length, items_are, BoundTo, assigned_is, head_is}
-use Rattle.py_check_laws.proofs.Aims.{beyond}
-use Rattle.py_check_expressions_laws.proofs.Known.{known_left, known_right}
+use Rattle.py_check_laws.proofs.Assigned.{single_bound, row_bound, name_no_row, items_are, BoundTo, assigned_is, head_is}
+use Rattle.py_check_expressions_laws.proofs.Known.{known_left, known_right, known_name}
 use Rattle.py_check_laws.proofs.KnownParts.{AreKnown, target_read, leaves_read}
 use Rattle.py_check_laws.proofs.Annotated.{loud_if, loud_annotation}
 
@@ -106,7 +112,7 @@ aim_there k all x (meaning.Local i) e = variable_there (act.LocalTarget i) x (va
 aim_there k all x (meaning.Global i) e = variable_there (act.GlobalTarget i) x (var_at k.types.globals i) (all.globals i) e
 aim_there k all x _ e = cc
 
-loud_in_loop : (r : ReturnSort) (C : Context) (loops : Bool) (span : Span) (word : List ℕ) (a : TypedAct) → IsLoud (in_loop loops span word a)
+loud_in_loop : (r : ReturnSort) (C : Context) (looping : Bool) (span : Span) (word : List ℕ) (a : TypedAct) → IsLoud (in_loop looping span word a)
 loud_in_loop r C true span word a = loud_is a
 loud_in_loop r C false span word a = loud_fails span _
 
@@ -195,17 +201,31 @@ module _ (C : Context) where
     loud_single k all None e u = loud_made (value_aim (is_item e)) (typed_at C k free e) (loud_value k all free e u)
     loud_single k all (Some x) e u = loud_seen (name_aim k x (C.meaning x)) (aim_there k all x (C.meaning x))
 
-    loud_aims : (k : Known) → AllTyped k.types → (es : List ExprTree) → AreKnown C.meaning (list_reads Value es) → IsLoud (aims C k es)
-    loud_aims k all [] u = loud_is []
-    loud_aims k all (e ∷ more) u =
-        loud_row (single_aim C k (name_in e) e) (aims C (beyond C k e) more) (loud_single k all (name_in e) e (front (reads Value e) (list_reads Value more) u)) (loud_aims (beyond C k e) all more (back (reads Value e) (list_reads Value more) u))
+    read_known : (e : ExprTree) (x : List ℕ) → name_in e ≡ Some x → AreKnown C.meaning (reads Value e) → is_unknown (C.meaning x) ≡ false
+    read_known (at (tree.Name y) span) x q u = ap (λ (z : List ℕ). is_unknown (C.meaning z)) (sym (same_Some y x q)) ∙ known_name C.meaning y span u
+    read_known _ x q u = absurd (cc)
+
+    loud_aims : (k : Known) → AllTyped k.types → (ts : Option (List Sort)) (es : List ExprTree) → AreKnown C.meaning (list_reads Value es) → IsLoud (aims C k ts es)
+    loud_aims k all ts [] u = loud_is []
+    loud_aims k all ts (e ∷ more) u =
+        let next = beyond C k (name_in e) (next_part ts) in
+        loud_row (single_aim C k (name_in e) e) (aims C next (more_parts ts) more) (loud_single k all (name_in e) e (front (reads Value e) (list_reads Value more) u)) (loud_aims next all (more_parts ts) more (back (reads Value e) (list_reads Value more) u))
 
     loud_targets : (k : Known) → AllTyped k.types → (target : ExprTree) → AreKnown C.meaning (target_sights target) → IsLoud (target_aims C k target)
-    loud_targets k all target u = loud_aims k all (leaves target) (leaves_read C.meaning target u)
+    loud_targets k all target u = loud_aims k all None (leaves target) (leaves_read C.meaning target u)
+
+    loud_late : (k : Known) → AllTyped k.types → (target : ExprTree) (t : Option Sort) → AreKnown C.meaning (target_sights target) → IsLoud (aims_behind C k target t)
+    loud_late k all target t u = loud_aims k all (Some (parts_of (is_row target) (length (leaves target)) t)) (leaves target) (leaves_read C.meaning target u)
+
+    loud_bound : (k : Known) → AllTyped k.types → (target : ExprTree) (t : Option Sort) → AreKnown C.meaning (target_sights target) → IsLoud (bound_aims C k target t)
+    loud_bound k all target t u =
+        loud_if (is_some (asked_sort (is_row target) (target_aims C k target).got)) (target_aims C k target) (aims_behind C k target t) (loud_targets k all target u) (loud_late k all target t u)
 
     loud_assigns : (k : Known) → AllTyped k.types → (span : Span) (target e : ExprTree) → AreKnown C.meaning (target_sights target ++ reads Value e) → IsLoud (assigns C k span target e)
     loud_assigns k all span target e u =
-        loud_rule span (assigned C.classes target) (both (target_aims C k target) (value_for C k target e)) (loud_both (target_aims C k target) (value_for C k target e) (loud_targets k all target (front (target_sights target) (reads Value e) u)) (loud_value k all _ e (back (target_sights target) (reads Value e) u)))
+        let value = value_for C k target e in
+        let targets = bound_aims C k target (option_map type_of value.got) in
+        loud_rule span (assigned C.classes target) (both targets value) (loud_both targets value (loud_bound k all target (option_map type_of value.got) (front (target_sights target) (reads Value e) u)) (loud_value k all _ e (back (target_sights target) (reads Value e) u)))
 
     loud_declares : (k : Known) → AllTyped k.types → (span : Span) (x : List ℕ) (mark : ExprTree) → AreKnown C.meaning (reads Annotation mark) → IsLoud (declares C k span x mark)
     loud_declares k all span x mark u =
@@ -273,23 +293,92 @@ module _ (C : Context) where
 
     loud_head : (k : Known) → AllTyped k.types → (span : Span) (target e : ExprTree) → AreKnown C.meaning (target_sights target) → AreKnown C.meaning (reads Value e) → IsLoud (for_head C k span target e)
     loud_head k all span target e ut u =
-        let parts = both (target_aims C k target) (course C k e) in
+        let targets = aims_behind C k target (some_items (course C k e).got) in
+        let parts = both targets (course C k e) in
         loud_made (λ p. (targets_of p.0, p.1)) (rule span (head C.classes (is_flat target) (is_row target)) parts)
-        (loud_rule span (head C.classes (is_flat target) (is_row target)) parts (loud_both (target_aims C k target) (course C k e) (loud_targets k all target ut) (loud_course k all (range_arguments C e) e refl u)))
+        (loud_rule span (head C.classes (is_flat target) (is_row target)) parts (loud_both targets (course C k e) (loud_late k all target (some_items (course C k e).got) ut) (loud_course k all (range_arguments C e) e refl u)))
 
     loud_condition : (k : Known) → AllTyped k.types → (e : ExprTree) → AreKnown C.meaning (reads Value e) → IsLoud (condition C k e)
     loud_condition k all e u = loud_made truth (typed_at C k test e) (loud_value k all test e u)
+
+    -- ---- names of exceptions, and heads of clauses
+
+    loud_raised_value : (k : Known) → AllTyped k.types → (span : Span) (e : ExprTree) → AreKnown C.meaning (reads Value e) → IsLoud (raises_value C k span e)
+    loud_raised_value k all span e u = loud_rule span raised (typed_at C k free e) (loud_value k all free e u)
+
+    loud_raised_name : (k : Known) → AllTyped k.types → (span : Span) (e : ExprTree) → AreKnown C.meaning (reads Value e) → (m : Meaning) → is_unknown m ≡ false → is_voiceless C.signatures m ≡ false → IsLoud (raises_named C k span e (asked m))
+    loud_raised_name k all span e u (meaning.Exception x) known voice = loud_is _
+    loud_raised_name k all span e u (meaning.Local i) known voice = loud_raised_value k all span e u
+    loud_raised_name k all span e u (meaning.Global i) known voice = loud_raised_value k all span e u
+    loud_raised_name k all span e u meaning.Unknown known voice = absurd (cc)
+    loud_raised_name k all span e u meaning.Untyped known voice = absurd (cc)
+    loud_raised_name k all span e u meaning.UntypedClass known voice = absurd (cc)
+    loud_raised_name k all span e u _ known voice = loud_fails span _
+
+    loud_raises : (handling : Bool) (k : Known) → AllTyped k.types → (span : Span) (e : Option ExprTree) → AreKnown C.meaning (maybe_reads Value e) → IsLoud (raises C handling k span e)
+    loud_raises true k all span None u = loud_is _
+    loud_raises false k all span None u = loud_fails span _
+    loud_raises handling k all span (Some e) u = by (name_in e) refl
+      where
+        by : (o : Option (List ℕ)) → name_in e ≡ o → IsLoud (raises_by C k span e o)
+        by None q = loud_raised_value k all span e u
+        by (Some x) q = loud_raised_name k all span e u (C.meaning x) (read_known e x q u) (names x)
+
+    loud_asserts : (k : Known) → AllTyped k.types → (span : Span) (e : ExprTree) (text : Option ExprTree) → AreKnown C.meaning (reads Value e ++ maybe_reads Value text) → IsLoud (asserts C k span e text)
+    loud_asserts k all span e None u = loud_made (λ t. act.Assert t None) (condition C k e) (loud_condition k all e (front (reads Value e) [] u))
+    loud_asserts k all span e (Some text) u =
+        loud_rule span (asserted C.classes) (both (condition C k e) (typed_at C k free text))
+        (loud_both (condition C k e) (typed_at C k free text) (loud_condition k all e (front (reads Value e) (reads Value text) u)) (loud_value k all free text (back (reads Value e) (reads Value text) u)))
+
+    loud_named_class : (m : Meaning) → is_unknown m ≡ false → is_voiceless C.signatures m ≡ false → IsLoud (named_class (asked m))
+    loud_named_class meaning.Unknown known voice = absurd (cc)
+    loud_named_class meaning.Untyped known voice = absurd (cc)
+    loud_named_class meaning.UntypedClass known voice = absurd (cc)
+    loud_named_class _ known voice = loud_is _
+
+    loud_class : (k : Known) → AllTyped k.types → (e : ExprTree) → AreKnown C.meaning (reads Value e) → IsLoud (class_at C k e)
+    loud_class k all e u = by (name_in e) refl
+      where
+        by : (o : Option (List ℕ)) → name_in e ≡ o → IsLoud (class_by C k e o)
+        by None q = loud_made _ (typed_at C k free e) (loud_value k all free e u)
+        by (Some x) q = loud_named_class (C.meaning x) (read_known e x q u) (names x)
+
+    loud_classes : (k : Known) → AllTyped k.types → (es : ExprTrees) → AreKnown C.meaning (exprs_reads Value es) → IsLoud (classes_along C k es)
+    loud_classes k all no_exprs u = loud_is []
+    loud_classes k all (expr_then e more) u = loud_row (class_at C k e) (classes_along C k more) (loud_class k all e (front (reads Value e) (exprs_reads Value more) u)) (loud_classes k all more (back (reads Value e) (exprs_reads Value more) u))
+
+    tuple_read : (e : ExprTree) (es : ExprTrees) → tuple_items e ≡ Some es → AreKnown C.meaning (reads Value e) → AreKnown C.meaning (exprs_reads Value es)
+    tuple_read (at (tree.TupleOf items) span) es q u = subst (λ (z : ExprTrees). AreKnown C.meaning (exprs_reads Value z)) (same_Some items es q) u
+    tuple_read _ es q u = absurd (cc)
+
+    loud_caught : (k : Known) → AllTyped k.types → (e : Option ExprTree) → AreKnown C.meaning (maybe_reads Value e) → IsLoud (caught C k e)
+    loud_caught k all None u = loud_is _
+    loud_caught k all (Some e) u = by (tuple_items e) refl
+      where
+        by : (o : Option ExprTrees) → tuple_items e ≡ o → IsLoud (caught_by C k e o)
+        by None q = loud_made only (class_at C k e) (loud_class k all e u)
+        by (Some es) q = loud_classes k all es (tuple_read e es q u)
+
+    loud_caught_name : (k : Known) → AllTyped k.types → (x : Option (List ℕ)) → IsLoud (name_at C k x)
+    loud_caught_name k all None = loud_is None
+    loud_caught_name k all (Some x) = loud_made clause.named (seen_aim (name_aim k x (C.meaning x))) (loud_seen (name_aim k x (C.meaning x)) (aim_there k all x (C.meaning x)))
+
+    loud_clause_head : (k : Known) → AllTyped k.types → (span : Span) (e : Option ExprTree) (x : Option (List ℕ)) (last : Bool) → AreKnown C.meaning (maybe_reads Value e) → IsLoud (handler_head C k span e x last)
+    loud_clause_head k all span e x last u =
+        loud_rule span (clause.head C.classes (is_early e last)) (both (caught C k e) (name_at C k x)) (loud_both (caught C k e) (name_at C k x) (loud_caught k all e u) (loud_caught_name k all x))
 
     -- ---- what is bound where nothing is said
 
     quiet_assign : (k : Known) → AllTyped k.types → (span : Span) (target e : ExprTree) → AreKnown C.meaning (target_sights target ++ reads Value e) → (assigns C k span target e).said ≡ [] → AllTyped (binds C k span target e).types
     quiet_assign k all span target e u h =
         let g = quiet_got (assigns C k span target e) (loud_assigns k all span target e u) h in
-        let r = rule_given span (assigned C.classes target) (both (target_aims C k target) (value_for C k target e)) g.0 g.1 in
-        let b = both_given (target_aims C k target) (value_for C k target e) r.0 r.1 in
+        let value = value_for C k target e in
+        let targets = bound_aims C k target (option_map type_of value.got) in
+        let r = rule_given span (assigned C.classes target) (both targets value) g.0 g.1 in
+        let b = both_given targets value r.0 r.1 in
         let a = assigned_is C.classes target r.0 g.0 r.2 in
         subst (λ (l : Known). AllTyped l.types) (sym (bound_same k target (is_some (assigns C k span target e).got) (option_map type_of (value_for C k target e).got) (type_of r.0.1) (some_is (assigns C k span target e).got g.0 g.1) (ap (option_map type_of) b.1)))
-        (typed_bound k all target r.0.0 (aims_length C k (leaves target) r.0.0 b.0) (type_of r.0.1) a.bound)
+        (typed_bound k all target r.0.0 (looked_at C k target r.0.0 (option_map type_of value.got) (type_of r.0.1) b.0 (ap (option_map type_of) b.1)).many (type_of r.0.1) a.bound)
 
     quiet_name : (k : Known) → AllTyped k.types → (span : Span) (x : List ℕ) (target mark : ExprTree) (e : Option ExprTree) → name_in target ≡ Some x → AreKnown C.meaning (reads Annotation mark ++ maybe_reads Value e) → (annotates_name C k span x mark e).said ≡ [] → AllTyped (binds_annotated C k span (Some x) target mark e).types
     quiet_name k all span x target mark None n u h =
@@ -329,14 +418,22 @@ module _ (C : Context) where
     quiet_head k all s span target e ut u h =
         let hd = for_head C k span target e in
         let g = quiet_got hd (loud_head k all span target e ut u) h in
-        let parts = both (target_aims C k target) (course C k e) in
+        let targets = aims_behind C k target (some_items (course C k e).got) in
+        let parts = both targets (course C k e) in
         let m = made_given (λ p. (targets_of p.0, p.1)) (rule span (head C.classes (is_flat target) (is_row target)) parts) g.0 g.1 in
         let r = rule_given span (head C.classes (is_flat target) (is_row target)) parts m.0 m.1 in
-        let b = both_given (target_aims C k target) (course C k e) r.0 r.1 in
+        let b = both_given targets (course C k e) r.0 r.1 in
         let d = head_is C.classes target r.0 m.0 r.2 in
         let l = entering C k s in
         subst (λ (z : Known). AllTyped z.types) (sym (bound_same l target (is_some hd.got) (some_items (course C k e).got) d.0.item (some_is hd.got g.0 g.1) (ap some_items b.1 ∙ d.0.items)))
-        (typed_bound l all target r.0.0 (aims_length C k (leaves target) r.0.0 b.0) d.0.item d.0.bound)
+        (typed_bound l all target r.0.0 (looked_behind C k target r.0.0 (some_items (course C k e).got) d.0.item b.0 (ap some_items b.1 ∙ d.0.items)).many d.0.item d.0.bound)
+
+    -- a clause binds its name
+    quiet_clause_head : (k : Known) → AllTyped k.types → (span : Span) (e : Option ExprTree) (x : Option (List ℕ)) (last : Bool) → AreKnown C.meaning (maybe_reads Value e) → (handler_head C k span e x last).said ≡ [] → AllTyped (in_handler C k span e x last).types
+    quiet_clause_head k all span e x last u h =
+        let hd = handler_head C k span e x last in
+        let g = quiet_got hd (loud_clause_head k all span e x last u) h in
+        subst (λ (b : Bool). AllTyped (bind_name C b k x (Some (sort.Exc Exception))).types) (sym (some_is hd.got g.0 g.1)) (typed_name k all x (sort.Exc Exception))
 
     -- ---- statements
 
@@ -358,100 +455,169 @@ module _ (C : Context) where
           (loud_behind (typed_at C k (return_wanted r) e) (λ p. with_part p (value_return C.classes span r)) (loud_value k all (return_wanted r) e u) (λ v. loud_value_return span v r judged))
 
       mutual
-        loud_stmt : (loops : Bool) (k : Known) → AllTyped k.types → (s : StmtTree) → AreKnown C.meaning (stmt_sights home s) → IsLoud (statement C r loops k s)
-        loud_stmt loops k all (node.at n span) u = loud_made (λ a. on_line a span.line) (node_statement C r loops k span n) (loud_node loops k all span n u)
+        loud_stmt : (around : Around) (k : Known) → AllTyped k.types → (s : StmtTree) → AreKnown C.meaning (stmt_sights home s) → IsLoud (statement C r around k s)
+        loud_stmt around k all (node.at n span) u = loud_made (λ a. on_line a span.line) (node_statement C r around k span n) (loud_node around k all span n u)
 
-        loud_node : (loops : Bool) (k : Known) → AllTyped k.types → (span : Span) (n : StmtNode) → AreKnown C.meaning (stmt_node_sights home n span) → IsLoud (node_statement C r loops k span n)
-        loud_node loops k all span (node.Do e) u = loud_made act.Do (typed_at C k _ e) (loud_value k all _ e u)
-        loud_node loops k all span (node.Assign target e) u = loud_assigns k all span target e u
-        loud_node loops k all span (node.Annot target mark e) u = loud_annotates k all span (name_in target) target mark e u
-        loud_node loops k all span (node.Aug target op e) u = loud_updates k all span target op e u
-        loud_node loops k all span (node.Return e) u = loud_returns k all span e u
-        loud_node loops k all span node.Pass u = loud_is act.Pass
-        loud_node loops k all span (node.Global names) u = loud_is act.Pass
-        loud_node loops k all span node.Break u = loud_in_loop r C loops span _ act.Break
-        loud_node loops k all span node.Continue u = loud_in_loop r C loops span _ act.Continue
-        loud_node loops k all span (node.If arms other) u =
+        loud_node : (around : Around) (k : Known) → AllTyped k.types → (span : Span) (n : StmtNode) → AreKnown C.meaning (stmt_node_sights home n span) → IsLoud (node_statement C r around k span n)
+        loud_node around k all span (node.Do e) u = loud_made act.Do (typed_at C k _ e) (loud_value k all _ e u)
+        loud_node around k all span (node.Assign target e) u = loud_assigns k all span target e u
+        loud_node around k all span (node.Annot target mark e) u = loud_annotates k all span (name_in target) target mark e u
+        loud_node around k all span (node.Aug target op e) u = loud_updates k all span target op e u
+        loud_node around k all span (node.Del e) u = loud_rule span (deletion (is_item e)) (typed_at C k free e) (loud_value k all free e u)
+        loud_node around k all span (node.Return e) u = loud_returns k all span e u
+        loud_node around k all span node.Pass u = loud_is act.Pass
+        loud_node around k all span (node.Global names) u = loud_is act.Pass
+        loud_node around k all span node.Break u = loud_in_loop r C around.looping span _ act.Break
+        loud_node around k all span node.Continue u = loud_in_loop r C around.looping span _ act.Continue
+        loud_node around k all span (node.If arms other) u =
             let w = arms_after C (setting_out k) arms in
-            let s = branches C r loops (setting_out k) arms in
-            let t = block C r loops w.at other in
-            loud_made (λ p. act.If (arms_of p.0) (suite_of p.1)) (both s t) (loud_both_then s t (loud_arms loops (setting_out k) all arms (front (arms_sights home arms) (suite_sights home other) u)) (λ q. loud_block loops w.at (quiet_arms loops (setting_out k) all arms (front (arms_sights home arms) (suite_sights home other) u) q) other (back (arms_sights home arms) (suite_sights home other) u)))
-        loud_node loops k all span (node.While e body) u =
+            let s = branches C r around (setting_out k) arms in
+            let t = block C r around w.at other in
+            loud_made (λ p. act.If (arms_of p.0) (suite_of p.1)) (both s t) (loud_both_then s t (loud_arms around (setting_out k) all arms (front (arms_sights home arms) (suite_sights home other) u)) (λ q. loud_block around w.at (quiet_arms around (setting_out k) all arms (front (arms_sights home arms) (suite_sights home other) u) q) other (back (arms_sights home arms) (suite_sights home other) u)))
+        loud_node around k all span (node.While e body) u =
             let l = entering C k (node.at (node.While e body) span) in
             let s = condition C l e in
-            let t = block C r true (where_test C l true e) body in
-            loud_made (λ p. act.While p.0 (suite_of p.1)) (both s t) (loud_both s t (loud_condition l all e (front (reads Value e) (suite_sights home body) u)) (loud_block true (where_test C l true e) all body (back (reads Value e) (suite_sights home body) u)))
-        loud_node loops k all span (node.For target e body) u =
+            let t = block C r (around_loop around) (where_test C l true e) body in
+            loud_made (λ p. act.While p.0 (suite_of p.1)) (both s t) (loud_both s t (loud_condition l all e (front (reads Value e) (suite_sights home body) u)) (loud_block (around_loop around) (where_test C l true e) all body (back (reads Value e) (suite_sights home body) u)))
+        loud_node around k all span (node.For target e body) u =
             let here = node.at (node.For target e body) span in
             let s = for_head C k span target e in
             let l = in_for C k here span target e in
-            let t = block C r true l body in
-            loud_made (λ p. loop_of p.0.0 p.0.1 (suite_of p.1)) (both s t) (loud_both_then s t (loud_head k all span target e (front (target_sights target) (reads Value e ++ suite_sights home body) u) (front (reads Value e) (suite_sights home body) (back (target_sights target) (reads Value e ++ suite_sights home body) u))) (λ q. loud_block true l (quiet_head k all here span target e (front (target_sights target) (reads Value e ++ suite_sights home body) u) (front (reads Value e) (suite_sights home body) (back (target_sights target) (reads Value e ++ suite_sights home body) u)) q) body (back (reads Value e) (suite_sights home body) (back (target_sights target) (reads Value e ++ suite_sights home body) u))))
-        loud_node loops k all span _ u = loud_fails span _
+            let t = block C r (around_loop around) l body in
+            loud_made (λ p. loop_of p.0.0 p.0.1 (suite_of p.1)) (both s t) (loud_both_then s t (loud_head k all span target e (front (target_sights target) (reads Value e ++ suite_sights home body) u) (front (reads Value e) (suite_sights home body) (back (target_sights target) (reads Value e ++ suite_sights home body) u))) (λ q. loud_block (around_loop around) l (quiet_head k all here span target e (front (target_sights target) (reads Value e ++ suite_sights home body) u) (front (reads Value e) (suite_sights home body) (back (target_sights target) (reads Value e ++ suite_sights home body) u)) q) body (back (reads Value e) (suite_sights home body) (back (target_sights target) (reads Value e ++ suite_sights home body) u))))
+        loud_node around k all span (node.Raise e) u = loud_raises around.handling k all span e u
+        loud_node around k all span (node.Assert e text) u = loud_asserts k all span e text u
+        loud_node around k all span (node.Try body handlers last) u =
+            let later = handlers_sights home handlers ++ maybe_suite_sights home last in
+            let ub = front (suite_sights home body) later u in
+            let uh = front (handlers_sights home handlers) (maybe_suite_sights home last) (back (suite_sights home body) later u) in
+            let ul = back (handlers_sights home handlers) (maybe_suite_sights home last) (back (suite_sights home body) later u) in
+            let outer = outside_try C k (node.at (node.Try body handlers last) span) in
+            let first = block_after C k body in
+            let b = block C r around k body in
+            let cs = clauses C r around outer first handlers in
+            let handled = handlers_after C outer first handlers in
+            let l = maybe_block C r around outer handled last in
+            loud_made try_of (both (both b cs) l)
+            (loud_both_then (both b cs) l (loud_both_then b cs (loud_block around k all body ub) (λ q. loud_clauses around outer first (quiet_block around k all body ub q) handlers uh))
+            (λ q. loud_last around outer handled (quiet_clauses around outer first (quiet_block around k all body ub (none_before b.said cs.said q)) handlers uh (none_behind b.said cs.said q)) last ul))
+        loud_node around k all span _ u = loud_fails span _
 
-        pub loud_block : (loops : Bool) (k : Known) → AllTyped k.types → (body : Suite) → AreKnown C.meaning (suite_sights home body) → IsLoud (block C r loops k body)
-        loud_block loops k all no_stmts u = loud_is []
-        loud_block loops k all (stmt_then s more) u =
-            let one = statement C r loops k s in
-            let rest = block C r loops (after C k s) more in
-            loud_if (is_definition s) (block C r loops k more) (row_then one rest) (loud_block loops k all more (back (stmt_sights home s) (suite_sights home more) u)) (loud_then one rest (loud_stmt loops k all s (front (stmt_sights home s) (suite_sights home more) u)) (λ q. loud_block loops (after C k s) (quiet_stmt loops k all s (front (stmt_sights home s) (suite_sights home more) u) q) more (back (stmt_sights home s) (suite_sights home more) u)))
+        pub loud_block : (around : Around) (k : Known) → AllTyped k.types → (body : Suite) → AreKnown C.meaning (suite_sights home body) → IsLoud (block C r around k body)
+        loud_block around k all no_stmts u = loud_is []
+        loud_block around k all (stmt_then s more) u =
+            let one = statement C r around k s in
+            let rest = block C r around (after C k s) more in
+            loud_if (is_definition s) (block C r around k more) (row_then one rest) (loud_block around k all more (back (stmt_sights home s) (suite_sights home more) u)) (loud_then one rest (loud_stmt around k all s (front (stmt_sights home s) (suite_sights home more) u)) (λ q. loud_block around (after C k s) (quiet_stmt around k all s (front (stmt_sights home s) (suite_sights home more) u) q) more (back (stmt_sights home s) (suite_sights home more) u)))
 
-        loud_arms : (loops : Bool) (w : Way) → AllTyped w.at.types → (arms : Arms) → AreKnown C.meaning (arms_sights home arms) → IsLoud (branches C r loops w arms)
-        loud_arms loops w all no_arms u = loud_is []
-        loud_arms loops w all (arm_then e body more) u =
+        loud_arms : (around : Around) (w : Way) → AllTyped w.at.types → (arms : Arms) → AreKnown C.meaning (arms_sights home arms) → IsLoud (branches C r around w arms)
+        loud_arms around w all no_arms u = loud_is []
+        loud_arms around w all (arm_then e body more) u =
             let ue = front (reads Value e) (suite_sights home body ++ arms_sights home more) u in
             let ub = front (suite_sights home body) (arms_sights home more) (back (reads Value e) (suite_sights home body ++ arms_sights home more) u) in
             let um = back (suite_sights home body) (arms_sights home more) (back (reads Value e) (suite_sights home body ++ arms_sights home more) u) in
             let s = condition C w.at e in
             let l = where_test C w.at true e in
-            let t = block C r loops l body in
+            let t = block C r around l body in
             let next = behind_arm C w e (is_closed body) (block_after C l body) in
             let one = made (λ p. (p.0, suite_of p.1)) (both s t) in
-            loud_then one (branches C r loops next more) (loud_made (λ p. (p.0, suite_of p.1)) (both s t) (loud_both s t (loud_condition w.at all e ue) (loud_block loops l all body ub)))
-            (λ q. loud_arms loops next (quiet_block loops l all body ub (none_behind s.said t.said q)) more um)
+            loud_then one (branches C r around next more) (loud_made (λ p. (p.0, suite_of p.1)) (both s t) (loud_both s t (loud_condition w.at all e ue) (loud_block around l all body ub)))
+            (λ q. loud_arms around next (quiet_block around l all body ub (none_behind s.said t.said q)) more um)
 
-        quiet_stmt : (loops : Bool) (k : Known) → AllTyped k.types → (s : StmtTree) → AreKnown C.meaning (stmt_sights home s) → (statement C r loops k s).said ≡ [] → AllTyped (after C k s).types
-        quiet_stmt loops k all (node.at n span) u h = quiet_node loops k all span n u h
+        loud_clauses : (around : Around) (outer : List ℕ) (k : Known) → AllTyped k.types → (handlers : Handlers) → AreKnown C.meaning (handlers_sights home handlers) → IsLoud (clauses C r around outer k handlers)
+        loud_clauses around outer k all no_handlers u = loud_is []
+        loud_clauses around outer k all (handler_then e x body span more) u =
+            let ue = front (maybe_reads Value e) (caught_sights x span ++ (suite_sights home body ++ handlers_sights home more)) u in
+            let later = back (caught_sights x span) (suite_sights home body ++ handlers_sights home more) (back (maybe_reads Value e) (caught_sights x span ++ (suite_sights home body ++ handlers_sights home more)) u) in
+            let ub = front (suite_sights home body) (handlers_sights home more) later in
+            let l = with_names k outer in
+            let hd = handler_head C l span e x (is_last more) in
+            let begun = in_handler C l span e x (is_last more) in
+            let t = block C r (around_clause around) begun body in
+            let end = block_after C begun body in
+            loud_then (made clause_of (both hd t)) (clauses C r around outer end more)
+            (loud_made clause_of (both hd t) (loud_both_then hd t (loud_clause_head l all span e x (is_last more) ue) (λ q. loud_block (around_clause around) begun (quiet_clause_head l all span e x (is_last more) ue q) body ub)))
+            (λ q. loud_clauses around outer end (quiet_block (around_clause around) begun (quiet_clause_head l all span e x (is_last more) ue (none_before hd.said t.said q)) body ub (none_behind hd.said t.said q)) more (back (suite_sights home body) (handlers_sights home more) later))
 
-        quiet_node : (loops : Bool) (k : Known) → AllTyped k.types → (span : Span) (n : StmtNode) → AreKnown C.meaning (stmt_node_sights home n span) → (node_statement C r loops k span n).said ≡ [] → AllTyped (node_after C k span n).types
-        quiet_node loops k all span (node.Assign target e) u h = quiet_assign k all span target e u h
-        quiet_node loops k all span (node.Annot target mark e) u h = quiet_annotated k all span (name_in target) target mark e refl u h
-        quiet_node loops k all span (node.Aug target op e) u h = quiet_update k all span target op e u h
-        quiet_node loops k all span (node.If arms other) u h =
+        loud_last : (around : Around) (outer : List ℕ) (k : Known) → AllTyped k.types → (last : MaybeSuite) → AreKnown C.meaning (maybe_suite_sights home last) → IsLoud (maybe_block C r around outer k last)
+        loud_last around outer k all no_suite u = loud_is None
+        loud_last around outer k all (some_suite body) u = loud_made present (block C r around (with_names k outer) body) (loud_block around (with_names k outer) all body u)
+
+        quiet_stmt : (around : Around) (k : Known) → AllTyped k.types → (s : StmtTree) → AreKnown C.meaning (stmt_sights home s) → (statement C r around k s).said ≡ [] → AllTyped (after C k s).types
+        quiet_stmt around k all (node.at n span) u h = quiet_node around k all span n u h
+
+        quiet_node : (around : Around) (k : Known) → AllTyped k.types → (span : Span) (n : StmtNode) → AreKnown C.meaning (stmt_node_sights home n span) → (node_statement C r around k span n).said ≡ [] → AllTyped (node_after C k span n).types
+        quiet_node around k all span (node.Assign target e) u h = quiet_assign k all span target e u h
+        quiet_node around k all span (node.Annot target mark e) u h = quiet_annotated k all span (name_in target) target mark e refl u h
+        quiet_node around k all span (node.Aug target op e) u h = quiet_update k all span target op e u h
+        quiet_node around k all span (node.If arms other) u h =
             let w = arms_after C (setting_out k) arms in
-            let s = branches C r loops (setting_out k) arms in
-            let t = block C r loops w.at other in
-            quiet_block loops w.at (quiet_arms loops (setting_out k) all arms (front (arms_sights home arms) (suite_sights home other) u) (none_before s.said t.said h)) other (back (arms_sights home arms) (suite_sights home other) u) (none_behind s.said t.said h)
-        quiet_node loops k all span (node.While e body) u h =
+            let s = branches C r around (setting_out k) arms in
+            let t = block C r around w.at other in
+            quiet_block around w.at (quiet_arms around (setting_out k) all arms (front (arms_sights home arms) (suite_sights home other) u) (none_before s.said t.said h)) other (back (arms_sights home arms) (suite_sights home other) u) (none_behind s.said t.said h)
+        quiet_node around k all span (node.While e body) u h =
             let l = entering C k (node.at (node.While e body) span) in
             let s = condition C l e in
-            let t = block C r true (where_test C l true e) body in
-            quiet_block true (where_test C l true e) all body (back (reads Value e) (suite_sights home body) u) (none_behind s.said t.said h)
-        quiet_node loops k all span (node.For target e body) u h =
+            let t = block C r (around_loop around) (where_test C l true e) body in
+            quiet_block (around_loop around) (where_test C l true e) all body (back (reads Value e) (suite_sights home body) u) (none_behind s.said t.said h)
+        quiet_node around k all span (node.For target e body) u h =
             let here = node.at (node.For target e body) span in
             let s = for_head C k span target e in
             let l = in_for C k here span target e in
-            let t = block C r true l body in
-            quiet_block true l (quiet_head k all here span target e (front (target_sights target) (reads Value e ++ suite_sights home body) u) (front (reads Value e) (suite_sights home body) (back (target_sights target) (reads Value e ++ suite_sights home body) u)) (none_before s.said t.said h)) body (back (reads Value e) (suite_sights home body) (back (target_sights target) (reads Value e ++ suite_sights home body) u)) (none_behind s.said t.said h)
-        quiet_node loops k all span _ u h = all
+            let t = block C r (around_loop around) l body in
+            quiet_block (around_loop around) l (quiet_head k all here span target e (front (target_sights target) (reads Value e ++ suite_sights home body) u) (front (reads Value e) (suite_sights home body) (back (target_sights target) (reads Value e ++ suite_sights home body) u)) (none_before s.said t.said h)) body (back (reads Value e) (suite_sights home body) (back (target_sights target) (reads Value e ++ suite_sights home body) u)) (none_behind s.said t.said h)
+        quiet_node around k all span (node.Try body handlers last) u h =
+            let later = handlers_sights home handlers ++ maybe_suite_sights home last in
+            let ub = front (suite_sights home body) later u in
+            let uh = front (handlers_sights home handlers) (maybe_suite_sights home last) (back (suite_sights home body) later u) in
+            let ul = back (handlers_sights home handlers) (maybe_suite_sights home last) (back (suite_sights home body) later u) in
+            let outer = outside_try C k (node.at (node.Try body handlers last) span) in
+            let first = block_after C k body in
+            let b = block C r around k body in
+            let cs = clauses C r around outer first handlers in
+            let handled = handlers_after C outer first handlers in
+            let l = maybe_block C r around outer handled last in
+            let q = none_before (both b cs).said l.said h in
+            quiet_last around outer handled (quiet_clauses around outer first (quiet_block around k all body ub (none_before b.said cs.said q)) handlers uh (none_behind b.said cs.said q)) last ul (none_behind (both b cs).said l.said h)
+        quiet_node around k all span _ u h = all
 
-        pub quiet_block : (loops : Bool) (k : Known) → AllTyped k.types → (body : Suite) → AreKnown C.meaning (suite_sights home body) → (block C r loops k body).said ≡ [] → AllTyped (block_after C k body).types
-        quiet_block loops k all no_stmts u h = all
-        quiet_block loops k all (stmt_then s more) u h =
-            let one = statement C r loops k s in
-            let rest = block C r loops (after C k s) more in
-            quiet_step k s more (block C r loops k more) (row_then one rest) (is_definition s) refl (λ q. quiet_block loops k all more (back (stmt_sights home s) (suite_sights home more) u) q)
-            (λ q. quiet_block loops (after C k s) (quiet_stmt loops k all s (front (stmt_sights home s) (suite_sights home more) u) (none_before one.said rest.said q)) more (back (stmt_sights home s) (suite_sights home more) u) (none_behind one.said rest.said q)) h
+        quiet_clauses : (around : Around) (outer : List ℕ) (k : Known) → AllTyped k.types → (handlers : Handlers) → AreKnown C.meaning (handlers_sights home handlers) → (clauses C r around outer k handlers).said ≡ [] → AllTyped (handlers_after C outer k handlers).types
+        quiet_clauses around outer k all no_handlers u h = all
+        quiet_clauses around outer k all (handler_then e x body span more) u h =
+            let ue = front (maybe_reads Value e) (caught_sights x span ++ (suite_sights home body ++ handlers_sights home more)) u in
+            let later = back (caught_sights x span) (suite_sights home body ++ handlers_sights home more) (back (maybe_reads Value e) (caught_sights x span ++ (suite_sights home body ++ handlers_sights home more)) u) in
+            let ub = front (suite_sights home body) (handlers_sights home more) later in
+            let l = with_names k outer in
+            let hd = handler_head C l span e x (is_last more) in
+            let begun = in_handler C l span e x (is_last more) in
+            let t = block C r (around_clause around) begun body in
+            let end = block_after C begun body in
+            let one = made clause_of (both hd t) in
+            let rest = clauses C r around outer end more in
+            let q = none_before one.said rest.said h in
+            quiet_clauses around outer end (quiet_block (around_clause around) begun (quiet_clause_head l all span e x (is_last more) ue (none_before hd.said t.said q)) body ub (none_behind hd.said t.said q)) more (back (suite_sights home body) (handlers_sights home more) later) (none_behind one.said rest.said h)
 
-        quiet_arms : (loops : Bool) (w : Way) → AllTyped w.at.types → (arms : Arms) → AreKnown C.meaning (arms_sights home arms) → (branches C r loops w arms).said ≡ [] → AllTyped (arms_after C w arms).at.types
-        quiet_arms loops w all no_arms u h = all
-        quiet_arms loops w all (arm_then e body more) u h =
+        quiet_last : (around : Around) (outer : List ℕ) (k : Known) → AllTyped k.types → (last : MaybeSuite) → AreKnown C.meaning (maybe_suite_sights home last) → (maybe_block C r around outer k last).said ≡ [] → AllTyped (last_after C outer k last).types
+        quiet_last around outer k all no_suite u h = all
+        quiet_last around outer k all (some_suite body) u h = quiet_block around (with_names k outer) all body u h
+
+        pub quiet_block : (around : Around) (k : Known) → AllTyped k.types → (body : Suite) → AreKnown C.meaning (suite_sights home body) → (block C r around k body).said ≡ [] → AllTyped (block_after C k body).types
+        quiet_block around k all no_stmts u h = all
+        quiet_block around k all (stmt_then s more) u h =
+            let one = statement C r around k s in
+            let rest = block C r around (after C k s) more in
+            quiet_step k s more (block C r around k more) (row_then one rest) (is_definition s) refl (λ q. quiet_block around k all more (back (stmt_sights home s) (suite_sights home more) u) q)
+            (λ q. quiet_block around (after C k s) (quiet_stmt around k all s (front (stmt_sights home s) (suite_sights home more) u) (none_before one.said rest.said q)) more (back (stmt_sights home s) (suite_sights home more) u) (none_behind one.said rest.said q)) h
+
+        quiet_arms : (around : Around) (w : Way) → AllTyped w.at.types → (arms : Arms) → AreKnown C.meaning (arms_sights home arms) → (branches C r around w arms).said ≡ [] → AllTyped (arms_after C w arms).at.types
+        quiet_arms around w all no_arms u h = all
+        quiet_arms around w all (arm_then e body more) u h =
             let ub = front (suite_sights home body) (arms_sights home more) (back (reads Value e) (suite_sights home body ++ arms_sights home more) u) in
             let um = back (suite_sights home body) (arms_sights home more) (back (reads Value e) (suite_sights home body ++ arms_sights home more) u) in
             let s = condition C w.at e in
             let l = where_test C w.at true e in
-            let t = block C r loops l body in
+            let t = block C r around l body in
             let next = behind_arm C w e (is_closed body) (block_after C l body) in
             let one : Seen (TypedExpr × TypedSuite) = made (λ p. (p.0, suite_of p.1)) (both s t) in
-            let rest = branches C r loops next more in
-            quiet_arms loops next (quiet_block loops l all body ub (none_behind s.said t.said (none_before one.said rest.said h))) more um (none_behind one.said rest.said h)
+            let rest = branches C r around next more in
+            quiet_arms around next (quiet_block around l all body ub (none_behind s.said t.said (none_before one.said rest.said h))) more um (none_behind one.said rest.said h)

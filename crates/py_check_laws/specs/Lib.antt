@@ -1,5 +1,6 @@
 pub mod Statements
 pub mod WellTyped
 pub mod Modules
-pub mod Placeholders
 pub mod Variables
+pub mod Entries
+pub mod Narrowing

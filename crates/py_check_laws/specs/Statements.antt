@@ -12,6 +12,7 @@ use Rattle.py_check_annotations.specs.Names.{any_unknown}
 use Rattle.py_check_names.specs.Outline.{suite_definitions}
 use Rattle.py_check_values.specs.Returns.{ReturnSort, untyped}
 use Rattle.py_check_places.specs.Places.{Known}
+use Rattle.py_check_statements.specs.declared.bodies.Around.{Around}
 use Rattle.py_check_statements.specs.Bodies.{block, block_after}
 use Rattle.py_check_expressions_laws.specs.Laws.{AllHaveTypes}
 use Rattle.py_check_expressions_laws.specs.WellTyped.{Describes, Within}
@@ -28,8 +29,8 @@ is_judged r = true
 -- known, and of which nothing is said, are typed whole, and behind them no name is without a type
 abbrev pub QuietBlockIsTyped : Type 0
 QuietBlockIsTyped =
-    (c : Context) (home : Home) (ret : ReturnSort) (loops : Bool) (k : Known) (body : Suite) → is_judged ret ≡ true → AllHaveTypes c k.types
-    → any_unknown c.meaning (suite_sights home body) ≡ false → (block c ret loops k body).said ≡ [] → (is_some (block c ret loops k body).got ≡ true) × AllHaveTypes c (block_after c k body).types
+    (c : Context) (home : Home) (ret : ReturnSort) (a : Around) (k : Known) (body : Suite) → is_judged ret ≡ true → AllHaveTypes c k.types
+    → any_unknown c.meaning (suite_sights home body) ≡ false → (block c ret a k body).said ≡ [] → (is_some (block c ret a k body).got ≡ true) × AllHaveTypes c (block_after c k body).types
 
 -- ---- what is typed is well typed
 
@@ -38,6 +39,6 @@ QuietBlockIsTyped =
 -- type keeps it, so it describes all that comes before too. In a function nothing is defined and nothing imported
 abbrev pub TypedBlockIsWellTyped : Type 0
 TypedBlockIsWellTyped =
-    (c : Context) (ret : ReturnSort) (loops : Bool) (k : Known) (body : Suite) (m : TypedModule) (locals : List Variable) (init : Option ℕ) (result : Option Sort) (handling : Bool) → IsScope c k.types → IsResult (length c.classes) ret result → Describes c (block_after c k body).types m locals
-    → is_suite_written body ≡ true → (is_some result ≡ true → suite_definitions body ≡ []) → (ts : List TypedStmt) → (block c ret loops k body).got ≡ Some ts → (known : List ℕ) → Within k.names known
-    → (suite_typed m locals init result known loops handling (suite_of ts) ≡ true) × Within (block_after c k body).names (after_suite (is_single m locals init result) known (suite_of ts))
+    (c : Context) (ret : ReturnSort) (a : Around) (k : Known) (body : Suite) (m : TypedModule) (locals : List Variable) (init : Option ℕ) (result : Option Sort) → IsScope c k.types → IsResult (length c.classes) ret result → Describes c (block_after c k body).types m locals
+    → is_suite_written body ≡ true → (is_some result ≡ true → suite_definitions body ≡ []) → (ts : List TypedStmt) → (block c ret a k body).got ≡ Some ts → (known : List ℕ) → Within k.names known
+    → (suite_typed m locals init result known a.looping a.handling (suite_of ts) ≡ true) × Within (block_after c k body).names (after_suite (is_single m locals init result) known (suite_of ts))

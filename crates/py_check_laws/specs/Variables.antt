@@ -2,13 +2,13 @@
 -- Reference, "Annotated assignment statements").
 --
 -- A statement that does not bind a name leaves its variable as it is; one that binds it gives it a type, or none for good; and what it
--- has then it keeps. So what is behind a text is what the first of its bindings gives. A `try` is not typed yet, and gives nothing.
-use Rattle.std.specs.Prelude.{◌≡◌, ℕ, nat_lt, Bool, true, false, ◌||◌, List, length, slice_get, Some, is_some}
+-- has then it keeps. So what is behind a text is what the first of its bindings gives.
+use Rattle.std.specs.Prelude.{◌≡◌, ℕ, nat_lt, Bool, true, false, List, length, slice_get, Some, is_some}
 use Rattle.std.specs.Option.{option_map}
 use Rattle.py_syntax.specs.declared.token.Span.{Span}
 use Rattle.py_syntax.specs.Expressions.{ExprTree}
 use Rattle.py_syntax.specs.Statements as node
-use Rattle.py_syntax.specs.Statements.{StmtTree, StmtNode, Suite, no_stmts, stmt_then, Arms, no_arms, arm_then}
+use Rattle.py_syntax.specs.Statements.{Suite, no_stmts, stmt_then}
 use Rattle.py_binder.specs.Scope.{contains, module_scope}
 use Rattle.py_typed.specs.Expressions.{type_of}
 use Rattle.py_check_context.specs.declared.scope.Meaning.{Meaning}
@@ -38,26 +38,6 @@ is_there V (meaning.Local i) = nat_lt i (length V.locals)
 is_there V (meaning.Global i) = nat_lt i (length V.globals)
 is_there V m = true
 
--- a `try` stands among statements, or in their bodies
-abbrev mutual
-  pub is_try_in : StmtTree → Bool
-  is_try_in (node.at n span) = is_try_at n
-
-  pub is_try_at : StmtNode → Bool
-  is_try_at (node.Try body others last) = true
-  is_try_at (node.If arms other) = is_try_in_arms arms || is_try_in_suite other
-  is_try_at (node.While e body) = is_try_in_suite body
-  is_try_at (node.For target e body) = is_try_in_suite body
-  is_try_at n = false
-
-  pub is_try_in_suite : Suite → Bool
-  is_try_in_suite no_stmts = false
-  is_try_in_suite (stmt_then s more) = is_try_in s || is_try_in_suite more
-
-  pub is_try_in_arms : Arms → Bool
-  is_try_in_arms no_arms = false
-  is_try_in_arms (arm_then e body more) = is_try_in_suite body || is_try_in_arms more
-
 -- statements that bind a name
 abbrev pub is_bound_in : Suite → List ℕ → Bool
 is_bound_in body x = contains (bound_names (suite_bindings body)) x
@@ -79,7 +59,7 @@ OnlyBindingsGiveTypes =
 -- behind statements that bind the name of a variable it has a type, or has none for good
 abbrev pub BindingsGiveTypes : Type 0
 BindingsGiveTypes =
-    (c : Context) (k : Known) (body : Suite) (x : List ℕ) → is_variable (c.meaning x) ≡ true → is_there k.types (c.meaning x) ≡ true → is_try_in_suite body ≡ false → is_bound_in body x ≡ true
+    (c : Context) (k : Known) (body : Suite) (x : List ℕ) → is_variable (c.meaning x) ≡ true → is_there k.types (c.meaning x) ≡ true → is_bound_in body x ≡ true
     → is_unset (sort_in (block_after c k body).types (c.meaning x)) ≡ false
 
 -- statements in a row, and more behind them
@@ -99,7 +79,7 @@ FirstAssignmentsGiveTypes =
 -- behind its own statements each of them has a type, or has none for good: no function is there before the first binding
 abbrev pub ModuleFixesTypes : Type 0
 ModuleFixesTypes =
-    (m : Suite) (i : ℕ) (x : List ℕ) → is_try_in_suite m ≡ false → slice_get (variables (module_scope m)) i ≡ Some x
+    (m : Suite) (i : ℕ) (x : List ℕ) → slice_get (variables (module_scope m)) i ≡ Some x
     → is_unset (var_at (global_sorts (environment m) (module_scope m) (headed_functions m) m) i) ≡ false
 
 -- one whose first binding is annotated has the type of that annotation, if it has one

@@ -1,6 +1,7 @@
 //! The laws. The calls do nothing.
+ghost use Rattle.py_check_laws.specs.Entries.{StatementOwnOrOfParts};
 ghost use Rattle.py_check_laws.specs.Modules.{QuietBodiesFixNothing, QuietModuleIsTyped, QuietModuleIsWellTyped, QuietModuleNamesDiffer, QuietModuleStands, QuietModuleTypesVariables};
-ghost use Rattle.py_check_laws.specs.Placeholders.{FormlessBlockMeetsNoPlaceholder, FormlessModuleMeetsNoPlaceholder};
+ghost use Rattle.py_check_laws.specs.Narrowing.{ForBodyKnowsNoMore, TestKnowsNoMore, TypedBlockKnowsNoMore, WhileBodyKnowsNoMore};
 ghost use Rattle.py_check_laws.specs.Statements.{QuietBlockIsTyped, TypedBlockIsWellTyped};
 ghost use Rattle.py_check_laws.specs.Variables.{AnnotationsGiveTypes, BindingsGiveTypes, FirstAssignmentsGiveTypes, ModuleFixesTypes, OnlyBindingsGiveTypes, TypesStay};
 
@@ -15,14 +16,31 @@ pub fn what_is_typed_in_a_block_is_well_typed()
     ensures { TypedBlockIsWellTyped }
 {}
 
-/// Of statements in which no form without typing rules stands nothing is said that stands for a rule that is not written yet.
-pub fn formless_statements_meet_no_placeholder()
-    ensures { FormlessBlockMeetsNoPlaceholder }
+/// Behind statements that are typed, with bare tests and no annotation without a value of a function's own variable, their typed form
+/// knows no more than typing does.
+pub fn what_is_typed_in_a_block_knows_no_more()
+    ensures { TypedBlockKnowsNoMore }
 {}
 
-/// Nor is anything of the kind said of a module in which no such form stands.
-pub fn formless_modules_meet_no_placeholder()
-    ensures { FormlessModuleMeetsNoPlaceholder }
+/// Nor does a bare test that is typed, whichever way it comes out.
+pub fn a_typed_test_knows_no_more()
+    ensures { TestKnowsNoMore }
+{}
+
+/// Nor does it where the body of such a `while` begins.
+pub fn the_body_of_a_while_knows_no_more()
+    ensures { WhileBodyKnowsNoMore }
+{}
+
+/// Nor where the body of such a `for` begins.
+pub fn the_body_of_a_for_knows_no_more()
+    ensures { ForBodyKnowsNoMore }
+{}
+
+/// All that is said of a statement is at its own place, or else it is what is said of its parts: of both only of a `for`, whose own
+/// entry stands in front of those of its body.
+pub fn a_statement_has_an_entry_or_its_parts_have()
+    ensures { StatementOwnOrOfParts }
 {}
 
 /// Behind any statements a variable that had a type, or had none for good, is as it was.
@@ -36,7 +54,7 @@ pub fn only_bindings_give_types()
     ensures { OnlyBindingsGiveTypes }
 {}
 
-/// Behind statements that bind the name of a variable, none of them a `try`, it has a type, or has none for good.
+/// Behind statements that bind the name of a variable it has a type, or has none for good.
 pub fn bindings_give_types()
     ensures { BindingsGiveTypes }
 {}
@@ -47,7 +65,7 @@ pub fn first_assignments_give_types()
     ensures { FirstAssignmentsGiveTypes }
 {}
 
-/// Behind the own statements of a module without a `try` each of its variables has a type, or has none for good.
+/// Behind the own statements of a module each of its variables has a type, or has none for good.
 pub fn statements_of_a_module_fix_types()
     ensures { ModuleFixesTypes }
 {}

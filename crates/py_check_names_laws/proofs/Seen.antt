@@ -187,7 +187,7 @@ module _ (tests : Tests) where
     act_pass h (s.For target a body) span p =
         two (target_sights target) (reads Value a ++ suite_sights h body) (target_pass target p.0) (two (reads Value a) (suite_sights h body) (reads_pass Value a) (suite_pass h body p.3))
     act_pass h (s.Try body handlers last) span p =
-        two (suite_sights h body) (handlers_sights h handlers ++ maybe_suite_sights h last) (suite_pass h body p.0) (two (handlers_sights h handlers) (maybe_suite_sights h last) (handlers_pass h handlers p.1) (last_pass h last p.2))
+        two (suite_sights h body) (handlers_sights h handlers ++ maybe_suite_sights h last) (suite_pass h body p.2) (two (handlers_sights h handlers) (maybe_suite_sights h last) (handlers_pass h handlers p.3) (last_pass h last p.4))
     act_pass h (s.Def name params ret body marks) span p = def_pass h (record { name = name; params = params; ret = ret; body = body; marks = marks }) span p
     act_pass h (s.ClassDef name bases body marks) span p = class_pass h (record { name = name; bases = bases; body = body; marks = marks }) span p
 
@@ -204,8 +204,8 @@ module _ (tests : Tests) where
     handlers_pass h s.no_handlers p = tt
     handlers_pass h (s.handler_then class name body span more) p =
         two (maybe_reads Value class) (caught_sights name span ++ (suite_sights h body ++ handlers_sights h more)) (maybe_reads_pass Value class)
-        (two (caught_sights name span) (suite_sights h body ++ handlers_sights h more) (caught_pass name span p.0) (two (suite_sights h body) (handlers_sights h more) (suite_pass h body p.1) (handlers_pass h more p.2)))
+        (two (caught_sights name span) (suite_sights h body ++ handlers_sights h more) (caught_pass name span p.0) (two (suite_sights h body) (handlers_sights h more) (suite_pass h body p.2) (handlers_pass h more p.3)))
 
     last_pass : (h : Home) (last : MaybeSuite) → LastPasses tests last → SightsPass (maybe_suite_sights h last)
     last_pass h s.no_suite p = tt
-    last_pass h (s.some_suite body) p = suite_pass h body p
+    last_pass h (s.some_suite body) p = suite_pass h body p.1

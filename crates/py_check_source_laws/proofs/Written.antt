@@ -6,18 +6,21 @@ use Rattle.py_syntax.specs.declared.token.Span.{Span}
 use Rattle.py_syntax.specs.Expressions as e
 use Rattle.py_syntax.specs.Expressions.{ExprTree, ExprNode, ExprTrees, Comparisons, Entries, Arguments}
 use Rattle.py_syntax.specs.Statements as s
-use Rattle.py_syntax.specs.Statements.{StmtTree, StmtNode, Suite, Arms}
+use Rattle.py_syntax.specs.Statements.{StmtTree, StmtNode, Suite, Arms, Handlers, MaybeSuite}
 use Rattle.py_typed.specs.WellTypedExpr.{is_literal}
 use Rattle.py_check_places.specs.Shapes.{leaves, node_leaves, row_leaves}
 use Rattle.py_check_expressions_laws.specs.WellTyped.{is_chain, is_written, is_written_node, are_written, are_operands, are_entries, are_arguments}
-use Rattle.py_check_laws.specs.WellTyped.{is_filled, has_test, maybe_written, are_targets, is_stmt_written, is_act_written, is_suite_written, are_arms_written}
-use Rattle.py_parser_laws.specs.Trees.{Tests, IsChain, IsFilled, HasTest, ExprPasses, NodePasses, ExprsPass, ComparisonsPass, EntriesPass, ArgumentsPass, MaybePasses, StmtPasses, ActPasses, SuitePasses, ArmsPass}
+use Rattle.py_check_laws.specs.WellTyped.{is_filled, has_test, has_clause, maybe_written, are_targets, is_stmt_written, is_act_written, is_suite_written, are_arms_written, are_handlers_written, is_last_written}
+use Rattle.py_parser_laws.specs.Trees.{Tests, IsChain, IsFilled, HasTest, HasClause, ExprPasses, NodePasses, ExprsPass, ComparisonsPass, EntriesPass, ArgumentsPass, MaybePasses, StmtPasses, ActPasses, SuitePasses, ArmsPass, HandlersPass, LastPasses}
 
 three : (a b c : Bool) → a ≡ true → b ≡ true → c ≡ true → (a && b && c) ≡ true
 three a b c p q r = cc
 
 four : (a b c d : Bool) → a ≡ true → b ≡ true → c ≡ true → d ≡ true → (a && b && c && d) ≡ true
 four a b c d p q r t = cc
+
+five : (a b c d e : Bool) → a ≡ true → b ≡ true → c ≡ true → d ≡ true → e ≡ true → (a && b && c && d && e) ≡ true
+five a b c d e p q r t u = cc
 
 chain_there : (more : Comparisons) → IsChain more → is_chain more ≡ true
 chain_there e.no_comparisons h = absurd h
@@ -30,6 +33,11 @@ filled_there (s.stmt_then x more) h = refl
 test_there : (arms : Arms) → HasTest arms → has_test arms ≡ true
 test_there s.no_arms h = absurd h
 test_there (s.arm_then test body more) h = refl
+
+clause_there : (handlers : Handlers) (last : MaybeSuite) → HasClause handlers last → has_clause handlers last ≡ true
+clause_there s.no_handlers s.no_suite h = absurd h
+clause_there s.no_handlers (s.some_suite body) h = refl
+clause_there (s.handler_then class name body span more) last h = refl
 
 -- where numbers pass that are within bounds, and texts that are UTF-8
 module _ (named : List ℕ → Bool) where
@@ -113,10 +121,15 @@ module _ (named : List ℕ → Bool) where
     act_written (s.Assign target a) h = and_from (are_targets (leaves target)) (is_written a) (leaves_written target h.0) (expr_written a h.1)
     act_written (s.Annot target mark a) h = maybe_is_written a h.1
     act_written (s.Aug target op a) h = and_from (is_written target) (is_written a) (expr_written target h.0) (expr_written a h.1)
+    act_written (s.Del a) h = expr_written a h
     act_written (s.Return a) h = maybe_is_written a h
+    act_written (s.Raise a) h = maybe_is_written a h
+    act_written (s.Assert a message) h = and_from (is_written a) (maybe_written message) (expr_written a h.0) (maybe_is_written message h.1)
     act_written (s.If arms other) h = three (has_test arms) (are_arms_written arms) (is_suite_written other) (test_there arms h.0) (arms_written arms h.1) (suite_written other h.2)
     act_written (s.While test body) h = three (is_written test) (is_filled body) (is_suite_written body) (expr_written test h.0) (filled_there body h.1) (suite_written body h.2)
     act_written (s.For target a body) h = three (is_written a) (is_filled body) (is_suite_written body) (expr_written a h.1) (filled_there body h.2) (suite_written body h.3)
+    act_written (s.Try body handlers last) h =
+        five (has_clause handlers last) (is_filled body) (is_suite_written body) (are_handlers_written handlers) (is_last_written last) (clause_there handlers last h.0) (filled_there body h.1) (suite_written body h.2) (handlers_written handlers h.3) (last_written last h.4)
     act_written _ h = refl
 
     pub suite_written : (body : Suite) → SuitePasses tests body → is_suite_written body ≡ true
@@ -127,3 +140,12 @@ module _ (named : List ℕ → Bool) where
     arms_written s.no_arms h = refl
     arms_written (s.arm_then test body more) h =
         four (is_written test) (is_filled body) (is_suite_written body) (are_arms_written more) (expr_written test h.0) (filled_there body h.1) (suite_written body h.2) (arms_written more h.3)
+
+    handlers_written : (handlers : Handlers) → HandlersPass tests handlers → are_handlers_written handlers ≡ true
+    handlers_written s.no_handlers h = refl
+    handlers_written (s.handler_then class name body span more) h =
+        three (is_filled body) (is_suite_written body) (are_handlers_written more) (filled_there body h.1) (suite_written body h.2) (handlers_written more h.3)
+
+    last_written : (last : MaybeSuite) → LastPasses tests last → is_last_written last ≡ true
+    last_written s.no_suite h = refl
+    last_written (s.some_suite body) h = and_from (is_filled body) (is_suite_written body) (filled_there body h.0) (suite_written body h.1)

@@ -58,7 +58,7 @@ module _ (tests : Tests) where
   RowPasses ss = IsFilled (suite_of ss) × SuitePasses tests (suite_of ss)
 
   abbrev HandlerPasses : HandlerTree → Type 0
-  HandlerPasses h = MaybeNamePasses tests h.name × SuitePasses tests h.body
+  HandlerPasses h = MaybeNamePasses tests h.name × IsFilled h.body × SuitePasses tests h.body
 
   abbrev SymPasses : (x : Sym) → Sem x → Type 0
   SymPasses (expr e) p = PiecePasses p
@@ -156,7 +156,7 @@ module _ (tests : Tests) where
 
   handlers_pass : (hs : List HandlerTree) → AllByRecursion HandlerPasses hs → HandlersPass tests (handlers_of hs)
   handlers_pass [] h = tt
-  handlers_pass (x ∷ hs) h = (h.0.0, h.0.1, handlers_pass hs h.1)
+  handlers_pass (x ∷ hs) h = (h.0.0, h.0.1, h.0.2, handlers_pass hs h.1)
 
   text_passes : JoinsTexts tests → (t : Token) (ts : List Token) → tests.text (text_in t.kind) ≡ true → AllByRecursion (λ (u : Token). tests.text (text_in u.kind) ≡ true) ts → tests.text (texts_of (t ∷ ts)) ≡ true
   text_passes j t [] h k = j.both (text_in t.kind) [] h j.nothing
@@ -237,7 +237,7 @@ module _ (tests : Tests) where
 
   last_passes : (o : Option (List StmtTree)) → PartPasses (maybe (g.sym FINALLY)) o → LastPasses tests (maybe_suite (suite_in o))
   last_passes None h = tt
-  last_passes (Some x) h = h.1
+  last_passes (Some x) h = h
 
   name_behind_passes : (o : Option (Token × Token)) → PartPasses (maybe (tok terminal.End · tok terminal.Name)) o → MaybeNamePasses tests (name_behind o)
   name_behind_passes None h = tt
@@ -259,10 +259,10 @@ module _ (tests : Tests) where
   act_passes j PLAIN (p, Some (inr (inl (equals, value)))) h = (h.0, h.1.1)
   act_passes j PLAIN (p, Some (inr (inr (op, value)))) h = (h.0, h.1.1)
   act_passes j RETURN (word, value) h = maybe_passes value h.1
-  act_passes j RAISE (word, value) h = tt
+  act_passes j RAISE (word, value) h = maybe_passes value h.1
   act_passes j GLOBAL (word, (name, names)) h = tt
-  act_passes j ASSERT (word, (test, message)) h = tt
-  act_passes j DEL (word, p) h = tt
+  act_passes j ASSERT (word, (test, message)) h = (h.1.0, behind_passes message h.1.1)
+  act_passes j DEL (word, p) h = h.1
   act_passes j IMPORT (word, (name, alias)) h = tt
   act_passes j FROM (word, (name, (_, names))) h = tt
   act_passes j SMALL (inl word) h = tt
@@ -286,10 +286,10 @@ module _ (tests : Tests) where
   act_passes j ARM (test, (colon, body)) h = (h.0, h.1.1.0, h.1.1.1)
   act_passes j WHILE (word, (test, (colon, body))) h = (h.1.0, h.1.1.1.0, h.1.1.1.1)
   act_passes j FOR (word, (target, (_, (all, (colon, body))))) h = (h.1.0, h.1.1.1.0, h.1.1.1.1.1.0, h.1.1.1.1.1.1)
-  act_passes j TRY (word, ((colon, body), inl (handler, (handlers, last)))) h = (h.1.0.1.1, (h.1.1.0.0, h.1.1.0.1, handlers_pass handlers h.1.1.1.0), last_passes last h.1.1.1.1)
-  act_passes j TRY (word, ((colon, body), inr last)) h = (h.1.0.1.1, tt, h.1.1.1)
-  act_passes j EXCEPT (word, (None, (colon, body))) h = (tt, h.1.1.1.1)
-  act_passes j EXCEPT (word, (Some (p, name), (colon, body))) h = (name_behind_passes name h.1.0.1, h.1.1.1.1)
+  act_passes j TRY (word, ((colon, body), inl (handler, (handlers, last)))) h = (tt, h.1.0.1.0, h.1.0.1.1, (h.1.1.0.0, h.1.1.0.1, h.1.1.0.2, handlers_pass handlers h.1.1.1.0), last_passes last h.1.1.1.1)
+  act_passes j TRY (word, ((colon, body), inr last)) h = (tt, h.1.0.1.0, h.1.0.1.1, tt, h.1.1)
+  act_passes j EXCEPT (word, (None, (colon, body))) h = (tt, h.1.1.1.0, h.1.1.1.1)
+  act_passes j EXCEPT (word, (Some (p, name), (colon, body))) h = (name_behind_passes name h.1.0.1, h.1.1.1.0, h.1.1.1.1)
   act_passes j FINALLY (word, (colon, body)) h = h.1.1
   act_passes j BLOCK (inl (line, (indent, (stmts, (others, dedent))))) h = rows_pass stmts others h.1.1.0 h.1.1.1.0
   act_passes j BLOCK (inr v) h = h

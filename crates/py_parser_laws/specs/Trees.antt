@@ -1,6 +1,6 @@
 -- Trees whose names, numbers and texts pass tests, and which have the parts that a text gives them: a body has a statement, an `if` a
--- test, a comparison a second operand. Not looked at are the keys of arguments, names behind a dot, what is imported, decorators,
--- annotations and bases, the names in `global`, and the expressions in `del`, `raise`, `assert` and `except`.
+-- test, a `try` an except clause or a `finally`, a comparison a second operand. Not looked at are the keys of arguments, names behind
+-- a dot, what is imported, decorators, annotations and bases, the names in `global`, and the expressions in `except`.
 use Rattle.std.specs.Prelude.{◌≡◌, ℕ, ℤ, Bool, true, List, [], ◌++◌, Option, Some, None}
 use Rattle.std.specs.List.{AllByRecursion}
 use Rattle.py_syntax.specs.declared.token.TokenKind.{TokenKind}
@@ -34,6 +34,11 @@ IsFilled (s.stmt_then stmt more) = Unit {0}
 abbrev pub HasTest : Arms → Type 0
 HasTest s.no_arms = ⊥
 HasTest (s.arm_then test body more) = Unit {0}
+
+abbrev pub HasClause : Handlers → MaybeSuite → Type 0
+HasClause s.no_handlers s.no_suite = ⊥
+HasClause s.no_handlers (s.some_suite body) = Unit {0}
+HasClause (s.handler_then class name body span more) last = Unit {0}
 
 module _ (tests : Tests) where
   abbrev pub KindPasses : TokenKind → Type 0
@@ -108,11 +113,14 @@ module _ (tests : Tests) where
     ActPasses (s.Assign target a) = ExprPasses target × ExprPasses a
     ActPasses (s.Annot target mark a) = ExprPasses target × MaybePasses a
     ActPasses (s.Aug target op a) = ExprPasses target × ExprPasses a
+    ActPasses (s.Del a) = ExprPasses a
     ActPasses (s.Return a) = MaybePasses a
+    ActPasses (s.Raise a) = MaybePasses a
+    ActPasses (s.Assert a message) = ExprPasses a × MaybePasses message
     ActPasses (s.If arms other) = HasTest arms × ArmsPass arms × SuitePasses other
     ActPasses (s.While test body) = ExprPasses test × IsFilled body × SuitePasses body
     ActPasses (s.For target a body) = ExprPasses target × ExprPasses a × IsFilled body × SuitePasses body
-    ActPasses (s.Try body handlers last) = SuitePasses body × HandlersPass handlers × LastPasses last
+    ActPasses (s.Try body handlers last) = HasClause handlers last × IsFilled body × SuitePasses body × HandlersPass handlers × LastPasses last
     ActPasses (s.Def name params ret body marks) = (tests.name name ≡ true) × ParamsPass params × IsFilled body × SuitePasses body
     ActPasses (s.ClassDef name bases body marks) = SuitePasses body
     ActPasses _ = Unit {0}
@@ -127,11 +135,11 @@ module _ (tests : Tests) where
 
     pub HandlersPass : Handlers → Type 0
     HandlersPass s.no_handlers = Unit {0}
-    HandlersPass (s.handler_then class name body span more) = MaybeNamePasses name × SuitePasses body × HandlersPass more
+    HandlersPass (s.handler_then class name body span more) = MaybeNamePasses name × IsFilled body × SuitePasses body × HandlersPass more
 
     pub LastPasses : MaybeSuite → Type 0
     LastPasses s.no_suite = Unit {0}
-    LastPasses (s.some_suite body) = SuitePasses body
+    LastPasses (s.some_suite body) = IsFilled body × SuitePasses body
 
   -- a function by its parts
   abbrev pub FunctionPasses : FuncTree → Type 0

@@ -2,4 +2,4 @@ use Rattle.py_check_laws.proofs.Bindings.{module_fixes}
 use Rattle.py_check_laws.proofs.laws.statements_of_a_module_fix_types.Goals as goal
 
 pub returns : goal.returns
-returns c = λ m i x untried at. module_fixes m i x untried at
+returns c = λ m i x at. module_fixes m i x at
