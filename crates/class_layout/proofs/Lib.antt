@@ -1,2 +1,5 @@
 pub mod MergeLemmas
 pub mod OrderLemmas
+pub mod LawLemmas
+pub mod LayoutLemmas
+mod LineLemmas
