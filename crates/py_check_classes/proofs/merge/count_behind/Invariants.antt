@@ -1,0 +1,13 @@
+use Rattle.std.proofs.Common.{◌≡◌, ◌+◌, ◌-◌, ◌++◌, true, ℕ, map, find, length, get_or, drop, take}
+use Rattle.py_typed.specs.Order as order
+use Rattle.py_typed.specs.Order.{is_free, heads, headless}
+use Rattle.class_layout.specs.Merging.{has_first, next, rows_of, entries, times, times_behind, is_below, are_below, behind}
+use Rattle.py_check_classes.proofs.merge.count_behind.Given as goal
+
+abbrev pub invariant-loop-row : goal.invariant-loop-row
+invariant-loop-row l =
+    record {
+      counted : (c : ℕ) → get_or l.behind c 0 + times_behind c (rows_of (drop l.row-index l.rows)) ≡ times_behind c (rows_of l.rows);
+      below : are_below l.count (rows_of (drop l.row-index l.rows)) ≡ true;
+      long : length l.behind ≡ l.count;
+    }
