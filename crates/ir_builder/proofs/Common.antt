@@ -38,7 +38,7 @@ pub use Rattle.py_typed.specs.Fits.{is_nothing}
 pub use Rattle.py_typed.specs.Sorts.{Sort, sort}
 pub use Rattle.py_typed.specs.Statements.{Arms, Assert, Assign, Aug, Break, Continue, Del, ForDict, ForList, ForRange, Pass, Raise, Try, TypedAct, TypedFunc, TypedModule, TypedStmt, TypedSuite, Variable, While, arm_then, no_arms, no_stmts, on_line, stmt_then, typed_func, typed_module, variable}
 pub use Rattle.py_typed.specs.declared.checked.TFunc.{TFunc}
-pub use Rattle.source_meaning.specs.SourceRun.{body_of, call_of, enter, raised_as, start, stop_of, stopped, top_of}
+pub use Rattle.source_meaning.specs.SourceRun.{body_of, call_of, enter, raised_as, source_run, start, stop_of, stopped, top_of}
 pub use Rattle.source_meaning.specs.State.{Calls, Does, Gives, Outcome, Raises, State, Stops, on_to, spend, spend_from}
 pub use Rattle.source_meaning.specs.StatementMeaning.{act, bind, changed, first_arm, statement, suite, test_of, update, value_of, value_or}
 pub use Rattle.source_meaning.specs.WaysOut.{Breaks, Continues, Flow, Goes, Returns, after_body, and_set, answer, flow_on, loop}

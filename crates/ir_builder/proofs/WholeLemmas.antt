@@ -1,9 +1,8 @@
 -- A whole program does what its module does, is calm, and is built as a program is.
-use Rattle.ir_builder.proofs.Common.{◌≡◌, ◌≢◌, ℕ, zero, suc, ◌+◌, ◌-◌, ◌<◌, List, [], ◌∷◌, ◌++◌, length, map, take, get_or, Option, Some, None, ⊎_elim, refl, sym, ap, ◌∙◌, subst, arith, le_refl, add-one, length-append, slice_get, replicate, list_all, Ending, Done, Raised, is_identifier, names_differ, Sort, Outcome, Gives, Raises, Stops, start, top_of, stopped, raised_as, stop_of, TypedFunc, TypedModule, typed_func, typed_module, TFunc, Flow, Goes, Breaks, Continues, Returns, Func, Program, RType, Do, item_in, blocks_of, Config, Leaves, Ended, Stuck, Strict, if_some, leave, step, steps, error_of, first_regs, Declared, world, running, Escapes, Leads, Ends, FunctionType, head_of, parameter_sorts, BeginWith, HasHead, names_of, NoEdges, rtype_of, leads_as, leads_step, leads_trans, none_have_types, get_map, FunctionSuits, ModuleSuits, head_of_code, IsBuilt, IsFunction, IsOwn, IsProgram, heads_of, IsFunctionOf, AllBuilt, IsBuiltOf, register_of, variable_registers}
+use Rattle.ir_builder.proofs.Common.{◌≡◌, ◌≢◌, ℕ, zero, suc, ◌+◌, ◌-◌, ◌<◌, List, [], ◌∷◌, ◌++◌, length, map, take, get_or, Option, Some, None, ⊎_elim, refl, sym, ap, ◌∙◌, subst, arith, le_refl, add-one, length-append, slice_get, replicate, list_all, Ending, Done, Raised, is_identifier, names_differ, Sort, Outcome, Gives, Raises, Stops, start, top_of, stopped, raised_as, stop_of, source_run, TypedFunc, TypedModule, typed_func, typed_module, TFunc, Flow, Goes, Breaks, Continues, Returns, Func, Program, RType, Do, item_in, blocks_of, Config, Leaves, Ended, Stuck, Strict, if_some, leave, step, steps, error_of, first_regs, Declared, world, running, Escapes, Leads, Ends, FunctionType, head_of, parameter_sorts, BeginWith, HasHead, names_of, NoEdges, rtype_of, leads_as, leads_step, leads_trans, none_have_types, get_map, FunctionSuits, ModuleSuits, head_of_code, IsBuilt, IsFunction, IsOwn, IsProgram, heads_of, IsFunctionOf, AllBuilt, IsBuiltOf, register_of, variable_registers}
 use Rattle.std.proofs.lemmas.List.{map_push}
 use Rattle.std.proofs.Math.Seq.{take-suc}
 use Rattle.value_core.specs.Items.{Items}
-use Rattle.source_meaning.specs.SourceRun.{source_run}
 use Rattle.py_typed.specs.declared.checked.Checked.{Checked}
 use Rattle.ir_core.specs.declared.code.RType.TheVariants.{Bool}
 use Rattle.ir_core.specs.Effects.{World}

@@ -11,6 +11,7 @@ ghost use Rattle.ir_builder_loops_and_jumps.specs.Means.{means_suite};
 ghost use Rattle.ir_builder_statements.specs.Suiting.{SuiteSuits};
 ghost use Rattle.ir_builder.specs.Bodies.{Filled, Bodied, BodyAround, CompletesShape, body_frame};
 
+use ir_builder_expressions::Site;
 use ir_builder_frames::{Emitter, Frame, Vars};
 use ir_builder_statements::emit_block;
 use ir_core::{Last, Lit, RType};
@@ -45,10 +46,15 @@ pub fn emit_body(
         locals: vars,
         ret: None,
     };
+    let site = Site {
+        alloc,
+        checked,
+        locals,
+        frame,
+        line: NO_LINE,
+    };
     let mut exits = Vec::new(alloc);
-    emit_block(
-        b, alloc, checked, locals, frame, gives, false, body, &mut exits,
-    )?;
+    emit_block(b, site, gives, false, body, &mut exits)?;
     let r = b.literal(t, last, NO_LINE)?;
     let end = b.close(Last::Return(r))?;
     fill(b, start, end);

@@ -18,3 +18,4 @@ pub mod UnsuitedLemmas
 pub mod WeightLemmas
 pub mod AppliedLemmas
 pub mod WalkLemmas
+pub mod Common

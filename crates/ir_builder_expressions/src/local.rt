@@ -1,18 +1,18 @@
 //! Variables that are read.
-ghost use Rattle.std.specs.Prelude.{◌≡◌, ◌<◌, ◌+◌, length, map, true, IfOk, OnOk};
+ghost use Rattle.std.specs.Prelude.{◌≡◌, ◌<◌, ◌+◌, length, true, IfOk, OnOk};
 ghost use Rattle.std.specs.Str.{is_utf8};
-ghost use Rattle.py_typed.specs.Statements.{variable};
 ghost use Rattle.ir_core.specs.Building.{Extends};
 ghost use Rattle.ir_builder_frames.specs.Calling.{Pushes};
 ghost use Rattle.ir_builder_frames.specs.Placing.{HasType};
 ghost use Rattle.ir_builder_frames.specs.Shaped.{Keeps};
 ghost use Rattle.ir_builder_frames.specs.Kinds.{KeepsKinds};
+ghost use Rattle.ir_builder_expressions.specs.Site.{setting_of};
 ghost use Rattle.ir_builder_expressions.specs.Reading.{reports_unbound, TestsSet, HasRegisters, EmitsLocal};
 
+use crate::site::Site;
 use c_core::{ErrPrim, Prim};
-use ir_builder_frames::{Emitter, Frame};
+use ir_builder_frames::Emitter;
 use ir_core::{Last, Lit, Op, PArg, RType, Reg};
-use py_typed::Var;
 use std::alloc::Global;
 use value_core::{Many, Memory, Text};
 
@@ -78,26 +78,19 @@ fn emit_flag_test(
 
 /// The register of a variable that is read (Python Language Reference, "Naming and binding"). One that is no parameter may be
 /// unset, and its flag is tested first.
-pub(crate) fn emit_local(
-    b: &mut Emitter,
-    alloc: Global,
-    locals: &[Var],
-    frame: Frame,
-    i: usize,
-    line: usize,
-) -> Result<Reg, Memory>
-    requires there { i < length locals.now }
-    requires room { HasRegisters (map variable locals.now) frame b.old }
+pub(crate) fn emit_local(b: &mut Emitter, site: Site, i: usize) -> Result<Reg, Memory>
+    requires there { i < length site.locals.now }
+    requires room { HasRegisters (setting_of site).variables site.frame b.old }
     ensures kept { Extends b.old b.new }
     ensures is { IfOk result (λ r. r.0 ≡ i) }
-    ensures emitted { OnOk result (EmitsLocal (map variable locals.now) frame i b.old b.new i) }
+    ensures emitted { OnOk result (EmitsLocal (setting_of site.entry).variables site.entry.frame i b.old b.new i) }
     ensures shaped { Keeps b.old b.new }
     ensures kinds { KeepsKinds b.old b.new }
 {
-    if i < frame.locals.params {
+    if i < site.frame.locals.params {
         return Ok(Reg(i));
     }
-    let flag = frame.locals.flag(i);
-    emit_flag_test(b, alloc, flag, locals[i].name.as_str(), line)?;
+    let flag = site.frame.locals.flag(i);
+    emit_flag_test(b, site.alloc, flag, site.locals[i].name.as_str(), site.line)?;
     Ok(Reg(i))
 }

@@ -1,4 +1,4 @@
-use Rattle.ir_builder_frames.proofs.HeldLemmas.{extends_trans}
+use Rattle.ir_builder_expressions.proofs.Common.{extends_trans}
 use Rattle.ir_builder_expressions.proofs.LinkLemmas.{begins_alike, begins_flag}
 use Rattle.ir_builder_expressions.proofs.chain.meet_link.Goals as goal
 

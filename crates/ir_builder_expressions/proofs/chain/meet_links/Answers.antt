@@ -1,8 +1,4 @@
-use Rattle.std.proofs.Common.{arith, List, subst, sym}
-use Rattle.ir_core.specs.Building.{Building}
-use Rattle.ir_builder_frames.proofs.HeldLemmas.{extends_trans}
-use Rattle.ir_builder_expressions.specs.declared.chain.Link.{Link}
-use Rattle.ir_builder_expressions.specs.Linking.{Pending, Ended}
+use Rattle.ir_builder_expressions.proofs.Common.{arith, List, subst, sym, Building, extends_trans, Link, Pending, Ended}
 use Rattle.ir_builder_expressions.proofs.LinkLemmas.{Last, pending_last, pending_extends, met_pending, met_flag, met_grows, keeps_both, ended_snoc}
 use Rattle.ir_builder_expressions.proofs.chain.meet_links.Goals as goal
 

@@ -1,10 +1,5 @@
-use Rattle.std.proofs.Common.{ℕ, ◌≤◌, length}
-use Rattle.ir_core.specs.Building.{Building}
+use Rattle.ir_builder_expressions.proofs.Common.{ℕ, ◌≤◌, length, Building, HasType, Keeps, KeepsKinds, Pending, Ended}
 use Rattle.ir_core.specs.declared.code.RType.TheVariants.{Bool}
-use Rattle.ir_builder_frames.specs.Placing.{HasType}
-use Rattle.ir_builder_frames.specs.Shaped.{Keeps}
-use Rattle.ir_builder_frames.specs.Kinds.{KeepsKinds}
-use Rattle.ir_builder_expressions.specs.Linking.{Pending, Ended}
 use Rattle.ir_builder_expressions.proofs.chain.meet_links.Given as goal
 
 abbrev pub invariant-loop-link : goal.invariant-loop-link

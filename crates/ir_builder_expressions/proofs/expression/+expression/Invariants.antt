@@ -1,5 +1,4 @@
-use Rattle.std.proofs.Common.{◌+◌, ◌-◌, ◌*◌, drop}
-use Rattle.ir_builder_frames.specs.Settings.{setting}
+use Rattle.ir_builder_expressions.proofs.Common.{◌+◌, ◌-◌, ◌*◌, drop, setting_of}
 use Rattle.ir_builder_expressions.proofs.WeightLemmas.{weight_of, weight_of_arm, weight_of_all, weight_of_chain}
 use Rattle.ir_builder_expressions.proofs.ArgumentLemmas.{Passing}
 use Rattle.ir_builder_expressions.proofs.GoingLemmas.{Going}
@@ -36,7 +35,7 @@ abbrev pub decreases-emit_chain : goal.decreases-emit_chain
 decreases-emit_chain l = weight_of_chain l.rest.now * 4 + 3
 
 abbrev pub invariant-emit_arguments-loop-e : goal.invariant-emit_arguments-loop-e
-invariant-emit_arguments-loop-e l = Passing (setting l.checked l.locals l.frame) l.args l.e-index l.fn.b l.b l.regs
+invariant-emit_arguments-loop-e l = Passing (setting_of l.site) l.args l.e-index l.fn.b l.b l.regs
 
 abbrev pub invariant-emit_chain-loop-op : goal.invariant-emit_chain-loop-op
-invariant-emit_chain-loop-op l = Going (setting l.checked l.locals l.frame) l.fn.first l.rest (drop l.op-index l.more) l.fn.b l.b l.links l.left l.holds
+invariant-emit_chain-loop-op l = Going (setting_of l.site) l.fn.first l.rest (drop l.op-index l.more) l.fn.b l.b l.links l.left l.holds

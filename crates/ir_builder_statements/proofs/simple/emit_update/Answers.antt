@@ -1,17 +1,18 @@
-use Rattle.ir_builder_statements.proofs.Common.{subst, sym, sort, type_of, typed_expr, typed_target, Setting, setting, extends_trans, on_ok_map, Binary, BinarySuits, Suits, type_at, ComputesAs, update_binary}
+use Rattle.ir_builder_expressions.specs.Site.{setting_of}
+use Rattle.ir_builder_statements.proofs.Common.{subst, sym, sort, type_of, typed_expr, typed_target, Setting, extends_trans, on_ok_map, Binary, BinarySuits, Suits, type_at, ComputesAs, update_binary}
 use Rattle.ir_builder_statements.proofs.AssignLemmas.{own_suits, reading_suits, updated_simple, update_turns, update_fits, update_code, update_takes}
 use Rattle.ir_builder_statements.proofs.simple.emit_update.Goals as goal
 
 pub reading-before-requires-clause-simple : goal.reading-before-requires-clause-simple
 reading-before-requires-clause-simple c =
-    let x : Setting = setting c.args.checked.now c.args.locals.now c.args.frame in
+    let x : Setting = setting_of c.args.site in
     let own = sort c.variable_type-own.result.now in
     let suits = own_suits x.source x.variables (typed_target c.args.target.now) c.args.op own (sort c.args.t.now) (type_of (typed_expr c.args.e.now)) c.variable_type-own.ensures c.requires.fits in
     updated_simple x.source x.variables c.args.op own (sort c.args.t.now) (type_of (typed_expr c.args.e.now)) suits
 
 pub emit_changed-requires-clause-fits : goal.emit_changed-requires-clause-fits
 emit_changed-requires-clause-fits c =
-    let x : Setting = setting c.args.checked.now c.args.locals.now c.args.frame in
+    let x : Setting = setting_of c.args.site in
     let own = sort c.variable_type-own.result.now in
     let t = sort c.args.t.now in
     let w = type_of (typed_expr c.args.e.now) in
@@ -22,7 +23,7 @@ emit_changed-requires-clause-fits c =
 
 pub emit_changed-requires-clause-turns : goal.emit_changed-requires-clause-turns
 emit_changed-requires-clause-turns c =
-    let x : Setting = setting c.args.checked.now c.args.locals.now c.args.frame in
+    let x : Setting = setting_of c.args.site in
     let own = sort c.variable_type-own.result.now in
     let t = sort c.args.t.now in
     let w = type_of (typed_expr c.args.e.now) in
@@ -30,7 +31,7 @@ emit_changed-requires-clause-turns c =
 
 pub emit_changed-requires-clause-before : goal.emit_changed-requires-clause-before
 emit_changed-requires-clause-before c =
-    let x : Setting = setting c.args.checked.now c.args.locals.now c.args.frame in
+    let x : Setting = setting_of c.args.site in
     let own = sort c.variable_type-own.result.now in
     let t = sort c.args.t.now in
     let w = type_of (typed_expr c.args.e.now) in
@@ -40,7 +41,7 @@ emit_changed-requires-clause-before c =
 
 pub emit_set-requires : goal.emit_set-requires
 emit_set-requires c =
-    let x : Setting = setting c.args.checked.now c.args.locals.now c.args.frame in
+    let x : Setting = setting_of c.args.site in
     let own = sort c.variable_type-own.result.now in
     let t = sort c.args.t.now in
     let w = type_of (typed_expr c.args.e.now) in
@@ -52,7 +53,7 @@ returns-clause-kept c = extends_trans _ _ _ c.in_ok-value.ensures.kept c.emit_se
 
 pub returns-clause-works : goal.returns-clause-works
 returns-clause-works c =
-    let x : Setting = setting c.args.checked.now c.args.locals.now c.args.frame in
+    let x : Setting = setting_of c.args.site in
     let own = sort c.variable_type-own.result.now in
     let t = sort c.args.t.now in
     let e = typed_expr c.args.e.now in
