@@ -1,5 +1,4 @@
-use Rattle.std.proofs.Common.{◌∙◌, ap, length}
-use Rattle.ir_core.specs.Building.{Building}
+use Rattle.ir_builder_frames.proofs.Common.{◌∙◌, ap, length, Building}
 use Rattle.ir_builder_frames.proofs.PatchLemmas.{with_last_length}
 use Rattle.ir_builder_frames.proofs.ShapeLemmas.{patch_shaped, patch_alone}
 use Rattle.ir_builder_frames.proofs.KindLemmas.{patch_kinds}

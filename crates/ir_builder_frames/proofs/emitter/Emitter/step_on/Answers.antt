@@ -1,6 +1,4 @@
-use Rattle.std.proofs.Common.{◌∙◌, ap, sym, length, arith}
-use Rattle.ir_core.specs.Building.{Building}
-use Rattle.ir_core.specs.declared.code.Last.TheVariants.{Goto, Unreachable}
+use Rattle.ir_builder_frames.proofs.Common.{◌∙◌, ap, sym, length, arith, Building, Goto, Unreachable}
 use Rattle.ir_builder_frames.proofs.HeldLemmas.{closes}
 use Rattle.ir_builder_frames.proofs.PatchLemmas.{closes_later, with_last_length}
 use Rattle.ir_builder_frames.proofs.ShapeLemmas.{close_shaped, patch_shaped}

@@ -1,4 +1,4 @@
-use Rattle.std.proofs.Common.{arith}
+use Rattle.ir_builder_frames.proofs.Common.{arith}
 use Rattle.ir_builder_frames.proofs.HeldLemmas.{added_extends, same_extends, declares, ok_join, either_way}
 use Rattle.ir_builder_frames.proofs.KindLemmas.{add_kinds_either}
 use Rattle.ir_builder_frames.proofs.NameLemmas.{named_either}
