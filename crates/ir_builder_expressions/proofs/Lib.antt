@@ -19,3 +19,4 @@ pub mod WeightLemmas
 pub mod AppliedLemmas
 pub mod WalkLemmas
 pub mod Common
+pub mod LinedLemmas

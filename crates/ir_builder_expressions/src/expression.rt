@@ -1,5 +1,5 @@
 //! The code of expressions.
-ghost use Rattle.std.specs.Prelude.{◌≡◌, ℕ, ◌≤◌, true, length, map, IfOk, is_some};
+ghost use Rattle.std.specs.Prelude.{◌≡◌, ℕ, ◌≤◌, true, [], ◌∷◌, ◌++◌, length, map, IfOk, OnOk, is_some};
 ghost use Rattle.py_typed.specs.Sorts.{Sort, sort};
 ghost use Rattle.py_typed.specs.Expressions.{typed_expr, exprs_of, comparisons_of, typed_comparison, type_of};
 ghost use Rattle.ir_core.specs.Building.{Extends};
@@ -15,6 +15,7 @@ ghost use Rattle.ir_builder_expressions.specs.Comparing.{kind_sort, is_shown_as}
 ghost use Rattle.ir_builder_expressions.specs.Suiting.{Suits, SomeSuit, ComparisonsSuit};
 ghost use Rattle.ir_builder_expressions.specs.Arms.{arm_of, ArmSuits, ChoiceSuits, EmitsArm, EmitsChoice};
 ghost use Rattle.ir_builder_expressions.specs.Walking.{Walks};
+ghost use Rattle.ir_builder_expressions.specs.Lined.{listed, operands_in, parts_in_arm, parts_of, Lined, LinedParts};
 ghost use Rattle.ir_builder_expressions.specs.Emitting.{Emits, EmitsPart, EmitsOne, EmitsTwo, EmitsAll, EmitsSide, EmitsChain};
 
 use crate::applying::{
@@ -44,8 +45,8 @@ fn other_kind(e: &TExpr, rest: &[(CmpOp, TExpr)]) -> Kind {
     }
 }
 
-/// Emits an expression, and answers the register that has its value (Python Language Reference, "Expressions"). It
-/// fails for want of memory.
+/// Emits an expression, and answers the register that has its value (Python Language Reference, "Expressions"). Its own operations
+/// have its line, and those of its parts have theirs. It fails for want of memory.
 #[cycle(expression)]
 pub fn emit_expression(b: &mut Emitter, site: Site, e: &TExpr) -> Result<Reg, Memory>
     requires suits { Suits (setting_of site).source (setting_of site).variables (typed_expr e.now) }
@@ -54,7 +55,12 @@ pub fn emit_expression(b: &mut Emitter, site: Site, e: &TExpr) -> Result<Reg, Me
     ensures emitted { IfOk result (λ r. Emits (setting_of site.entry) (typed_expr e.now) b.old b.new r.0) }
     ensures shaped { Keeps b.old b.new }
     ensures kinds { KeepsKindsIf (IsAmong (setting_of site.entry).source) b.old b.new }
+    ensures lined { OnOk result (Lined (setting_of site.entry) (typed_expr e.now) b.old b.new) }
 {
+    let site = Site {
+        line: e.span.line,
+        ..site
+    };
     match &e.kind {
         TKind::Int(n) => emit_int(b, site.alloc, *n, site.line),
         TKind::Str(text) => emit_text(b, site.alloc, text.as_str(), site.line),
@@ -95,6 +101,7 @@ fn emit_applied(b: &mut Emitter, site: Site, e: &TExpr) -> Result<Reg, Memory>
     requires room { HasRoom (setting_of site) b.old }
     ensures walked { Walks (setting_of site.entry).source b.old b.new }
     ensures emitted { IfOk result (λ r. Emits (setting_of site.entry) (typed_expr e.now) b.old b.new r.0) }
+    ensures lined { OnOk result (LinedParts (setting_of site.entry) site.entry.line (parts_of (node_in (typed_expr e.now))) b.old b.new) }
 {
     match operation_in(e) {
         Applied::One(op, x) => emit_one_part(b, site, op, &e.ty, x),
@@ -110,9 +117,10 @@ fn emit_part(b: &mut Emitter, site: Site, t: &Ty, e: &TExpr) -> Result<Reg, Memo
     requires room { HasRoom (setting_of site) b.old }
     ensures walked { Walks (setting_of site.entry).source b.old b.new }
     ensures emitted { IfOk result (λ r. EmitsPart (setting_of site.entry) (sort t.now) (typed_expr e.now) b.old b.new r.0) }
+    ensures lined { OnOk result (Lined (setting_of site.entry) (typed_expr e.now) b.old b.new) }
 {
     match native_literal(e, t) {
-        Some(n) => b.literal(RType::I64, Lit::Number(n), site.line),
+        Some(n) => b.literal(RType::I64, Lit::Number(n), e.span.line),
         None => emit_expression(b, site, e),
     }
 }
@@ -125,6 +133,7 @@ fn emit_one_part(b: &mut Emitter, site: Site, op: Unary, t: &Ty, e: &TExpr) -> R
     requires room { HasRoom (setting_of site) b.old }
     ensures walked { Walks (setting_of site.entry).source b.old b.new }
     ensures emitted { IfOk result (λ r. EmitsOne (setting_of site.entry) op (sort t.now) (typed_expr e.now) b.old b.new r.0) }
+    ensures lined { OnOk result (LinedParts (setting_of site.entry) site.entry.line (typed_expr e.now ∷ []) b.old b.new) }
 {
     let x = emit_part(b, site, t, e)?;
     emit_unary(b, site.alloc, op, t, e, x, site.line)
@@ -146,6 +155,7 @@ pub fn emit_two_parts(
     requires room { HasRoom (setting_of site) b.old }
     ensures walked { Walks (setting_of site.entry).source b.old b.new }
     ensures emitted { IfOk result (λ r. EmitsTwo (setting_of site.entry) op (sort t.now) (typed_expr left.now) (typed_expr right.now) b.old b.new r.0) }
+    ensures lined { OnOk result (LinedParts (setting_of site.entry) site.entry.line (typed_expr left.now ∷ typed_expr right.now ∷ []) b.old b.new) }
 {
     let x = emit_part(b, site, t, left)?;
     let y = emit_part(b, site, t, right)?;
@@ -159,6 +169,7 @@ pub fn emit_arguments(b: &mut Emitter, site: Site, args: &[TExpr]) -> Result<Man
     requires room { HasRoom (setting_of site) b.old }
     ensures walked { Walks (setting_of site.entry).source b.old b.new }
     ensures emitted { IfOk result (λ rs. EmitsAll (setting_of site.entry) (map type_of (map typed_expr args.now)) (exprs_of (map typed_expr args.now)) b.old b.new rs) }
+    ensures lined { OnOk result (LinedParts (setting_of site.entry) site.entry.line (listed (exprs_of (map typed_expr args.now))) b.old b.new) }
 {
     let mut regs = Many::new(site.alloc);
     for e in args {
@@ -182,6 +193,7 @@ fn emit_choice(
     requires room { HasRoom (setting_of site) b.old }
     ensures walked { Walks (setting_of site.entry).source b.old b.new }
     ensures emitted { IfOk result (λ r. EmitsChoice (setting_of site.entry) (sort t.now) (typed_expr test.now) (arm_of body.entry) (arm_of other.entry) b.old b.new r.0) }
+    ensures lined { OnOk result (LinedParts (setting_of site.entry) site.entry.line (typed_expr test.now ∷ (parts_in_arm (arm_of body.entry) ++ parts_in_arm (arm_of other.entry))) b.old b.new) }
 {
     let tested = emit_expression(b, site, test)?;
     let condition = emit_truth(b, site.alloc, &test.ty, tested, site.line)?;
@@ -201,6 +213,7 @@ fn emit_arm(b: &mut Emitter, site: Site, arm: Option<&TExpr>, tested: Reg) -> Re
     requires room { HasRoom (setting_of site) b.old }
     ensures walked { Walks (setting_of site.entry).source b.old b.new }
     ensures emitted { IfOk result (λ r. EmitsArm (setting_of site.entry) tested.0 (arm_of arm.entry) b.old b.new r.0) }
+    ensures lined { OnOk result (LinedParts (setting_of site.entry) site.entry.line (parts_in_arm (arm_of arm.entry)) b.old b.new) }
 {
     match arm {
         Some(e) => emit_expression(b, site, e),
@@ -216,6 +229,7 @@ fn emit_side(b: &mut Emitter, site: Site, other: Kind, e: &TExpr) -> Result<Side
     requires room { HasRoom (setting_of site) b.old }
     ensures walked { Walks (setting_of site.entry).source b.old b.new }
     ensures emitted { IfOk result (λ q. EmitsSide (setting_of site.entry) (typed_expr e.now) q b.old b.new) }
+    ensures lined { OnOk result (Lined (setting_of site.entry) (typed_expr e.now) b.old b.new) }
 {
     let own = kind_of(&e.ty);
     let to = type_of_kind(joined_kind(other, own));
@@ -238,6 +252,7 @@ fn emit_chain(
     requires first { HasType b.old first.reg.0 (rtype_of (kind_sort first.shown)) }
     ensures walked { Walks (setting_of site.entry).source b.old b.new }
     ensures emitted { IfOk result (λ r. EmitsChain (setting_of site.entry) (kind_sort first.own) (kind_sort first.shown) first.reg.0 (comparisons_of (map typed_comparison rest.now)) b.old b.new r.0) }
+    ensures lined { OnOk result (LinedParts (setting_of site.entry) site.entry.line (operands_in (comparisons_of (map typed_comparison rest.now))) b.old b.new) }
 {
     match rest {
         [] => b.literal(RType::Bool, truth(true), site.line),

@@ -3,6 +3,7 @@ ghost use Rattle.std.specs.Prelude.{◌≡◌, IfOk};
 ghost use Rattle.ir_core.specs.Building.{Extends};
 ghost use Rattle.ir_builder_frames.specs.Shaped.{Keeps};
 ghost use Rattle.ir_builder_frames.specs.Kinds.{IsAmong, KeepsKindsIf};
+ghost use Rattle.ir_builder_frames.specs.Lines.{OwnLines};
 ghost use Rattle.ir_builder_expressions.specs.Site.{setting_of};
 ghost use Rattle.ir_builder_expressions.specs.Suiting.{IsSimpleAt};
 ghost use Rattle.ir_builder_expressions.specs.Reading.{EmitsGlobal};
@@ -22,6 +23,7 @@ pub(crate) fn emit_global_value(b: &mut Emitter, site: Site, i: usize) -> Result
     ensures emitted { IfOk result (λ r. EmitsGlobal (setting_of site.entry).source i b.old b.new r.0) }
     ensures shaped { Keeps b.old b.new }
     ensures kinds { KeepsKindsIf (IsAmong (setting_of site.entry).source) b.old b.new }
+    ensures lined { OwnLines site.entry.line b.old b.new }
 {
     let variable = &site.checked.globals.as_slice()[i];
     let mut args = Many::new(site.alloc);

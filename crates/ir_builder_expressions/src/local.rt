@@ -1,11 +1,12 @@
 //! Variables that are read.
-ghost use Rattle.std.specs.Prelude.{◌≡◌, ◌<◌, ◌+◌, length, true, IfOk, OnOk};
+ghost use Rattle.std.specs.Prelude.{◌≡◌, ◌<◌, ◌+◌, length, true, IfOk, OnOk, ℕ};
 ghost use Rattle.std.specs.Str.{is_utf8};
 ghost use Rattle.ir_core.specs.Building.{Extends};
 ghost use Rattle.ir_builder_frames.specs.Calling.{Pushes};
 ghost use Rattle.ir_builder_frames.specs.Placing.{HasType};
 ghost use Rattle.ir_builder_frames.specs.Shaped.{Keeps};
 ghost use Rattle.ir_builder_frames.specs.Kinds.{KeepsKinds};
+ghost use Rattle.ir_builder_frames.specs.Lines.{OwnLines};
 ghost use Rattle.ir_builder_expressions.specs.Site.{setting_of};
 ghost use Rattle.ir_builder_expressions.specs.Reading.{reports_unbound, TestsSet, HasRegisters, EmitsLocal};
 
@@ -30,6 +31,7 @@ fn emit_unbound(b: &mut Emitter, alloc: Global, name: &str, line: usize) -> Resu
     ensures pushed { OnOk result (Pushes b.old b.new (reports_unbound name.now) line) }
     ensures shaped { Keeps b.old b.new }
     ensures kinds { KeepsKinds b.old b.new }
+    ensures lined { OwnLines line b.old b.new }
 {
     let name = text_of(alloc, name)?;
     let mut args = Many::new(alloc);
@@ -45,6 +47,7 @@ fn step_past(b: &mut Emitter) -> Result<usize, Memory>
     ensures empty { OnOk result (length b.new.ops ≡ 0) }
     ensures shaped { Keeps b.old b.new }
     ensures kinds { KeepsKinds b.old b.new }
+    ensures lined { (l : ℕ) → OwnLines l b.old b.new }
 {
     b.step_on()?;
     b.close(Last::Unreachable)?;
@@ -65,6 +68,7 @@ fn emit_flag_test(
     ensures tests { OnOk result (TestsSet b.old b.new flag.0 name.now) }
     ensures shaped { Keeps b.old b.new }
     ensures kinds { KeepsKinds b.old b.new }
+    ensures lined { OwnLines line b.old b.new }
 {
     let test = b.step_on()?;
     b.close(Last::Unreachable)?;
@@ -86,6 +90,7 @@ pub(crate) fn emit_local(b: &mut Emitter, site: Site, i: usize) -> Result<Reg, M
     ensures emitted { OnOk result (EmitsLocal (setting_of site.entry).variables site.entry.frame i b.old b.new i) }
     ensures shaped { Keeps b.old b.new }
     ensures kinds { KeepsKinds b.old b.new }
+    ensures lined { OwnLines site.entry.line b.old b.new }
 {
     if i < site.frame.locals.params {
         return Ok(Reg(i));

@@ -9,3 +9,4 @@ pub mod KindLemmas
 pub mod NameLemmas
 pub mod GlobalLemmas
 pub mod Common
+pub mod LineLemmas

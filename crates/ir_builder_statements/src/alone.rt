@@ -42,7 +42,13 @@ pub(crate) fn emit_alone(b: &mut Emitter, site: Site, e: &TExpr) -> Result<(), M
     ensures kinds { KeepsKindsIf (IsAmong (setting_of site.entry).source) b.old b.new }
 {
     match &e.kind {
-        TKind::Print(values) => emit_printing(b, site, values.as_slice()),
+        TKind::Print(values) => {
+            let site = Site {
+                line: e.span.line,
+                ..site
+            };
+            emit_printing(b, site, values.as_slice())
+        }
         _ => {
             emit_expression(b, site, e)?;
             Ok(())

@@ -28,10 +28,6 @@ pub(crate) fn emit_split(b: &mut Emitter, site: Site, e: &TExpr) -> Result<Test,
     ensures shaped { Keeps b.old b.new }
     ensures kinds { KeepsKindsIf (IsAmong (setting_of site.entry).source) b.old b.new }
 {
-    let site = Site {
-        line: e.span.line,
-        ..site
-    };
     let condition = emit_expression(b, site, e)?;
     let block = b.close(Last::Unreachable)?;
     Ok(Test {

@@ -27,7 +27,7 @@ use ir_builder_expressions::{Binary, Site, emit_expression, emit_two_parts};
 use ir_builder_frames::Emitter;
 use ir_builder_operations::emit_coercion;
 use ir_core::{Last, Lit, RType, Reg};
-use py_syntax::BinOp;
+use py_syntax::{BinOp, Span};
 use py_typed::{TExpr, Target, Ty};
 use std::alloc::Global;
 use value_core::Memory;
@@ -110,7 +110,8 @@ fn emit_changed(
 }
 
 /// Changes a variable by an operation in a type (Python Language Reference, "Augmented assignment statements"): it is read, then
-/// the operand is evaluated, and the result is turned into the variable's own type.
+/// the operand is evaluated, and the result is turned into the variable's own type. All of it but the operand has the line of the
+/// statement.
 pub(crate) fn emit_update(
     b: &mut Emitter,
     site: Site,
@@ -128,7 +129,11 @@ pub(crate) fn emit_update(
     ensures kinds { KeepsKindsIf (IsAmong (setting_of site.entry).source) b.old b.new }
 {
     let own = variable_type(site, target);
-    let before = reading(target, own, e.span);
+    let place = Span {
+        line: site.line,
+        ..e.span
+    };
+    let before = reading(target, own, place);
     let op = updating(op, t);
     let value = emit_changed(b, site, op, t, own, &before, e)?;
     emit_set(b, site, target, value)

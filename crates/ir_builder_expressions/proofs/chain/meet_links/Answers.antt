@@ -36,4 +36,5 @@ loop-link-preserved c =
           c.loop-link.invariant.ends e q (subst Q (sym c.in-Some.ensures) (ended_snoc ls l b d c.loop-link.r.0 e q met h));
       shaped = keeps_both c.args.b.now b d c.loop-link.invariant.more grows.1 c.loop-link.invariant.shaped c.meet_link.ensures.shaped;
       kinds = λ g h. c.meet_link.ensures.kinds g (c.loop-link.invariant.kinds g h);
+      lined = λ k i x other at. c.loop-link.invariant.lined k i x other (c.meet_link.ensures.lined k i x other at);
     }

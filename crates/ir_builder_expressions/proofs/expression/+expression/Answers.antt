@@ -1,4 +1,5 @@
-use Rattle.ir_builder_expressions.proofs.Common.{◌≡◌, true, subst, rules, refl, sym, ◌∙◌, ap, ◌+◌, ◌-◌, arith, length, map, drop, take, IfOk, List, Some, None, length-map, w128, sort, And, Or, Cond, typed_expr, exprs_of, comparisons_of, typed_comparison, type_of, Variable, TypedModule, typed_module, variable, Reg, Setting, setting_of, Lit, Number, Holds, IntVal, StrVal, Makes, Adds, LiteralFits, KeepsKindsIf, ok_map, ok_join, extends_trans, type_kept, room_on, EmitsAll, EmitsChain, arm_of, EmitsChoice, Walks, Side, is_pair, kind_sort, one, two, seen}
+use Rattle.ir_builder_expressions.proofs.Common.{◌≡◌, true, subst, rules, refl, sym, ◌∙◌, ap, ◌+◌, ◌-◌, arith, length, map, drop, take, IfOk, List, Some, None, length-map, w128, sort, And, Or, Cond, typed_expr, exprs_of, comparisons_of, typed_comparison, type_of, Variable, TypedModule, typed_module, variable, Reg, Setting, setting_of, Lit, Number, Holds, IntVal, StrVal, Makes, Adds, LiteralFits, KeepsKindsIf, ok_map, ok_join, extends_trans, type_kept, room_on, EmitsAll, EmitsChain, arm_of, EmitsChoice, Walks, Side, is_pair, kind_sort, one, two, seen, part_sort, node_in}
+use Rattle.std.proofs.Common.{OnOk, [], ◌∷◌}
 use Rattle.std.proofs.lemmas.Int.{to_z-of_z}
 use Rattle.ir_core.specs.declared.code.RType.TheVariants as rtype
 use Rattle.ir_builder_choices.proofs.OpenLemmas.{meet_ready}
@@ -13,6 +14,9 @@ use Rattle.ir_builder_expressions.proofs.WalkLemmas.{int_within, int_walked, tex
 use Rattle.ir_builder_expressions.proofs.PieceLemmas.{int_fits, native_is, native_part, own_part, one_emits, two_emit}
 use Rattle.ir_builder_expressions.proofs.ArmLemmas.{emits_as, is_and, is_or, is_cond, and_asked, or_asked, cond_asked}
 use Rattle.ir_builder_expressions.proofs.ChosenLemmas.{arm_asked, arm_there, arm_missing, test_written, tested_type, arm_typed, choice_made}
+use Rattle.ir_builder_frames.proofs.HeldLemmas.{on_ok_map}
+use Rattle.ir_builder_expressions.specs.Lined.{LinedParts}
+use Rattle.ir_builder_expressions.proofs.LinedLemmas.{always, ok_lined, ok_to, lined_one, lined_two, lined_node, lined_whole, lined_literal, lined_applied, listed_of, operands_of_all, rest_start, argument_lined, arguments_lined, chain_started, chain_next, chain_over, chain_none, int_lined, text_lined, flag_lined, local_lined, global_lined, input_lined, call_lined, compare_lined, arm_lined, arm_none, choice_lined}
 use Rattle.ir_builder_expressions.proofs.expression.+expression.Goals as goal
 
 pub emit_expression-emit_side-requires : goal.emit_expression-emit_side-requires
@@ -39,7 +43,8 @@ emit_expression-returns-in_ok-first-in-Compare t c =
     let w = walks_trans m _ _ _ side.walked c.emit_chain.ensures.walked in
     let q : Side = c.in_ok-first-in-Compare.first in
     let chain : IfOk c.emit_chain.result (λ r. EmitsChain x (kind_sort q.own) (kind_sort q.shown) q.reg.0 (comparisons_of (map typed_comparison c.in-Compare.rest)) c.emit_side.new.b c.emit_chain.new.b r.0) = rw c.as_slice-in-Compare.ensures at c.emit_chain.ensures.emitted in
-    record { kept = w.kept; emitted = ok_map _ _ _ (λ (r : Reg) z. compare_walked x c.args.e.now c.requires.suits c.in-Compare.x _ c.in-Compare.rest _ _ _ q r.0 c.in-Compare.is c.deref-in-Compare.ensures c.requires.room side.emitted z) chain; shaped = w.shaped; kinds = w.kinds }
+    let rest : OnOk c.emit_chain.result (LinedParts x c.args.e.now.span.line (operands_of_all c.in-Compare.rest) c.emit_side.new.b c.emit_chain.new.b) = rw c.as_slice-in-Compare.ensures at c.emit_chain.ensures.lined in
+    record { lined = on_ok_map _ _ _ (λ z. compare_lined x c.args.e.now c.in-Compare.x _ c.in-Compare.rest _ _ _ q c.in-Compare.is c.deref-in-Compare.ensures side.emitted side.lined z) rest; kept = w.kept; emitted = ok_map _ _ _ (λ (r : Reg) z. compare_walked x c.args.e.now c.requires.suits c.in-Compare.x _ c.in-Compare.rest _ _ _ q r.0 c.in-Compare.is c.deref-in-Compare.ensures c.requires.room side.emitted z) chain; shaped = w.shaped; kinds = w.kinds }
 
 pub emit_expression-returns-in-Int : goal.emit_expression-returns-in-Int
 emit_expression-returns-in-Int t c =
@@ -47,14 +52,14 @@ emit_expression-returns-in-Int t c =
     let e = c.emit_int.ensures in
     let number = to_z-of_z w128 c.in-Int.n (int_fits c.in-Int.n (int_within x c.args.e.now c.requires.suits c.in-Int.n c.in-Int.is)) in
     let made : IfOk c.emit_int.result (λ r. Makes c.args.b.now c.emit_int.new.b r.0 rtype.Int (λ regs h. h ≡ Holds (IntVal c.in-Int.n))) = rw number at e.made in
-    record { kept = e.kept; emitted = ok_map _ _ _ (λ (r : Reg) a. int_walked x c.args.e.now c.requires.suits c.in-Int.n _ _ r.0 c.in-Int.is a) made; shaped = e.shaped; kinds = λ g among h. e.kinds g h }
+    record { lined = always _ _ (int_lined x c.args.e.now c.in-Int.n _ _ c.in-Int.is e.kept e.lined); kept = e.kept; emitted = ok_map _ _ _ (λ (r : Reg) a. int_walked x c.args.e.now c.requires.suits c.in-Int.n _ _ r.0 c.in-Int.is a) made; shaped = e.shaped; kinds = λ g among h. e.kinds g h }
 
 pub emit_expression-returns-in-Str : goal.emit_expression-returns-in-Str
 emit_expression-returns-in-Str t c =
     let x : Setting = setting_of c.args.site in
     let e = c.emit_text.ensures in
     let made : IfOk c.emit_text.result (λ r. Makes c.args.b.now c.emit_text.new.b r.0 rtype.Ref (λ regs h. h ≡ Holds (StrVal c.in-Str.text))) = rw c.as_str.ensures at e.made in
-    record { kept = e.kept; emitted = ok_map _ _ _ (λ (r : Reg) a. text_walked x c.args.e.now c.requires.suits c.in-Str.text _ _ r.0 c.in-Str.is a) made; shaped = e.shaped; kinds = λ g among h. e.kinds g h }
+    record { lined = always _ _ (text_lined x c.args.e.now c.in-Str.text _ _ c.in-Str.is e.kept e.lined); kept = e.kept; emitted = ok_map _ _ _ (λ (r : Reg) a. text_walked x c.args.e.now c.requires.suits c.in-Str.text _ _ r.0 c.in-Str.is a) made; shaped = e.shaped; kinds = λ g among h. e.kinds g h }
 
 pub emit_expression-emit_global_value-requires : goal.emit_expression-emit_global_value-requires
 emit_expression-emit_global_value-requires t c =
@@ -65,13 +70,13 @@ pub emit_expression-returns-in-Global : goal.emit_expression-returns-in-Global
 emit_expression-returns-in-Global t c =
     let x : Setting = setting_of c.args.site in
     let e = c.emit_global_value.ensures in
-    record { kept = e.kept; emitted = ok_map _ _ _ (λ (r : Reg) q. global_walked x c.args.e.now c.requires.suits c.in-Global.i _ _ r.0 c.in-Global.is c.requires.room q) e.emitted; shaped = e.shaped; kinds = e.kinds }
+    record { lined = always _ _ (global_lined x c.args.e.now c.in-Global.i _ _ c.in-Global.is e.kept e.lined); kept = e.kept; emitted = ok_map _ _ _ (λ (r : Reg) q. global_walked x c.args.e.now c.requires.suits c.in-Global.i _ _ r.0 c.in-Global.is c.requires.room q) e.emitted; shaped = e.shaped; kinds = e.kinds }
 
 pub emit_expression-returns-in-Input : goal.emit_expression-returns-in-Input
 emit_expression-returns-in-Input t c =
     let x : Setting = setting_of c.args.site in
     let e = c.emit_input.ensures in
-    record { kept = e.kept; emitted = ok_map _ _ _ (λ (r : Reg) a. input_walked x c.args.e.now c.requires.suits _ _ r.0 c.in-Input.is c.requires.room a) e.made; shaped = e.shaped; kinds = λ g among h. e.kinds g h }
+    record { lined = always _ _ (input_lined x c.args.e.now _ _ c.in-Input.is e.kept e.lined); kept = e.kept; emitted = ok_map _ _ _ (λ (r : Reg) a. input_walked x c.args.e.now c.requires.suits _ _ r.0 c.in-Input.is c.requires.room a) e.made; shaped = e.shaped; kinds = λ g among h. e.kinds g h }
 
 pub emit_expression-emit_applied-requires : goal.emit_expression-emit_applied-requires
 emit_expression-emit_applied-requires t c =
@@ -86,7 +91,8 @@ emit_expression-emit_applied-requires t c =
 pub emit_expression-returns-in_default : goal.emit_expression-returns-in_default
 emit_expression-returns-in_default t c =
     let e = c.emit_applied.ensures in
-    record { kept = e.walked.kept; emitted = e.emitted; shaped = e.walked.shaped; kinds = e.walked.kinds }
+    let x : Setting = setting_of c.args.site in
+    record { lined = on_ok_map _ _ _ (λ z. lined_whole x c.args.e.now _ _ z) e.lined; kept = e.walked.kept; emitted = e.emitted; shaped = e.walked.shaped; kinds = e.walked.kinds }
 
 pub emit_applied-emit_one_part-requires : goal.emit_applied-emit_one_part-requires
 emit_applied-emit_one_part-requires t c =
@@ -101,7 +107,7 @@ emit_applied-returns-in-One t c =
     let x : Setting = setting_of c.args.site in
     let is = ap (λ z. Some (seen z)) (sym c.in-One.is) ∙ c.operation_in.ensures in
     let e = c.emit_one_part.ensures in
-    record { walked = e.walked; emitted = ok_map _ _ _ (λ (r : Reg) q. applied_emits x c.args.e.now c.requires.suits (one c.in-One.op (typed_expr c.in-One.x.now)) _ _ r.0 is q) e.emitted }
+    record { lined = on_ok_map _ _ _ (λ z. lined_applied x c.args.site.line (node_in (typed_expr c.args.e.now)) (one c.in-One.op (typed_expr c.in-One.x.now)) _ _ (sym is) z) e.lined; walked = e.walked; emitted = ok_map _ _ _ (λ (r : Reg) q. applied_emits x c.args.e.now c.requires.suits (one c.in-One.op (typed_expr c.in-One.x.now)) _ _ r.0 is q) e.emitted }
 
 pub emit_applied-emit_two_parts-requires : goal.emit_applied-emit_two_parts-requires
 emit_applied-emit_two_parts-requires t c =
@@ -116,14 +122,14 @@ emit_applied-returns-in-Two t c =
     let x : Setting = setting_of c.args.site in
     let is = ap (λ z. Some (seen z)) (sym c.in-Two.is) ∙ c.operation_in.ensures in
     let e = c.emit_two_parts.ensures in
-    record { walked = e.walked; emitted = ok_map _ _ _ (λ (r : Reg) q. applied_emits x c.args.e.now c.requires.suits (two c.in-Two.op (typed_expr c.in-Two.x.now) (typed_expr c.in-Two.y.now)) _ _ r.0 is q) e.emitted }
+    record { lined = on_ok_map _ _ _ (λ z. lined_applied x c.args.site.line (node_in (typed_expr c.args.e.now)) (two c.in-Two.op (typed_expr c.in-Two.x.now) (typed_expr c.in-Two.y.now)) _ _ (sym is) z) e.lined; walked = e.walked; emitted = ok_map _ _ _ (λ (r : Reg) q. applied_emits x c.args.e.now c.requires.suits (two c.in-Two.op (typed_expr c.in-Two.x.now) (typed_expr c.in-Two.y.now)) _ _ r.0 is q) e.emitted }
 
 pub emit_expression-returns-in-Bool : goal.emit_expression-returns-in-Bool
 emit_expression-returns-in-Bool t c =
     let x : Setting = setting_of c.args.site in
     let e = c.literal.ensures in
     let fits : LiteralFits rtype.Bool c.truth.result = rw c.truth.ensures (truth_fits c.in-Bool.value) in
-    record { kept = e.kept; emitted = ok_map _ _ _ (λ (r : Reg) a. flag_walked x c.args.e.now c.requires.suits c.in-Bool.value _ _ r.0 c.in-Bool.is a) (rw c.truth.ensures at e.added); shaped = e.shaped; kinds = λ g among h. e.kinds g fits h }
+    record { lined = always _ _ (flag_lined x c.args.e.now c.in-Bool.value _ _ c.in-Bool.is e.kept e.lined); kept = e.kept; emitted = ok_map _ _ _ (λ (r : Reg) a. flag_walked x c.args.e.now c.requires.suits c.in-Bool.value _ _ r.0 c.in-Bool.is a) (rw c.truth.ensures at e.added); shaped = e.shaped; kinds = λ g among h. e.kinds g fits h }
 
 pub emit_expression-emit_local-requires-clause-there : goal.emit_expression-emit_local-requires-clause-there
 emit_expression-emit_local-requires-clause-there t c =
@@ -137,7 +143,7 @@ pub emit_expression-returns-in-Local : goal.emit_expression-returns-in-Local
 emit_expression-returns-in-Local t c =
     let x : Setting = setting_of c.args.site in
     let e = c.emit_local.ensures in
-    record { kept = e.kept; emitted = ok_join _ _ _ _ (λ (r : Reg) is q. local_walked x c.args.e.now c.requires.suits c.in-Local.i _ _ r.0 c.in-Local.is is q) e.is e.emitted; shaped = e.shaped; kinds = λ g among h. e.kinds g h }
+    record { lined = always _ _ (local_lined x c.args.e.now c.in-Local.i _ _ c.in-Local.is e.kept e.lined); kept = e.kept; emitted = ok_join _ _ _ _ (λ (r : Reg) is q. local_walked x c.args.e.now c.requires.suits c.in-Local.i _ _ r.0 c.in-Local.is is q) e.is e.emitted; shaped = e.shaped; kinds = λ g among h. e.kinds g h }
 
 pub emit_expression-emit_choice-requires : goal.emit_expression-emit_choice-requires
 emit_expression-emit_choice-requires t c =
@@ -153,7 +159,8 @@ emit_expression-returns-in-And t c =
     let x : Setting = setting_of c.args.site in
     let w = c.emit_choice.ensures.walked in
     let emitted : IfOk c.emit_choice.result (λ r. EmitsChoice x (sort c.args.e.now.ty) (typed_expr c.in-And.x.value) (Some (typed_expr c.in-And.y.value)) None c.args.b.now c.emit_choice.new.b r.0) = rw (c.deref-in-And.ensures, c.deref-in-And-2.ensures) at c.emit_choice.ensures.emitted in
-    record { kept = w.kept; emitted = ok_map _ _ _ (λ (r : Reg) q. emits_as x c.args.e.now (And (typed_expr c.in-And.x.value) (typed_expr c.in-And.y.value)) (sort c.args.e.now.ty) _ _ r.0 (is_and c.args.e.now c.in-And.x c.in-And.y c.in-And.is) refl q) emitted; shaped = w.shaped; kinds = w.kinds }
+    let parts : OnOk c.emit_choice.result (LinedParts x c.args.e.now.span.line (typed_expr c.in-And.x.value ∷ typed_expr c.in-And.y.value ∷ []) c.args.b.now c.emit_choice.new.b) = rw (c.deref-in-And.ensures, c.deref-in-And-2.ensures) at c.emit_choice.ensures.lined in
+    record { lined = on_ok_map _ _ _ (λ z. lined_node x c.args.e.now (And (typed_expr c.in-And.x.value) (typed_expr c.in-And.y.value)) _ _ (is_and c.args.e.now c.in-And.x c.in-And.y c.in-And.is) z) parts; kept = w.kept; emitted = ok_map _ _ _ (λ (r : Reg) q. emits_as x c.args.e.now (And (typed_expr c.in-And.x.value) (typed_expr c.in-And.y.value)) (sort c.args.e.now.ty) _ _ r.0 (is_and c.args.e.now c.in-And.x c.in-And.y c.in-And.is) refl q) emitted; shaped = w.shaped; kinds = w.kinds }
 
 pub emit_expression-emit_choice-requires-in-Or : goal.emit_expression-emit_choice-requires-in-Or
 emit_expression-emit_choice-requires-in-Or t c =
@@ -169,7 +176,8 @@ emit_expression-returns-in-Or t c =
     let x : Setting = setting_of c.args.site in
     let w = c.emit_choice-in-Or.ensures.walked in
     let emitted : IfOk c.emit_choice-in-Or.result (λ r. EmitsChoice x (sort c.args.e.now.ty) (typed_expr c.in-Or.x.value) None (Some (typed_expr c.in-Or.y.value)) c.args.b.now c.emit_choice-in-Or.new.b r.0) = rw (c.deref-in-Or.ensures, c.deref-in-Or-2.ensures) at c.emit_choice-in-Or.ensures.emitted in
-    record { kept = w.kept; emitted = ok_map _ _ _ (λ (r : Reg) q. emits_as x c.args.e.now (Or (typed_expr c.in-Or.x.value) (typed_expr c.in-Or.y.value)) (sort c.args.e.now.ty) _ _ r.0 (is_or c.args.e.now c.in-Or.x c.in-Or.y c.in-Or.is) refl q) emitted; shaped = w.shaped; kinds = w.kinds }
+    let parts : OnOk c.emit_choice-in-Or.result (LinedParts x c.args.e.now.span.line (typed_expr c.in-Or.x.value ∷ typed_expr c.in-Or.y.value ∷ []) c.args.b.now c.emit_choice-in-Or.new.b) = rw (c.deref-in-Or.ensures, c.deref-in-Or-2.ensures) at c.emit_choice-in-Or.ensures.lined in
+    record { lined = on_ok_map _ _ _ (λ z. lined_node x c.args.e.now (Or (typed_expr c.in-Or.x.value) (typed_expr c.in-Or.y.value)) _ _ (is_or c.args.e.now c.in-Or.x c.in-Or.y c.in-Or.is) z) parts; kept = w.kept; emitted = ok_map _ _ _ (λ (r : Reg) q. emits_as x c.args.e.now (Or (typed_expr c.in-Or.x.value) (typed_expr c.in-Or.y.value)) (sort c.args.e.now.ty) _ _ r.0 (is_or c.args.e.now c.in-Or.x c.in-Or.y c.in-Or.is) refl q) emitted; shaped = w.shaped; kinds = w.kinds }
 
 pub emit_expression-emit_choice-requires-in-Cond : goal.emit_expression-emit_choice-requires-in-Cond
 emit_expression-emit_choice-requires-in-Cond t c =
@@ -186,7 +194,8 @@ emit_expression-returns-in-Cond t c =
     let x : Setting = setting_of c.args.site in
     let w = c.emit_choice-in-Cond.ensures.walked in
     let emitted : IfOk c.emit_choice-in-Cond.result (λ r. EmitsChoice x (sort c.args.e.now.ty) (typed_expr c.in-Cond.test.value) (Some (typed_expr c.in-Cond.x.value)) (Some (typed_expr c.in-Cond.y.value)) c.args.b.now c.emit_choice-in-Cond.new.b r.0) = rw (c.deref-in-Cond.ensures, c.deref-in-Cond-2.ensures, c.deref-in-Cond-3.ensures) at c.emit_choice-in-Cond.ensures.emitted in
-    record { kept = w.kept; emitted = ok_map _ _ _ (λ (r : Reg) q. emits_as x c.args.e.now (Cond (typed_expr c.in-Cond.x.value) (typed_expr c.in-Cond.test.value) (typed_expr c.in-Cond.y.value)) (sort c.args.e.now.ty) _ _ r.0 (is_cond c.args.e.now c.in-Cond.x c.in-Cond.test c.in-Cond.y c.in-Cond.is) refl q) emitted; shaped = w.shaped; kinds = w.kinds }
+    let parts : OnOk c.emit_choice-in-Cond.result (LinedParts x c.args.e.now.span.line (typed_expr c.in-Cond.test.value ∷ typed_expr c.in-Cond.x.value ∷ typed_expr c.in-Cond.y.value ∷ []) c.args.b.now c.emit_choice-in-Cond.new.b) = rw (c.deref-in-Cond.ensures, c.deref-in-Cond-2.ensures, c.deref-in-Cond-3.ensures) at c.emit_choice-in-Cond.ensures.lined in
+    record { lined = on_ok_map _ _ _ (λ z. lined_node x c.args.e.now (Cond (typed_expr c.in-Cond.x.value) (typed_expr c.in-Cond.test.value) (typed_expr c.in-Cond.y.value)) _ _ (is_cond c.args.e.now c.in-Cond.x c.in-Cond.test c.in-Cond.y c.in-Cond.is) z) parts; kept = w.kept; emitted = ok_map _ _ _ (λ (r : Reg) q. emits_as x c.args.e.now (Cond (typed_expr c.in-Cond.x.value) (typed_expr c.in-Cond.test.value) (typed_expr c.in-Cond.y.value)) (sort c.args.e.now.ty) _ _ r.0 (is_cond c.args.e.now c.in-Cond.x c.in-Cond.test c.in-Cond.y c.in-Cond.is) refl q) emitted; shaped = w.shaped; kinds = w.kinds }
 
 pub emit_expression-emit_arguments-requires : goal.emit_expression-emit_arguments-requires
 emit_expression-emit_arguments-requires t c =
@@ -198,7 +207,7 @@ emit_expression-emit_arguments-requires t c =
 pub emit_expression-returns-in_err-args-in-Call : goal.emit_expression-returns-in_err-args-in-Call
 emit_expression-returns-in_err-args-in-Call t c =
     let w = c.in_err-args-in-Call.ensures.walked in
-    record { kept = w.kept; emitted = search rules; shaped = w.shaped; kinds = w.kinds }
+    record { lined = search rules; kept = w.kept; emitted = search rules; shaped = w.shaped; kinds = w.kinds }
 
 pub emit_expression-call-requires : goal.emit_expression-call-requires
 emit_expression-call-requires t c =
@@ -212,43 +221,44 @@ emit_expression-returns-in_ok-args-in-Call t c =
     let all : EmitsAll x (map type_of (map typed_expr c.in-Call.args)) (exprs_of (map typed_expr c.in-Call.args)) c.args.b.now c.emit_arguments.new.b c.in_ok-args-in-Call.args = rw c.as_slice-in-Call.ensures at c.in_ok-args-in-Call.ensures.emitted in
     let e = c.call.ensures in
     let w = call_walks x c.args.e.now c.requires.suits c.in-Call.f c.in-Call.args _ _ _ _ _ c.in-Call.is c.register_type.ensures c.in_ok-args-in-Call.ensures.walked all e.kept e.shaped e.kinds in
-    record { kept = w.kept; emitted = ok_map _ _ _ (λ (r : Reg) a. call_walked x c.args.e.now c.requires.suits c.in-Call.f c.in-Call.args _ _ _ _ r.0 _ c.in-Call.is c.register_type.ensures c.requires.room all a) e.added; shaped = w.shaped; kinds = w.kinds }
+    let parts : LinedParts x c.args.e.now.span.line (listed_of c.in-Call.args) c.args.b.now c.emit_arguments.new.b = rw c.as_slice-in-Call.ensures at c.in_ok-args-in-Call.ensures.lined in
+    record { lined = always _ _ (call_lined x c.args.e.now c.in-Call.f c.in-Call.args _ _ _ c.in-Call.is parts e.kept e.lined); kept = w.kept; emitted = ok_map _ _ _ (λ (r : Reg) a. call_walked x c.args.e.now c.requires.suits c.in-Call.f c.in-Call.args _ _ _ _ r.0 _ c.in-Call.is c.register_type.ensures c.requires.room all a) e.added; shaped = w.shaped; kinds = w.kinds }
 
 pub emit_arguments-loop-e-init : goal.emit_arguments-loop-e-init
 emit_arguments-loop-e-init t c =
     let x : Setting = setting_of c.args.site in
-    rw c.new-regs.ensures (passing_none x c.args.args.now c.args.b.now c.requires.suits)
+    record { passing = rw c.new-regs.ensures (passing_none x c.args.args.now c.args.b.now c.requires.suits); lined = rest_start x c.args.site.line (listed_of c.args.args.now) c.args.b.now }
 
 pub emit_arguments-emit_expression-requires : goal.emit_arguments-emit_expression-requires
 emit_arguments-emit_expression-requires t c =
     let m : TypedModule = typed_module c.args.site.checked.now in
     let vs : List Variable = map variable c.args.site.locals.now in
     let h0 = member_weight c.args.args.now c.loop-e.e-index c.e-item.result c.loop-e-test.true c.e-item.is in
-    (omega arith, ((argument_suits m vs c.args.args.now c.loop-e.e-index c.e-item.result c.loop-e-test.true c.e-item.is c.loop-e.invariant.suits).0, (room_on _ _ _ c.loop-e.invariant.walks.kept c.requires.room)))
+    (omega arith, ((argument_suits m vs c.args.args.now c.loop-e.e-index c.e-item.result c.loop-e-test.true c.e-item.is c.loop-e.invariant.passing.suits).0, (room_on _ _ _ c.loop-e.invariant.passing.walks.kept c.requires.room)))
 
 pub emit_arguments-returns-in_err-r : goal.emit_arguments-returns-in_err-r
 emit_arguments-returns-in_err-r t c =
     let m : TypedModule = typed_module c.args.site.checked.now in
-    let w = then_if m _ _ _ c.loop-e.invariant.walks c.in_err-r.ensures.kept c.in_err-r.ensures.shaped c.in_err-r.ensures.kinds in
-    record { walked = w; emitted = search rules }
+    let w = then_if m _ _ _ c.loop-e.invariant.passing.walks c.in_err-r.ensures.kept c.in_err-r.ensures.shaped c.in_err-r.ensures.kinds in
+    record { walked = w; emitted = search rules; lined = search rules }
 
 pub emit_arguments-returns-in_err-push : goal.emit_arguments-returns-in_err-push
 emit_arguments-returns-in_err-push t c =
     let m : TypedModule = typed_module c.args.site.checked.now in
-    let w = then_if m _ _ _ c.loop-e.invariant.walks c.in_ok-r.ensures.kept c.in_ok-r.ensures.shaped c.in_ok-r.ensures.kinds in
-    record { walked = w; emitted = search rules }
+    let w = then_if m _ _ _ c.loop-e.invariant.passing.walks c.in_ok-r.ensures.kept c.in_ok-r.ensures.shaped c.in_ok-r.ensures.kinds in
+    record { walked = w; emitted = search rules; lined = search rules }
 
 pub emit_arguments-loop-e-preserved : goal.emit_arguments-loop-e-preserved
 emit_arguments-loop-e-preserved t c =
     let m : TypedModule = typed_module c.args.site.checked.now in
     let x : Setting = setting_of c.args.site in
     let e = c.in_ok-r.ensures in
-    passing_on x c.args.args.now c.loop-e.e-index c.e-item.result c.args.b.now c.loop-e.b _ c.loop-e.regs _ c.in_ok-r.r c.loop-e-test.true c.e-item.is c.requires.room c.loop-e.invariant (walks_if m _ _ e.kept e.shaped e.kinds) e.emitted c.in_ok-push.ensures.ok
+    record { passing = passing_on x c.args.args.now c.loop-e.e-index c.e-item.result c.args.b.now c.loop-e.b _ c.loop-e.regs _ c.in_ok-r.r c.loop-e-test.true c.e-item.is c.requires.room c.loop-e.invariant.passing (walks_if m _ _ e.kept e.shaped e.kinds) e.emitted c.in_ok-push.ensures.ok; lined = argument_lined x c.args.site.line c.args.args.now c.loop-e.e-index c.e-item.result c.args.b.now c.loop-e.b _ c.in_ok-r.r.0 c.loop-e-test.true c.e-item.is c.loop-e.invariant.lined e.emitted e.lined }
 
 pub emit_arguments-returns : goal.emit_arguments-returns
 emit_arguments-returns t c =
     let x : Setting = setting_of c.args.site in
-    record { walked = c.loop-e.invariant.walks; emitted = passing_ends x c.args.args.now c.loop-e.e-index c.args.b.now c.loop-e.b c.loop-e.regs c.loop-e-test.false c.loop-e.invariant }
+    record { lined = arguments_lined x c.args.site.line c.args.args.now c.loop-e.e-index c.args.b.now c.loop-e.b c.loop-e-test.false c.loop-e.invariant.lined; walked = c.loop-e.invariant.passing.walks; emitted = passing_ends x c.args.args.now c.loop-e.e-index c.args.b.now c.loop-e.b c.loop-e.regs c.loop-e-test.false c.loop-e.invariant.passing }
 
 pub emit_choice-emit_expression-requires : goal.emit_choice-emit_expression-requires
 emit_choice-emit_expression-requires t c =
@@ -358,7 +368,8 @@ emit_choice-returns t c =
     let to_second = extends_trans _ _ _ c.in_ok-x.ensures.walked.kept (extends_trans _ _ _ c.in_ok-end.ensures.kept c.in_ok-y.ensures.walked.kept) in
     let all : EmitsChoice x (sort c.args.t.now) (typed_expr c.args.test.now) (arm_of c.args.body) (arm_of c.args.other) c.args.b.now c.meet.new.b c.in_ok-choice.choice.target.0 = choice_made x (sort c.args.t.now) c.args.test.now c.register_type.result c.register_type.ensures _ _ _ c.in_ok-tested.ensures.emitted _ _ _ _ _ _ _ _ _ _ _ _ _ _ _ _ c.requires.suits c.requires.room c.in_ok-condition.ensures.found c.in_ok-choice.ensures.opens c.in_ok-x.ensures.walked.kept c.in_ok-x.ensures.emitted c.in_ok-end.ensures.brings c.here-second.ensures c.in_ok-y.ensures.emitted c.in_ok-meet.ensures.meets in
     let w = met m c.register_type.result _ _ _ _ _ c.in_ok-choice.choice.target c.in_ok-y.y c.in_ok-condition.condition _ _ w6 c.in_ok-choice.ensures.opens to_second second (type_kept _ _ _ _ (extends_trans _ _ _ c.in_ok-choice.ensures.kept to_second) c.in_ok-condition.ensures.found.type) all.extends (meets_grow _ _ _ _ _ _ _ _ _ c.in_ok-meet.ensures.meets) c.meet.ensures.shaped c.meet.ensures.kinds in
-    record { walked = w; emitted = all }
+    let lines = choice_lined x c.args.site.line c.args.test.now c.args.body c.args.other _ _ _ _ _ _ _ _ c.in_ok-tested.tested.0 _ _ _ _ _ _ _ c.in_ok-tested.ensures.emitted c.in_ok-tested.ensures.lined c.in_ok-condition.ensures.kept c.in_ok-condition.ensures.lined c.in_ok-choice.ensures.kept (c.in_ok-choice.ensures.lined c.args.site.line) c.in_ok-x.ensures.lined c.in_ok-end.ensures.kept c.in_ok-end.ensures.lined c.in_ok-y.ensures.lined c.in_ok-meet.ensures.meets c.meet.ensures.lined in
+    record { lined = lines; walked = w; emitted = all }
 
 pub emit_arm-emit_expression-requires : goal.emit_arm-emit_expression-requires
 emit_arm-emit_expression-requires t c =
@@ -371,12 +382,12 @@ pub emit_arm-returns-in-Some : goal.emit_arm-returns-in-Some
 emit_arm-returns-in-Some t c =
     let x : Setting = setting_of c.args.site in
     let e = c.emit_expression.ensures in
-    record { walked = walks_if x.source _ _ e.kept e.shaped e.kinds; emitted = ok_map _ _ _ (λ (r : Reg) q. arm_there x c.args.arm c.in-Some.e c.args.tested.0 _ _ r.0 c.in-Some.is q) e.emitted }
+    record { lined = ok_lined _ _ _ _ (λ (r : Reg) q z. arm_lined x c.args.site.line c.args.arm c.in-Some.e _ _ r.0 c.in-Some.is q z) e.emitted e.lined; walked = walks_if x.source _ _ e.kept e.shaped e.kinds; emitted = ok_map _ _ _ (λ (r : Reg) q. arm_there x c.args.arm c.in-Some.e c.args.tested.0 _ _ r.0 c.in-Some.is q) e.emitted }
 
 pub emit_arm-returns-in-None : goal.emit_arm-returns-in-None
 emit_arm-returns-in-None t c =
     let x : Setting = setting_of c.args.site in
-    record { walked = walks_refl x.source c.args.b.now; emitted = arm_missing x c.args.arm c.args.tested.0 c.args.b.now c.in-None.is }
+    record { lined = arm_none x c.args.site.line c.args.arm c.args.b.now c.in-None.is; walked = walks_refl x.source c.args.b.now; emitted = arm_missing x c.args.arm c.args.tested.0 c.args.b.now c.in-None.is }
 
 pub emit_part-returns-in-Some : goal.emit_part-returns-in-Some
 emit_part-returns-in-Some t c =
@@ -388,21 +399,21 @@ emit_part-returns-in-Some t c =
     let is = sym c.native_literal.ensures ∙ c.in-Some.is in
     let within = (native_is (sort c.args.t.now) _ n is).1 in
     let w : Walks x.source c.args.b.now c.literal.new.self = walks_known x.source _ _ _ e.kept e.shaped kinds (λ g among. number_fits n within) in
-    record { walked = w; emitted = ok_map _ _ _ (λ (r : Reg) a. native_part x (sort c.args.t.now) (typed_expr c.args.e.now) n _ _ r.0 is a) added }
+    record { lined = always _ _ (lined_literal x c.args.e.now n _ _ (native_is (sort c.args.t.now) _ n is).0 e.kept e.lined); walked = w; emitted = ok_map _ _ _ (λ (r : Reg) a. native_part x (sort c.args.t.now) (typed_expr c.args.e.now) n _ _ r.0 is a) added }
 
 pub emit_part-returns-in-None : goal.emit_part-returns-in-None
 emit_part-returns-in-None t c =
     let x : Setting = setting_of c.args.site in
     let e = c.emit_expression.ensures in
     let w = walks_if x.source _ _ e.kept e.shaped e.kinds in
-    record { walked = w; emitted = ok_map _ _ _ (λ (r : Reg) q. own_part x (sort c.args.t.now) (typed_expr c.args.e.now) _ _ r.0 (sym c.native_literal.ensures ∙ c.in-None.is) q) e.emitted }
+    record { lined = e.lined; walked = w; emitted = ok_map _ _ _ (λ (r : Reg) q. own_part x (sort c.args.t.now) (typed_expr c.args.e.now) _ _ r.0 (sym c.native_literal.ensures ∙ c.in-None.is) q) e.emitted }
 
 pub emit_one_part-returns : goal.emit_one_part-returns
 emit_one_part-returns t c =
     let x : Setting = setting_of c.args.site in
     let e = c.emit_unary.ensures in
     let w = then_by x.source _ _ _ c.in_ok-x.ensures.walked e.kept e.shaped e.kinds in
-    record { walked = w; emitted = ok_map _ _ _ (λ (r : Reg) a. one_emits x c.args.op (sort c.args.t.now) (typed_expr c.args.e.now) _ _ _ _ r.0 c.requires.room c.in_ok-x.ensures.emitted a) e.made }
+    record { lined = always _ _ (lined_one x c.args.site.line (typed_expr c.args.e.now) _ _ _ (part_sort (sort c.args.t.now) (typed_expr c.args.e.now), c.in_ok-x.x.0, c.in_ok-x.ensures.emitted) c.in_ok-x.ensures.lined e.kept e.lined); walked = w; emitted = ok_map _ _ _ (λ (r : Reg) a. one_emits x c.args.op (sort c.args.t.now) (typed_expr c.args.e.now) _ _ _ _ r.0 c.requires.room c.in_ok-x.ensures.emitted a) e.made }
 
 pub emit_two_parts-emit_part-requires-2 : goal.emit_two_parts-emit_part-requires-2
 emit_two_parts-emit_part-requires-2 t c =
@@ -411,7 +422,7 @@ emit_two_parts-emit_part-requires-2 t c =
 pub emit_two_parts-returns-in_err-y : goal.emit_two_parts-returns-in_err-y
 emit_two_parts-returns-in_err-y t c =
     let m : TypedModule = typed_module c.args.site.checked.now in
-    record { walked = walks_trans m _ _ _ c.in_ok-x.ensures.walked c.in_err-y.ensures.walked; emitted = search rules }
+    record { walked = walks_trans m _ _ _ c.in_ok-x.ensures.walked c.in_err-y.ensures.walked; emitted = search rules; lined = search rules }
 
 pub emit_two_parts-emit_binary-requires : goal.emit_two_parts-emit_binary-requires
 emit_two_parts-emit_binary-requires t c = record { fits = c.requires.fits; left_value = type_kept _ _ _ _ c.in_ok-y.ensures.walked.kept c.in_ok-x.ensures.emitted.type; right_value = c.in_ok-y.ensures.emitted.type }
@@ -422,13 +433,13 @@ emit_two_parts-returns t c =
     let e = c.emit_binary.ensures in
     let w1 = walks_trans x.source _ _ _ c.in_ok-x.ensures.walked c.in_ok-y.ensures.walked in
     let w = then_by x.source _ _ _ w1 e.kept e.shaped e.kinds in
-    record { walked = w; emitted = ok_map _ _ _ (λ (r : Reg) a. two_emit x c.args.op (sort c.args.t.now) (typed_expr c.args.left.now) (typed_expr c.args.right.now) _ _ _ _ _ _ r.0 c.requires.room c.in_ok-x.ensures.emitted c.in_ok-y.ensures.emitted a) e.made }
+    record { lined = always _ _ (lined_two x c.args.site.line (typed_expr c.args.left.now) (typed_expr c.args.right.now) _ _ _ _ (part_sort (sort c.args.t.now) (typed_expr c.args.left.now), c.in_ok-x.x.0, c.in_ok-x.ensures.emitted) c.in_ok-x.ensures.lined (part_sort (sort c.args.t.now) (typed_expr c.args.right.now), c.in_ok-y.y.0, c.in_ok-y.ensures.emitted) c.in_ok-y.ensures.lined e.kept e.lined); walked = w; emitted = ok_map _ _ _ (λ (r : Reg) a. two_emit x c.args.op (sort c.args.t.now) (typed_expr c.args.left.now) (typed_expr c.args.right.now) _ _ _ _ _ _ r.0 c.requires.room c.in_ok-x.ensures.emitted c.in_ok-y.ensures.emitted a) e.made }
 
 pub emit_side-returns : goal.emit_side-returns
 emit_side-returns t c =
     let x : Setting = setting_of c.args.site in
     let e = c.in_ok-reg.ensures in
-    record { walked = e.walked; emitted = side_emits x _ c.args.e.now _ _ _ _ _ c.kind_of-own.ensures c.shown_kind-shown.ensures c.requires.simple c.requires.suits e.emitted }
+    record { lined = e.lined; walked = e.walked; emitted = side_emits x _ c.args.e.now _ _ _ _ _ c.kind_of-own.ensures c.shown_kind-shown.ensures c.requires.simple c.requires.suits e.emitted }
 
 pub emit_chain-returns-in-empty : goal.emit_chain-returns-in-empty
 emit_chain-returns-in-empty t c =
@@ -436,7 +447,7 @@ emit_chain-returns-in-empty t c =
     let e = c.literal.ensures in
     let fits : LiteralFits rtype.Bool c.truth.result = rw c.truth.ensures (truth_fits true) in
     let w : Walks x.source c.args.b.now c.literal.new.self = walks_known x.source _ _ _ e.kept e.shaped e.kinds (λ g among. fits) in
-    record { walked = w; emitted = ok_map _ _ _ (λ (r : Reg) a. chain_empty x c.args.first c.args.rest.now _ _ r.0 c.in-empty.len_below a) (rw c.truth.ensures at e.added) }
+    record { lined = always _ _ (chain_none x c.args.site.line c.args.rest.now _ _ c.in-empty.len_below e.kept e.lined); walked = w; emitted = ok_map _ _ _ (λ (r : Reg) a. chain_empty x c.args.first c.args.rest.now _ _ r.0 c.in-empty.len_below a) (rw c.truth.ensures at e.added) }
 
 pub emit_chain-emit_side-requires : goal.emit_chain-emit_side-requires
 emit_chain-emit_side-requires t c =
@@ -464,26 +475,26 @@ emit_chain-loop-op-init t c =
     let x : Setting = setting_of c.args.site in
     let e = c.in_ok-left-in-len1-up.ensures in
     let h = c.in_ok-holds-in-len1-up.ensures in
-    going_start x c.args.first c.args.rest.now c.index-rest-0.result c.index-rest-0-2.result _ _ _ _ c.in_ok-left-in-len1-up.left c.in_ok-holds-in-len1-up.holds c.in-len1-up.len_at_least c.new-links.ensures c.requires.suits c.requires.room c.requires.first e.walked e.emitted (walks_by m _ _ h.kept h.shaped h.kinds) h.made
+    record { going = going_start x c.args.first c.args.rest.now c.index-rest-0.result c.index-rest-0-2.result _ _ _ _ c.in_ok-left-in-len1-up.left c.in_ok-holds-in-len1-up.holds c.in-len1-up.len_at_least c.new-links.ensures c.requires.suits c.requires.room c.requires.first e.walked e.emitted (walks_by m _ _ h.kept h.shaped h.kinds) h.made; lined = chain_started x c.args.site.line c.args.rest.now c.index-rest-0-2.result _ _ _ c.in_ok-left-in-len1-up.left c.in-len1-up.len_at_least e.emitted e.lined h.kept h.lined }
 
 pub emit_chain-returns-in_err-begin_link-in-len1-up-clause-walked : goal.emit_chain-returns-in_err-begin_link-in-len1-up-clause-walked
 emit_chain-returns-in_err-begin_link-in-len1-up-clause-walked t c =
     let m : TypedModule = typed_module c.args.site.checked.now in
     let l = c.in_err-begin_link-in-len1-up.ensures in
-    then_by m _ _ _ c.loop-op.invariant.walks l.kept l.shaped l.kinds
+    then_by m _ _ _ c.loop-op.invariant.going.walks l.kept l.shaped l.kinds
 
 pub emit_chain-returns-in_err-right-in-len1-up-clause-walked : goal.emit_chain-returns-in_err-right-in-len1-up-clause-walked
 emit_chain-returns-in_err-right-in-len1-up-clause-walked t c =
     let m : TypedModule = typed_module c.args.site.checked.now in
     let l = c.in_ok-begin_link-in-len1-up.ensures in
-    let w1 = then_by m _ _ _ c.loop-op.invariant.walks l.kept l.shaped l.kinds in
+    let w1 = then_by m _ _ _ c.loop-op.invariant.going.walks l.kept l.shaped l.kinds in
     walks_trans m _ _ _ w1 c.in_err-right-in-len1-up.ensures.walked
 
 pub emit_chain-returns-in_err-holds-in-len1-up-2-clause-walked : goal.emit_chain-returns-in_err-holds-in-len1-up-2-clause-walked
 emit_chain-returns-in_err-holds-in-len1-up-2-clause-walked t c =
     let m : TypedModule = typed_module c.args.site.checked.now in
     let l = c.in_ok-begin_link-in-len1-up.ensures in
-    let w1 = then_by m _ _ _ c.loop-op.invariant.walks l.kept l.shaped l.kinds in
+    let w1 = then_by m _ _ _ c.loop-op.invariant.going.walks l.kept l.shaped l.kinds in
     let w2 = walks_trans m _ _ _ w1 c.in_ok-right-in-len1-up.ensures.walked in
     let h = c.in_err-holds-in-len1-up-2.ensures in
     then_by m _ _ _ w2 h.kept h.shaped h.kinds
@@ -493,16 +504,16 @@ emit_chain-emit_side-requires-in-loop-op t c =
     let x : Setting = setting_of c.args.site in
     let more : Chain = take (length c.args.rest.now - 1) (drop 1 c.args.rest.now) in
     let h0 = later_weight c.args.rest.now c.loop-op.op-index c.loop-op-item.result c.loop-op-test.true c.loop-op-item.is in
-    let k = item_suits x (kind_sort c.loop-op.left.own) more c.loop-op.op-index c.loop-op-item.result c.loop-op-test.true c.loop-op-item.is c.loop-op.invariant.suits in
-    (omega arith, (k.2, (k.3, room_on _ _ _ (extends_trans _ _ _ c.loop-op.invariant.walks.kept c.in_ok-begin_link-in-len1-up.ensures.kept) c.requires.room)))
+    let k = item_suits x (kind_sort c.loop-op.left.own) more c.loop-op.op-index c.loop-op-item.result c.loop-op-test.true c.loop-op-item.is c.loop-op.invariant.going.suits in
+    (omega arith, (k.2, (k.3, room_on _ _ _ (extends_trans _ _ _ c.loop-op.invariant.going.walks.kept c.in_ok-begin_link-in-len1-up.ensures.kept) c.requires.room)))
 
 pub emit_chain-emit_pair-requires-in-loop-op : goal.emit_chain-emit_pair-requires-in-loop-op
 emit_chain-emit_pair-requires-in-loop-op t c =
     let x : Setting = setting_of c.args.site in
     let more : Chain = take (length c.args.rest.now - 1) (drop 1 c.args.rest.now) in
-    let k = item_suits x (kind_sort c.loop-op.left.own) more c.loop-op.op-index c.loop-op-item.result c.loop-op-test.true c.loop-op-item.is c.loop-op.invariant.suits in
+    let k = item_suits x (kind_sort c.loop-op.left.own) more c.loop-op.op-index c.loop-op-item.result c.loop-op-test.true c.loop-op-item.is c.loop-op.invariant.going.suits in
     let side = c.in_ok-right-in-len1-up.ensures.emitted in
-    record { ordering = k.0; compared = subst (λ z. is_pair (kind_sort c.loop-op.left.own) z ≡ true) (sym side.own) k.1; left_shown = c.loop-op.invariant.shown; right_shown = side.shown; left = type_kept _ _ _ _ (extends_trans _ _ _ c.in_ok-begin_link-in-len1-up.ensures.kept c.in_ok-right-in-len1-up.ensures.walked.kept) c.loop-op.invariant.operand; right = side.emits.type }
+    record { ordering = k.0; compared = subst (λ z. is_pair (kind_sort c.loop-op.left.own) z ≡ true) (sym side.own) k.1; left_shown = c.loop-op.invariant.going.shown; right_shown = side.shown; left = type_kept _ _ _ _ (extends_trans _ _ _ c.in_ok-begin_link-in-len1-up.ensures.kept c.in_ok-right-in-len1-up.ensures.walked.kept) c.loop-op.invariant.going.operand; right = side.emits.type }
 
 pub emit_chain-loop-op-preserved : goal.emit_chain-loop-op-preserved
 emit_chain-loop-op-preserved t c =
@@ -512,13 +523,13 @@ emit_chain-loop-op-preserved t c =
     let l = c.in_ok-begin_link-in-len1-up.ensures in
     let e = c.in_ok-right-in-len1-up.ensures in
     let h = c.in_ok-holds-in-len1-up-2.ensures in
-    let g = going_at x c.args.first c.args.rest.now more c.loop-op.op-index c.loop-op-item.result c.args.b.now c.loop-op.b c.loop-op.links c.loop-op.left c.loop-op.holds c.loop-op-test.true c.loop-op-item.is c.loop-op.invariant in
-    going_on x c.args.first c.args.rest.now c.loop-op-item.result (drop (c.loop-op.op-index + 1) more) c.args.b.now c.loop-op.b _ _ _ c.loop-op.links _ c.loop-op.left c.loop-op.holds c.in_ok-right-in-len1-up.right c.in_ok-holds-in-len1-up-2.holds c.requires.room g (walks_by m _ _ l.kept l.shaped l.kinds) l.linked e.walked e.emitted (walks_by m _ _ h.kept h.shaped h.kinds) h.made
+    let g = going_at x c.args.first c.args.rest.now more c.loop-op.op-index c.loop-op-item.result c.args.b.now c.loop-op.b c.loop-op.links c.loop-op.left c.loop-op.holds c.loop-op-test.true c.loop-op-item.is c.loop-op.invariant.going in
+    record { going = going_on x c.args.first c.args.rest.now c.loop-op-item.result (drop (c.loop-op.op-index + 1) more) c.args.b.now c.loop-op.b _ _ _ c.loop-op.links _ c.loop-op.left c.loop-op.holds c.in_ok-right-in-len1-up.right c.in_ok-holds-in-len1-up-2.holds c.requires.room g (walks_by m _ _ l.kept l.shaped l.kinds) l.linked e.walked e.emitted (walks_by m _ _ h.kept h.shaped h.kinds) h.made; lined = chain_next x c.args.site.line (operands_of_all c.args.rest.now) more c.loop-op.op-index c.loop-op-item.result c.args.b.now c.loop-op.b _ _ _ c.in_ok-right-in-len1-up.right c.loop-op-test.true c.loop-op-item.is c.loop-op.invariant.lined l.kept (l.lined c.args.site.line) e.emitted e.lined h.kept h.lined }
 
 pub emit_chain-returns-after-loop-op : goal.emit_chain-returns-after-loop-op
 emit_chain-returns-after-loop-op t c =
     let x : Setting = setting_of c.args.site in
     let more : Chain = take (length c.args.rest.now - 1) (drop 1 c.args.rest.now) in
     let e = c.meet_links.ensures in
-    let w = going_walks x c.args.first c.args.rest.now (drop c.loop-op.op-index more) c.args.b.now c.loop-op.b c.meet_links.new.b c.loop-op.links c.loop-op.left c.loop-op.holds c.loop-op.invariant e.kept e.grown e.shaped e.kinds in
-    record { walked = w; emitted = ok_map _ _ _ (λ (r : Reg) a. going_over x c.args.first c.args.rest.now more c.loop-op.op-index c.args.b.now c.loop-op.b c.meet_links.new.b c.loop-op.links c.loop-op.left c.loop-op.holds r.0 c.loop-op-test.false c.loop-op.invariant a) e.ended }
+    let w = going_walks x c.args.first c.args.rest.now (drop c.loop-op.op-index more) c.args.b.now c.loop-op.b c.meet_links.new.b c.loop-op.links c.loop-op.left c.loop-op.holds c.loop-op.invariant.going e.kept e.grown e.shaped e.kinds in
+    record { lined = ok_to _ _ _ (λ (q : Reg) ended. chain_over x c.args.site.line (operands_of_all c.args.rest.now) more c.loop-op.op-index c.args.b.now c.loop-op.b c.meet_links.new.b c.loop-op.links c.loop-op.holds.0 q.0 c.loop-op-test.false c.loop-op.invariant.lined ended e.lined) e.ended; walked = w; emitted = ok_map _ _ _ (λ (r : Reg) a. going_over x c.args.first c.args.rest.now more c.loop-op.op-index c.args.b.now c.loop-op.b c.meet_links.new.b c.loop-op.links c.loop-op.left c.loop-op.holds r.0 c.loop-op-test.false c.loop-op.invariant.going a) e.ended }

@@ -13,4 +13,4 @@ returns c =
     let copied : c.in_ok-clone.field-0 ≡ v.name = search rules in
     let args : c.push.new.self ≡ arg.Global c.in_ok-clone.field-0 ∷ [] = c.in_ok-push.ensures.ok ∙ ap (λ (l : List PArg). l ++ arg.Global c.in_ok-clone.field-0 ∷ []) c.new-args.ensures in
     let e = c.primitive.ensures in
-    record { kept = e.kept; emitted = ok_map _ _ _ (λ (r : Reg) a. global_emits m vs refl c.args.i v _ _ _ low is c.register_type.ensures copied args _ _ r.0 a) e.added; shaped = e.shaped; kinds = global_kinds m vs refl c.args.i v _ _ _ low is c.register_type.ensures copied args _ _ e.kinds }
+    record { kept = e.kept; emitted = ok_map _ _ _ (λ (r : Reg) a. global_emits m vs refl c.args.i v _ _ _ low is c.register_type.ensures copied args _ _ r.0 a) e.added; shaped = e.shaped; kinds = global_kinds m vs refl c.args.i v _ _ _ low is c.register_type.ensures copied args _ _ e.kinds; lined = e.lined }

@@ -37,7 +37,7 @@ emit_changed-requires-clause-before c =
     let w = type_of (typed_expr c.args.e.now) in
     let suits = own_suits x.source x.variables (typed_target c.args.target.now) c.args.op own t w c.variable_type-own.ensures c.requires.fits in
     let simple = updated_simple x.source x.variables c.args.op own t w suits in
-    subst (Suits x.source x.variables) (sym c.reading-before.ensures.reads) (reading_suits x.source x.variables (typed_target c.args.target.now) own c.args.e.now.span simple c.variable_type-own.ensures)
+    subst (Suits x.source x.variables) (sym c.reading-before.ensures.reads) (reading_suits x.source x.variables (typed_target c.args.target.now) own (record { line = c.args.site.line; col = c.args.e.now.span.col }) simple c.variable_type-own.ensures)
 
 pub emit_set-requires : goal.emit_set-requires
 emit_set-requires c =
@@ -60,7 +60,7 @@ returns-clause-works c =
     let before = typed_expr c.reading-before.result in
     let suits = own_suits x.source x.variables (typed_target c.args.target.now) c.args.op own t (type_of e) c.variable_type-own.ensures c.requires.fits in
     let P : Binary → Type 0 = λ z. ComputesAs x z t own before e c.args.b.now c.emit_changed.new.b c.in_ok-value.value.0 in
-    on_ok_map _ _ _ (update_code x (typed_target c.args.target.now) c.args.op own t before e c.args.e.now.span c.reading-before.ensures.reads c.variable_type-own.ensures suits _ _ _ c.in_ok-value.value c.requires.room (subst P c.updating-op.ensures c.in_ok-value.ensures.computes)) c.emit_set.ensures.sets
+    on_ok_map _ _ _ (update_code x (typed_target c.args.target.now) c.args.op own t before e (record { line = c.args.site.line; col = c.args.e.now.span.col }) c.reading-before.ensures.reads c.variable_type-own.ensures suits _ _ _ c.in_ok-value.value c.requires.room (subst P c.updating-op.ensures c.in_ok-value.ensures.computes)) c.emit_set.ensures.sets
 
 pub returns-clause-kinds : goal.returns-clause-kinds
 returns-clause-kinds c g among h = c.emit_set.ensures.kinds g among (c.in_ok-value.ensures.kinds g among h)
