@@ -12,6 +12,7 @@ ghost use Rattle.ir_builder_loops_and_jumps.specs.Means.{means_alone};
 ghost use Rattle.ir_builder_loops_and_jumps.specs.Printing.{printed};
 ghost use Rattle.ir_builder_loops_and_jumps.specs.Runs.{Works};
 ghost use Rattle.ir_builder_statements.specs.Suiting.{PrintSuits, DoSuits};
+ghost use Rattle.ir_builder_expressions.specs.Lined.{listed, Lined, LinedParts};
 
 use ir_builder_expressions::{Site, emit_arguments, emit_expression};
 use ir_builder_frames::Emitter;
@@ -27,6 +28,7 @@ fn emit_printing(b: &mut Emitter, site: Site, values: &[TExpr]) -> Result<(), Me
     ensures works { OnOk result ((gives : Option Sort) → Works (setting_of site.entry) gives (printed (means_all (setting_of site.entry) (exprs_of (map typed_expr values.now)))) b.old b.new []) }
     ensures shaped { Keeps b.old b.new }
     ensures kinds { KeepsKindsIf (IsAmong (setting_of site.entry).source) b.old b.new }
+    ensures lined { OnOk result (LinedParts (setting_of site.entry) site.entry.line (listed (exprs_of (map typed_expr values.now))) b.old b.new) }
 {
     let regs = emit_arguments(b, site, values)?;
     emit_print(b, site.alloc, values, regs.as_slice(), site.line)
@@ -40,6 +42,7 @@ pub(crate) fn emit_alone(b: &mut Emitter, site: Site, e: &TExpr) -> Result<(), M
     ensures works { OnOk result ((gives : Option Sort) → Works (setting_of site.entry) gives (means_alone (setting_of site.entry) (typed_expr e.now)) b.old b.new []) }
     ensures shaped { Keeps b.old b.new }
     ensures kinds { KeepsKindsIf (IsAmong (setting_of site.entry).source) b.old b.new }
+    ensures lined { OnOk result (Lined (setting_of site.entry) (typed_expr e.now) b.old b.new) }
 {
     match &e.kind {
         TKind::Print(values) => {

@@ -1,5 +1,5 @@
 //! What stands around the bodies of `if` and of loops.
-ghost use Rattle.std.specs.Prelude.{ℕ, length, IfOk, OnOk, OnErr};
+ghost use Rattle.std.specs.Prelude.{ℕ, length, IfOk, OnOk, OnErr, [], ◌∷◌};
 ghost use Rattle.py_typed.specs.Expressions.{typed_expr};
 ghost use Rattle.ir_core.specs.Building.{Extends};
 ghost use Rattle.ir_builder_frames.specs.Calling.{Open};
@@ -10,6 +10,9 @@ ghost use Rattle.ir_builder_expressions.specs.Site.{setting_of};
 ghost use Rattle.ir_builder_expressions.specs.Suiting.{Suits};
 ghost use Rattle.ir_builder_loops_and_jumps.specs.Runs.{OpenIn};
 ghost use Rattle.ir_builder_loops_and_jumps.specs.Around.{SplitsBy, EndsArm, Joins, EndsLoop};
+ghost use Rattle.ir_builder_frames.specs.Lines.{OwnLines};
+ghost use Rattle.ir_builder_expressions.specs.Lined.{Around};
+ghost use Rattle.ir_builder_statements.specs.Lined.{value, LinedPieces};
 
 use crate::exits::{leave_by, pass_on, patch_all};
 use ir_builder_expressions::{Site, emit_expression};
@@ -27,6 +30,7 @@ pub(crate) fn emit_split(b: &mut Emitter, site: Site, e: &TExpr) -> Result<Test,
     ensures splits { IfOk result (λ t. SplitsBy (setting_of site.entry) (typed_expr e.now) b.old b.new t) }
     ensures shaped { Keeps b.old b.new }
     ensures kinds { KeepsKindsIf (IsAmong (setting_of site.entry).source) b.old b.new }
+    ensures lined { OnOk result ((l : ℕ) → LinedPieces (setting_of site.entry) l (value (typed_expr e.now) ∷ []) b.old b.new) }
 {
     let condition = emit_expression(b, site, e)?;
     let block = b.close(Last::Unreachable)?;
@@ -45,6 +49,7 @@ pub(crate) fn end_arm(b: &mut Emitter, test: Test, exits: &mut Vec<Exit>) -> Res
     ensures ends { OnOk result (EndsArm b.old b.new test exits.old.items exits.new.items) }
     ensures shaped { OnOk result (Keeps b.old b.new) }
     ensures kinds { OnOk result (KeepsKindsIf (λ g. IsOf b.old.regs test.condition RType.Bool) b.old b.new) }
+    ensures lined { (l : ℕ) → OwnLines l b.old b.new }
 {
     leave_by(b, Way::Join, exits)?;
     let next = b.here();
@@ -59,6 +64,7 @@ pub(crate) fn join(b: &mut Emitter, inner: &[Exit], exits: &mut Vec<Exit>) -> Re
     ensures joins { OnOk result (Joins b.old b.new inner.now exits.old.items exits.new.items) }
     ensures shaped { OnOk result (Keeps b.old b.new) }
     ensures kinds { OnOk result (KeepsKinds b.old b.new) }
+    ensures lined { OnOk result ((l : ℕ) → Around l b.old b.new) }
 {
     let end = b.step_on()?;
     let plan = ExitPlan {
@@ -92,6 +98,7 @@ pub(crate) fn end_loop(
     ensures ends { OnOk result (EndsLoop b.old b.new start next inner.now exits.old.items exits.new.items) }
     ensures shaped { OnOk result (Keeps b.old b.new) }
     ensures kinds { OnOk result (KeepsKindsIf (λ g. IsOf b.old.regs start.test.condition RType.Bool) b.old b.new) }
+    ensures lined { OnOk result (Around line b.old b.new) }
 {
     let LoopStart { head, test } = start;
     b.push(Op::Turn, line)?;

@@ -1,5 +1,5 @@
 //! The code of simple statements.
-ghost use Rattle.std.specs.Prelude.{[], true, map, Option, Some, None, IfOk, OnOk};
+ghost use Rattle.std.specs.Prelude.{[], true, map, Option, Some, None, IfOk, OnOk, ◌∷◌};
 ghost use Rattle.py_typed.specs.Sorts.{Sort, sort};
 ghost use Rattle.py_typed.specs.Expressions.{typed_expr, type_of};
 ghost use Rattle.py_typed.specs.Statements.{typed_target, maybe_typed, variable};
@@ -21,6 +21,9 @@ ghost use Rattle.ir_builder_loops_and_jumps.specs.Runs.{Works};
 ghost use Rattle.ir_builder_statements.specs.Suiting.{IsOnly, VariableUpdates, ReturnSuits};
 ghost use Rattle.ir_builder_statements.specs.Kinds.{IsAround};
 ghost use Rattle.ir_builder_statements.specs.Parts.{ComputesAs, ComputesReturned, update_binary, TurnsInto};
+ghost use Rattle.ir_builder_frames.specs.Lines.{OwnLines};
+ghost use Rattle.ir_builder_expressions.specs.Lined.{LinedParts};
+ghost use Rattle.ir_builder_statements.specs.Lined.{value as value_piece, returned_pieces, LinedPieces};
 
 use crate::variables::{emit_set, reading, variable_type};
 use ir_builder_expressions::{Binary, Site, emit_expression, emit_two_parts};
@@ -47,6 +50,7 @@ pub(crate) fn emit_assignment(
     ensures works { OnOk result ((gives : Option Sort) → Works (setting_of site.entry) gives (means_assignment (setting_of site.entry) (map typed_target targets.now) (typed_expr e.now)) b.old b.new []) }
     ensures shaped { Keeps b.old b.new }
     ensures kinds { KeepsKindsIf (IsAmong (setting_of site.entry).source) b.old b.new }
+    ensures lined { OnOk result (LinedPieces (setting_of site.entry) site.entry.line (value_piece (typed_expr e.now) ∷ []) b.old b.new) }
 {
     let target = &targets[0];
     let r = emit_expression(b, site, e)?;
@@ -78,6 +82,7 @@ fn emit_own(
     ensures made { IfOk result (λ r. Attempts (Shows (sort own.now)) b.old b.new r.0 (rtype_of (sort own.now)) (ActsOn (sort t.now) x.0 (coerced (sort own.now)))) }
     ensures shaped { Keeps b.old b.new }
     ensures kinds { KeepsKinds b.old b.new }
+    ensures lined { OwnLines line b.old b.new }
 {
     match own {
         Ty::Str => Ok(x),
@@ -104,6 +109,7 @@ fn emit_changed(
     ensures computes { IfOk result (λ r. ComputesAs (setting_of site.entry) op (sort t.now) (sort own.now) (typed_expr before.now) (typed_expr e.now) b.old b.new r.0) }
     ensures shaped { Keeps b.old b.new }
     ensures kinds { KeepsKindsIf (IsAmong (setting_of site.entry).source) b.old b.new }
+    ensures lined { OnOk result (LinedParts (setting_of site.entry) site.entry.line (typed_expr before.now ∷ typed_expr e.now ∷ []) b.old b.new) }
 {
     let result = emit_two_parts(b, site, op, t, before, e)?;
     emit_own(b, site.alloc, t, own, result, site.line)
@@ -127,6 +133,7 @@ pub(crate) fn emit_update(
     ensures works { OnOk result ((gives : Option Sort) → Works (setting_of site.entry) gives (means_update (setting_of site.entry) (typed_target target.now) op (typed_expr e.now) (sort t.now)) b.old b.new []) }
     ensures shaped { Keeps b.old b.new }
     ensures kinds { KeepsKindsIf (IsAmong (setting_of site.entry).source) b.old b.new }
+    ensures lined { OnOk result (LinedPieces (setting_of site.entry) site.entry.line (value_piece (typed_expr e.now) ∷ []) b.old b.new) }
 {
     let own = variable_type(site, target);
     let place = Span {
@@ -147,6 +154,7 @@ fn emit_returned(b: &mut Emitter, site: Site, value: &Option<TExpr>) -> Result<R
     ensures computes { IfOk result (λ r. ComputesReturned (setting_of site.entry) (maybe_typed value.now) b.old b.new r.0) }
     ensures shaped { Keeps b.old b.new }
     ensures kinds { KeepsKindsIf (IsAmong (setting_of site.entry).source) b.old b.new }
+    ensures lined { OnOk result (LinedPieces (setting_of site.entry) site.entry.line (returned_pieces (maybe_typed value.now)) b.old b.new) }
 {
     match value {
         Some(e) => emit_expression(b, site, e),
@@ -163,6 +171,7 @@ pub(crate) fn emit_return(b: &mut Emitter, site: Site, value: &Option<TExpr>) ->
     ensures works { OnOk result (Works (setting_of site.entry) (Some (returned_type (maybe_typed value.now))) (means_return (setting_of site.entry) (maybe_typed value.now)) b.old b.new []) }
     ensures shaped { Keeps b.old b.new }
     ensures kinds { KeepsKindsIf (IsAround (setting_of site.entry).source (Some (returned_type (maybe_typed value.now)))) b.old b.new }
+    ensures lined { OnOk result (LinedPieces (setting_of site.entry) site.entry.line (returned_pieces (maybe_typed value.now)) b.old b.new) }
 {
     let r = emit_returned(b, site, value)?;
     b.close(Last::Return(r))?;

@@ -1,5 +1,5 @@
 //! The code of statements.
-ghost use Rattle.std.specs.Prelude.{[], map, Option, None, IfOk, OnOk};
+ghost use Rattle.std.specs.Prelude.{[], map, Option, None, IfOk, OnOk, ℕ};
 ghost use Rattle.std.specs.Option.{option_map, option_copied};
 ghost use Rattle.py_typed.specs.Sorts.{Sort, sort};
 ghost use Rattle.py_typed.specs.Statements.{TypedSuite, typed_stmt, typed_suite, typed_arm, arms_of};
@@ -14,6 +14,7 @@ ghost use Rattle.ir_builder_loops_and_jumps.specs.Runs.{Emitted};
 ghost use Rattle.ir_builder_loops_and_jumps.specs.Tested.{Tested};
 ghost use Rattle.ir_builder_statements.specs.Suiting.{LoopSuits, StatementSuits, SuiteSuits, ArmsSuit};
 ghost use Rattle.ir_builder_statements.specs.Kinds.{IsAround};
+ghost use Rattle.ir_builder_statements.specs.Lined.{arm_pieces, head_pieces, LinedPieces, LinedStatement, LinedSuite};
 
 use crate::alone::emit_alone;
 use crate::branch::{emit_split, end_arm, end_loop, join};
@@ -44,6 +45,7 @@ pub fn emit_block(
     ensures emitted { OnOk result (Emitted (setting_of site.entry) (option_map sort (option_copied gives.entry)) looping (means_suite (setting_of site.entry) (typed_suite body.now)) b.old b.new exits.old.items exits.new.items) }
     ensures shaped { OnOk result (Keeps b.old b.new) }
     ensures kinds { OnOk result (KeepsKindsIf (IsAround (setting_of site.entry).source (option_map sort (option_copied gives.entry))) b.old b.new) }
+    ensures lined { OnOk result (LinedSuite (setting_of site.entry) (typed_suite body.now) b.old b.new) }
 {
     for s in body {
         emit_statement(b, site, gives, looping, s, exits)?;
@@ -68,6 +70,7 @@ fn emit_statement(
     ensures emitted { OnOk result (Emitted (setting_of site.entry) (option_map sort (option_copied gives.entry)) looping (means_statement (setting_of site.entry) (typed_stmt s.now)) b.old b.new exits.old.items exits.new.items) }
     ensures shaped { OnOk result (Keeps b.old b.new) }
     ensures kinds { OnOk result (KeepsKindsIf (IsAround (setting_of site.entry).source (option_map sort (option_copied gives.entry))) b.old b.new) }
+    ensures lined { OnOk result (LinedStatement (setting_of site.entry) (typed_stmt s.now) b.old b.new) }
 {
     let site = Site {
         line: s.line,
@@ -118,6 +121,7 @@ fn emit_if(
     ensures emitted { OnOk result (Emitted (setting_of site.entry) (option_map sort (option_copied gives.entry)) looping (means_statement (setting_of site.entry) (typed_stmt s.now)) b.old b.new exits.old.items exits.new.items) }
     ensures shaped { OnOk result (Keeps b.old b.new) }
     ensures kinds { OnOk result (KeepsKindsIf (IsAround (setting_of site.entry).source (option_map sort (option_copied gives.entry))) b.old b.new) }
+    ensures lined { OnOk result (LinedStatement (setting_of site.entry) (typed_stmt s.now) b.old b.new) }
 {
     let mut inner = Vec::new(site.alloc);
     emit_arms(b, site, gives, looping, arms, &mut inner)?;
@@ -143,6 +147,7 @@ fn emit_arms(
     ensures tested { OnOk result (Tested (setting_of site.entry) (option_map sort (option_copied gives.entry)) looping [] arms.now b.old b.new exits.new.items) }
     ensures shaped { OnOk result (Keeps b.old b.new) }
     ensures kinds { OnOk result (KeepsKindsIf (IsAround (setting_of site.entry).source (option_map sort (option_copied gives.entry))) b.old b.new) }
+    ensures lined { OnOk result ((l : ℕ) → LinedPieces (setting_of site.entry) l (arm_pieces (arms_of (map typed_arm arms.now))) b.old b.new) }
 {
     for (e, body) in arms {
         let test = emit_split(b, site, e)?;
@@ -161,6 +166,7 @@ fn begin_loop(b: &mut Emitter, site: Site, s: &TStmt) -> Result<LoopStart, Memor
     ensures begins { IfOk result (λ o. Begins (setting_of site.entry) (means_loop (setting_of site.entry) (typed_stmt s.now)) b.old b.new o) }
     ensures shaped { Keeps b.old b.new }
     ensures kinds { KeepsKindsIf (IsAmong (setting_of site.entry).source) b.old b.new }
+    ensures lined { OnOk result ((l : ℕ) → LinedPieces (setting_of site.entry) l (head_pieces (typed_stmt s.now)) b.old b.new) }
 {
     match &s.kind {
         TStmtKind::While(e, _) => {
@@ -190,6 +196,7 @@ fn emit_loop(
     ensures emitted { OnOk result (Emitted (setting_of site.entry) (option_map sort (option_copied gives.entry)) looping (means_statement (setting_of site.entry) (typed_stmt s.now)) b.old b.new exits.old.items exits.new.items) }
     ensures shaped { OnOk result (Keeps b.old b.new) }
     ensures kinds { OnOk result (KeepsKindsIf (IsAround (setting_of site.entry).source (option_map sort (option_copied gives.entry))) b.old b.new) }
+    ensures lined { OnOk result (LinedStatement (setting_of site.entry) (typed_stmt s.now) b.old b.new) }
 {
     let mut inner = Vec::new(site.alloc);
     let start = begin_loop(b, site, s)?;

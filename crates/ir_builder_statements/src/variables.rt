@@ -10,6 +10,7 @@ ghost use Rattle.ir_builder_expressions.specs.Site.{setting_of};
 ghost use Rattle.ir_builder_expressions.specs.Parts.{is_scalar};
 ghost use Rattle.ir_builder_statements.specs.Suiting.{IsVariable};
 ghost use Rattle.ir_builder_statements.specs.Parts.{HasFlag, SetsLocal, SetsGlobal, TakesGlobal, TakesRegister, SetsVariable, reading_of};
+ghost use Rattle.ir_builder_frames.specs.Lines.{OwnLines};
 
 use c_core::{GlobalPrim, Prim};
 use ir_builder_expressions::Site;
@@ -69,6 +70,7 @@ fn set_local(b: &mut Emitter, frame: Frame, k: usize, r: Reg, line: usize) -> Re
     ensures sets { OnOk result (SetsLocal frame k r.0 b.old b.new) }
     ensures shaped { Keeps b.old b.new }
     ensures kinds { KeepsKindsIf (λ g. AreAlike b.old.regs (record { 0 = k }) r) b.old b.new }
+    ensures lined { OwnLines line b.old b.new }
 {
     b.push(Op::Move(Reg(k), r), line)?;
     if k < frame.locals.params {
@@ -85,6 +87,7 @@ fn set_global(b: &mut Emitter, site: Site, i: usize, r: Reg) -> Result<(), Memor
     ensures sets { OnOk result (SetsGlobal (setting_of site.entry).source i r.0 b.old b.new) }
     ensures shaped { Keeps b.old b.new }
     ensures kinds { KeepsKindsIf (IsAmong (setting_of site.entry).source) b.old b.new }
+    ensures lined { OwnLines site.entry.line b.old b.new }
 {
     let name = site.checked.globals.as_slice()[i].name.clone()?;
     let mut args = Many::new(site.alloc);
@@ -103,6 +106,7 @@ pub(crate) fn emit_set(b: &mut Emitter, site: Site, target: &Target, r: Reg) -> 
     ensures sets { OnOk result (SetsVariable (setting_of site.entry).source site.entry.frame (typed_target target.now) r.0 b.old b.new) }
     ensures shaped { Keeps b.old b.new }
     ensures kinds { KeepsKindsIf (IsAmong (setting_of site.entry).source) b.old b.new }
+    ensures lined { OwnLines site.entry.line b.old b.new }
 {
     match target {
         Target::Local(k) => set_local(b, site.frame, *k, r, site.line),

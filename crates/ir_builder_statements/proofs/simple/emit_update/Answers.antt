@@ -1,6 +1,9 @@
 use Rattle.ir_builder_expressions.specs.Site.{setting_of}
 use Rattle.ir_builder_statements.proofs.Common.{subst, sym, sort, type_of, typed_expr, typed_target, Setting, extends_trans, on_ok_map, Binary, BinarySuits, Suits, type_at, ComputesAs, update_binary}
 use Rattle.ir_builder_statements.proofs.AssignLemmas.{own_suits, reading_suits, updated_simple, update_turns, update_fits, update_code, update_takes}
+use Rattle.py_syntax.specs.declared.token.Span.{Span}
+use Rattle.ir_builder_expressions.proofs.LinedLemmas.{always, around_by}
+use Rattle.ir_builder_statements.proofs.LinedLemmas.{update_pieces}
 use Rattle.ir_builder_statements.proofs.simple.emit_update.Goals as goal
 
 pub reading-before-requires-clause-simple : goal.reading-before-requires-clause-simple
@@ -64,3 +67,10 @@ returns-clause-works c =
 
 pub returns-clause-kinds : goal.returns-clause-kinds
 returns-clause-kinds c g among h = c.emit_set.ensures.kinds g among (c.in_ok-value.ensures.kinds g among h)
+
+pub returns-clause-lined : goal.returns-clause-lined
+returns-clause-lined c =
+    let x : Setting = setting_of c.args.site in
+    let own = sort c.variable_type-own.result.now in
+    let place : Span = record { line = c.args.site.line; col = c.args.e.now.span.col } in
+    always _ _ (update_pieces x (typed_expr c.reading-before.result) (typed_expr c.args.e.now) (typed_target c.args.target.now) own place _ _ _ c.reading-before.ensures.reads c.in_ok-value.ensures.lined (around_by c.args.site.line _ _ c.emit_set.ensures.kept c.emit_set.ensures.lined))

@@ -3,6 +3,10 @@ use Rattle.ir_builder_statements.proofs.Common.{option_map, option_copied, sort,
 use Rattle.ir_core.specs.declared.code.RType.TheVariants.{Bool}
 use Rattle.ir_builder_statements.proofs.SuiteLemmas.{suite_step, arms_step, loop_suits, loop_body, loop_means, if_suits, return_suits, break_suits, continue_suits}
 use Rattle.ir_builder_statements.proofs.BodyLemmas.{on_ok_both, return_made, condition_type, four_keep, join_keeps, arm_blocks, loop_blocks, kinds_among, kinds_always, kinds_returned, if_kinds, loop_kinds}
+use Rattle.std.proofs.Common.{ℕ}
+use Rattle.ir_builder_expressions.specs.Lined.{Around}
+use Rattle.ir_builder_expressions.proofs.LinedLemmas.{always, around_by}
+use Rattle.ir_builder_statements.proofs.LinedLemmas.{pieces_join, body_piece, suite_start, suite_next, suite_over, statement_code, suite_code, pieces_of_arms, arms_start, arms_next, arms_over, arm_around, alone_lined, assign_lined, update_lined, return_lined, break_lined, continue_lined, pass_lined, if_lined, loop_lined}
 use Rattle.ir_builder_statements.proofs.statement.+statement.Goals as goal
 
 -- ---- rows
@@ -17,6 +21,7 @@ emit_block-loop-s-init t c =
       room = c.requires.room;
       shaped = λ n m low up s. s;
       kinds = λ g around h. h;
+      lined = suite_start x (typed_suite c.args.body.now) c.args.b.now;
     }
 
 pub emit_block-loop-s-preserved : goal.emit_block-loop-s-preserved
@@ -31,6 +36,7 @@ emit_block-loop-s-preserved t c =
       room = room_on x _ _ k.kept i.room;
       shaped = keeps_both c.args.b.now c.loop-s.b c.emit_statement.new.b i.kept.regs_grow k.kept.blocks_grow i.shaped k.shaped;
       kinds = λ g around h. k.kinds g around (i.kinds g around h);
+      lined = suite_next x c.args.body.now c.loop-s.s-index c.s-item.result c.args.b.now c.loop-s.b _ c.loop-s-test.true c.s-item.is i.lined (statement_code x _ _ _ _ _ _ _ k.emitted) k.lined;
     }
 
 pub emit_block-returns-clause-emitted : goal.emit_block-returns-clause-emitted
@@ -121,6 +127,7 @@ emit_arms-loop-e-init t c =
       room = c.requires.room;
       shaped = λ n m low up s. s;
       kinds = λ g around h. h;
+      lined = λ k. arms_start x k (pieces_of_arms c.args.arms.now) c.args.b.now;
     }
 
 pub emit_arms-emit_block-requires : goal.emit_arms-emit_block-requires
@@ -155,6 +162,7 @@ emit_arms-loop-e-preserved t c =
       room = room_on x _ _ all.extends c.requires.room;
       shaped = four_keep c.args.b.now c.loop-e.b c.emit_split.new.b c.emit_block.new.b c.end_arm.new.b i.so_far.extends p.kept q.kept (arm_blocks _ _ _ _ _ e.ends) i.shaped p.shaped q.shaped e.shaped;
       kinds = λ g around h. e.kinds g (condition_type x (option_map sort (option_copied c.args.gives)) (typed_expr a.0) c.loop-e.b c.emit_split.new.b c.emit_block.new.b c.in_ok-test.test step.0 p.splits q.kept) (q.kinds g around (p.kinds g around.among (i.kinds g around h)));
+      lined = λ l. arms_next x l c.args.arms.now c.loop-e.e-index a c.as_slice-body.result.now c.args.b.now c.loop-e.b c.emit_split.new.b c.emit_block.new.b c.end_arm.new.b c.loop-e-test.true c.loop-e-item.is c.as_slice-body.ensures (i.lined l) (p.lined l) (suite_code x _ _ _ _ _ _ _ q.emitted) q.lined (arm_around x l (typed_expr a.0) c.loop-e.b c.emit_split.new.b c.emit_block.new.b c.end_arm.new.b c.in_ok-test.test _ _ p.splits q.kept e.ends (e.lined l));
     }
 
 pub emit_if-emit_block-requires : goal.emit_if-emit_block-requires
@@ -254,3 +262,66 @@ emit_loop-returns-clause-kinds t c =
     on_ok_map _ _ _
     (loop_kinds x.source (option_map sort (option_copied c.args.gives)) c.args.b.now c.begin_loop.new.b c.emit_block.new.b c.step_on.new.self c.end_loop.new.b r c.in_ok-start.ensures.kinds c.in_ok-emit_block.ensures.kinds c.in_ok-next.ensures.kinds (type_kept c.begin_loop.new.b c.step_on.new.self r.0 Bool (extends_trans _ _ _ c.in_ok-emit_block.ensures.kept c.in_ok-next.ensures.kept) c.in_ok-start.ensures.begins.type))
     c.end_loop.ensures.kinds
+
+-- ---- the lines
+
+pub emit_block-returns-clause-lined : goal.emit_block-returns-clause-lined
+emit_block-returns-clause-lined t c =
+    let x : Setting = setting_of c.args.site in
+    suite_over x c.args.body.now c.loop-s.s-index c.args.b.now c.loop-s.b c.loop-s-test.false c.loop-s.invariant.lined
+
+pub emit_statement-returns-in-Expr-clause-lined : goal.emit_statement-returns-in-Expr-clause-lined
+emit_statement-returns-in-Expr-clause-lined t c =
+    let x : Setting = setting_of c.args.site in
+    on_ok_both _ _ _ _ (alone_lined x c.args.s.now _ _ c.in-Expr.e c.in-Expr.is) c.emit_alone.ensures.works c.emit_alone.ensures.lined
+
+pub emit_statement-returns-in-Assign-clause-lined : goal.emit_statement-returns-in-Assign-clause-lined
+emit_statement-returns-in-Assign-clause-lined t c =
+    let x : Setting = setting_of c.args.site in
+    on_ok_map _ _ _ (assign_lined x c.args.s.now _ _ c.in-Assign.targets c.in-Assign.e c.in-Assign.is) c.emit_assignment.ensures.lined
+
+pub emit_statement-returns-in-Aug-clause-lined : goal.emit_statement-returns-in-Aug-clause-lined
+emit_statement-returns-in-Aug-clause-lined t c =
+    let x : Setting = setting_of c.args.site in
+    on_ok_map _ _ _ (update_lined x c.args.s.now _ _ c.in-Aug.target c.in-Aug.op c.in-Aug.e _ c.in-Aug.is) c.emit_update.ensures.lined
+
+pub emit_statement-returns-in-Return-clause-lined : goal.emit_statement-returns-in-Return-clause-lined
+emit_statement-returns-in-Return-clause-lined t c =
+    let x : Setting = setting_of c.args.site in
+    on_ok_map _ _ _ (return_lined x c.args.s.now _ _ c.in-Return.value c.in-Return.is) c.emit_return.ensures.lined
+
+pub emit_statement-returns-in-Break-clause-lined : goal.emit_statement-returns-in-Break-clause-lined
+emit_statement-returns-in-Break-clause-lined t c =
+    let x : Setting = setting_of c.args.site in
+    always _ _ (break_lined x c.args.s.now _ _ c.in-Break.is (around_by c.args.s.now.line _ _ c.leave_by.ensures.kept (c.leave_by.ensures.lined c.args.s.now.line)))
+
+pub emit_statement-returns-in-Continue-clause-lined : goal.emit_statement-returns-in-Continue-clause-lined
+emit_statement-returns-in-Continue-clause-lined t c =
+    let x : Setting = setting_of c.args.site in
+    always _ _ (continue_lined x c.args.s.now _ _ c.in-Continue.is (around_by c.args.s.now.line _ _ c.leave_by-in-Continue.ensures.kept (c.leave_by-in-Continue.ensures.lined c.args.s.now.line)))
+
+pub emit_statement-returns-in-Pass-clause-lined : goal.emit_statement-returns-in-Pass-clause-lined
+emit_statement-returns-in-Pass-clause-lined t c = pass_lined (setting_of c.args.site) c.args.s.now c.args.b.now c.in-Pass.is
+
+pub emit_arms-returns-clause-lined : goal.emit_arms-returns-clause-lined
+emit_arms-returns-clause-lined t c l =
+    let x : Setting = setting_of c.args.site in
+    arms_over x l c.args.arms.now c.loop-e.e-index c.args.b.now c.loop-e.b c.loop-e-test.false (c.loop-e.invariant.lined l)
+
+pub emit_if-returns-clause-lined : goal.emit_if-returns-clause-lined
+emit_if-returns-clause-lined t c =
+    let x : Setting = setting_of c.args.site in
+    let s = c.args.s.now in
+    let other = c.in_ok-emit_block.ensures in
+    on_ok_map _ _ _
+    (λ (end : (l : ℕ) → Around l c.emit_block.new.b c.join.new.b). if_lined x s _ _ c.args.arms.now c.args.other.now c.requires.is (pieces_join (c.in_ok-emit_arms.ensures.lined s.line) (body_piece x s.line (typed_suite c.args.other.now) _ _ _ (suite_code x _ _ _ _ _ _ _ other.emitted) other.lined (end s.line))))
+    c.join.ensures.lined
+
+pub emit_loop-returns-clause-lined : goal.emit_loop-returns-clause-lined
+emit_loop-returns-clause-lined t c =
+    let x : Setting = setting_of c.args.site in
+    let s = c.args.s.now in
+    let inside = c.in_ok-emit_block.ensures in
+    on_ok_map _ _ _
+    (λ (end : Around s.line c.step_on.new.self c.end_loop.new.b). loop_lined x (option_map sort (option_copied c.args.gives)) s (typed_suite c.args.body.now) _ _ _ _ _ c.requires.suits (c.in_ok-start.ensures.lined s.line) (suite_code x _ _ _ _ _ _ _ inside.emitted) inside.lined (around_by s.line _ _ c.in_ok-next.ensures.kept (c.in_ok-next.ensures.lined s.line)) end)
+    c.end_loop.ensures.lined

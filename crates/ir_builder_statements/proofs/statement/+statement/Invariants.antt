@@ -3,6 +3,8 @@ use Rattle.ir_builder_statements.proofs.Common.{option_map, option_copied, sort,
 use denote.Param.Weighed.{most}
 use Rattle.ir_builder_loops_and_jumps.specs.Tested.{Tested}
 use Rattle.ir_builder_statements.proofs.SizeLemmas.{arm_size}
+use Rattle.std.proofs.Common.{ℕ}
+use Rattle.ir_builder_statements.proofs.LinedLemmas.{SuiteRest, PiecesRest, pieces_of_arms}
 use Rattle.ir_builder_statements.proofs.statement.+statement.Given as goal
 
 abbrev pub decreases-emit_statement : goal.decreases-emit_statement
@@ -28,6 +30,7 @@ invariant-emit_block-loop-s l = record {
   room : HasRoom (setting_of l.site) l.b;
   shaped : Keeps l.fn.b l.b;
   kinds : KeepsKindsIf (IsAround (typed_module l.site.checked.now) (option_map sort (option_copied l.gives))) l.fn.b l.b;
+  lined : SuiteRest (setting_of l.site) (typed_suite l.body) (typed_suite (drop l.s-index l.body)) l.fn.b l.b;
 }
 
 abbrev pub invariant-emit_arms-loop-e : goal.invariant-emit_arms-loop-e
@@ -37,4 +40,5 @@ invariant-emit_arms-loop-e l = record {
   room : HasRoom (setting_of l.site) l.b;
   shaped : Keeps l.fn.b l.b;
   kinds : KeepsKindsIf (IsAround (typed_module l.site.checked.now) (option_map sort (option_copied l.gives))) l.fn.b l.b;
+  lined : (k : ℕ) → PiecesRest (setting_of l.site) k (pieces_of_arms l.arms) (pieces_of_arms (drop l.e-index l.arms)) l.fn.b l.b;
 }

@@ -2,6 +2,8 @@ use Rattle.ir_builder_expressions.specs.Site.{setting_of}
 use Rattle.ir_builder_statements.proofs.Common.{Setting, room_on, LoopStart}
 use Rattle.ir_builder_statements.proofs.BodyLemmas.{while_begun}
 use Rattle.ir_builder_statements.proofs.SuiteLemmas.{while_suits}
+use Rattle.ir_builder_expressions.proofs.LinedLemmas.{around_by}
+use Rattle.ir_builder_statements.proofs.LinedLemmas.{while_head}
 use Rattle.ir_builder_statements.proofs.statement.begin_loop.Goals as goal
 
 pub emit_split-requires-clause-room : goal.emit_split-requires-clause-room
@@ -18,3 +20,8 @@ returns-clause-begins c =
 
 pub returns-clause-kinds : goal.returns-clause-kinds
 returns-clause-kinds c = λ g among h. c.in_ok-test-in-While.ensures.kinds g among (c.in_ok-head-in-While.ensures.kinds g h)
+
+pub returns-clause-lined : goal.returns-clause-lined
+returns-clause-lined c l =
+    let x : Setting = setting_of c.args.site in
+    while_head x c.args.s.now c.in-While.e _ l _ _ _ c.in-While.is (around_by l _ _ c.in_ok-head-in-While.ensures.kept (c.in_ok-head-in-While.ensures.lined l)) (c.in_ok-test-in-While.ensures.lined l)
