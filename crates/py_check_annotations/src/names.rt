@@ -3,7 +3,6 @@ ghost use Rattle.std.specs.Prelude.{◌≡◌, map, IfOk};
 ghost use Rattle.std.specs.Option.{option_map};
 ghost use Rattle.py_typed.specs.Sorts.{sort, ListOf};
 ghost use Rattle.py_typed.specs.Fits as fit;
-ghost use Rattle.py_typed.specs.WellTypedExpr as typed;
 ghost use Rattle.py_check_messages.specs.Seen.{Tells};
 ghost use Rattle.py_check_annotations.specs.Names as spec;
 
@@ -11,7 +10,7 @@ use py_check_context::{Builtin, Imported, Meaning};
 use py_check_messages::invalid_type;
 use py_syntax::Span;
 use py_syntax_diagnostics::Diag;
-use py_typed::{Ty, is_number, optional};
+use py_typed::{Ty, is_key_type, optional};
 use std::alloc::Global;
 use value_core::{Many, Memory};
 
@@ -170,16 +169,6 @@ fn dict_of(alloc: Global, k: Ty, t: Ty) -> Result<Option<Ty>, Memory>
     }
     let k = Box::new(alloc, k)?;
     Ok(Some(Ty::Dict(k, Box::new(alloc, t)?)))
-}
-
-/// Whether a dict may have keys of a type.
-fn is_key_type(t: &Ty) -> bool
-    ensures { result ≡ typed.is_key_type (sort t.now) }
-{
-    match t {
-        Ty::Str => true,
-        _ => is_number(t),
-    }
 }
 
 /// A tuple has 1 to 16 items.

@@ -1,21 +1,17 @@
 -- Calls of exception classes (Python Library Reference, "Built-in Exceptions"): an exception is made with a text or without one,
 -- and has the class as its type.
-use Rattle.std.specs.Prelude.{Bool, true, false, List, [], codes, Option, Some, None, Result, Ok, Err, if◌then◌else◌}
+use Rattle.std.specs.Prelude.{List, [], codes, Option, Some, None, Result, Ok, Err, if◌then◌else◌}
 use Rattle.value_core.specs.declared.exception.ExcClass.{ExcClass}
 use Rattle.value_core.specs.Exceptions.{class_name}
 use Rattle.py_syntax.specs.declared.token.Span.{Span}
-use Rattle.py_typed.specs.Sorts.{Sort}
 use Rattle.py_typed.specs.Sorts as sort
 use Rattle.py_typed.specs.Classes.{ClassEntry}
+use Rattle.py_typed.specs.Fits.{is_text}
 use Rattle.py_typed.specs.Expressions as node
 use Rattle.py_typed.specs.Expressions.{TypedExpr, typed, type_of}
 use Rattle.py_check_messages.specs.Seen.{Message}
 use Rattle.py_check_messages.specs.Messages.{wrong_number, wrong_argument}
 use Rattle.py_check_calls.specs.Builtins.{the_only}
-
-abbrev pub is_text : Sort → Bool
-is_text sort.Str = true
-is_text t = false
 
 -- an exception of a class, with its text if it has one
 abbrev pub exception_made : Span → ExcClass → Option TypedExpr → TypedExpr

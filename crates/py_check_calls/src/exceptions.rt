@@ -13,7 +13,7 @@ use py_check_coercions::kept;
 use py_check_messages::{wrong_argument, wrong_number};
 use py_syntax::Span;
 use py_syntax_diagnostics::Diag;
-use py_typed::{Classes, TExpr, TKind, Ty};
+use py_typed::{Classes, TExpr, TKind, Ty, is_text};
 use std::alloc::Global;
 use value_core::{ExcClass, Many, Memory};
 
@@ -62,14 +62,9 @@ fn exception_given(
     Ok(Some(e))
 }
 
-fn is_text(t: &Ty) -> bool
-    ensures { result ≡ rule_of.is_text (sort t.now) }
-{
-    matches!(t, Ty::Str)
-}
-
+/// An exception of a class, with its text if it has one.
 #[tactic(auto, using(crate::proofs::CallLemmas::exception_node))]
-fn exception_made(
+pub fn exception_made(
     alloc: Global,
     span: Span,
     class: ExcClass,

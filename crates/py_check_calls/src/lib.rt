@@ -14,4 +14,5 @@ mod methods;
 pub use arguments::{arguments_row, has_key, positional};
 pub use callees::{Callee, Single, callee_of, is_named};
 pub use calls::called;
+pub use exceptions::exception_made;
 pub use methods::attribute;

@@ -4,7 +4,6 @@ ghost use Rattle.std.specs.Option.{option_map, option_zip};
 ghost use Rattle.py_typed.specs.Sorts.{sort};
 ghost use Rattle.py_typed.specs.Classes.{class_entry};
 ghost use Rattle.py_typed.specs.Expressions.{typed_expr, typed_entry};
-ghost use Rattle.py_typed.specs.WellTypedExpr as well_typed;
 ghost use Rattle.py_check_context.specs.Context.{wanted};
 ghost use Rattle.py_check_messages.specs.Rows as typing;
 ghost use Rattle.py_check_messages.specs.Seen.{Tells, judged, ruled};
@@ -18,7 +17,7 @@ use py_check_context::Want;
 use py_check_messages::{empty_display, no_common_entry, wrong_entry};
 use py_syntax::Span;
 use py_syntax_diagnostics::Diag;
-use py_typed::{Classes, TExpr, TKind, Ty, copy_of, fits, is_nothing, is_number, join};
+use py_typed::{Classes, TExpr, TKind, Ty, copy_of, fits, is_key_type, is_nothing, join};
 use std::alloc::Global;
 use value_core::{Many, Memory};
 
@@ -245,16 +244,6 @@ fn joined_dict(
     let types = EntryTypes { key: &k, value: &t };
     let e = dict_of(alloc, span, types, es)?;
     Ok(Some(e))
-}
-
-// Whether a dict may have keys of a type.
-fn is_key_type(t: &Ty) -> bool
-    ensures { result ≡ well_typed.is_key_type (sort t.now) }
-{
-    match t {
-        Ty::Str => true,
-        _ => is_number(t),
-    }
 }
 
 // The type that keys join to from the left, behind others of a type.

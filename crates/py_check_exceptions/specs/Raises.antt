@@ -7,11 +7,9 @@ use Rattle.std.specs.Prelude.{ℕ, Bool, true, false, List, codes, Option, Some,
 use Rattle.value_core.specs.declared.exception.ExcClass.{ExcClass}
 use Rattle.py_syntax.specs.declared.token.Span.{Span}
 use Rattle.py_syntax.specs.Expressions.{ExprTree, at}
-use Rattle.py_typed.specs.Sorts.{Sort}
-use Rattle.py_typed.specs.Sorts as sort
 use Rattle.py_typed.specs.Classes.{ClassEntry}
-use Rattle.py_typed.specs.Expressions as node
-use Rattle.py_typed.specs.Expressions.{TypedExpr, typed, type_of}
+use Rattle.py_typed.specs.Fits.{is_text}
+use Rattle.py_typed.specs.Expressions.{TypedExpr, type_of}
 use Rattle.py_typed.specs.Statements as act
 use Rattle.py_typed.specs.Statements.{TypedAct}
 use Rattle.py_typed.specs.WellTypedExpr.{is_exception}
@@ -22,6 +20,7 @@ use Rattle.py_check_flow.specs.Bindings.{name_in}
 use Rattle.py_check_messages.specs.Seen.{Seen, Message, is, silent, fails, both, rule, made}
 use Rattle.py_check_messages.specs.Messages.{no_exception, raise_outside, wrong_argument}
 use Rattle.py_check_coercions.specs.Values.{truth}
+use Rattle.py_check_calls.specs.Exceptions.{exception_made}
 use Rattle.py_check_places.specs.Places.{Known}
 use Rattle.py_check_targets.specs.Targets.{typed_at}
 use Rattle.py_check_exceptions.specs.declared.asked.Asked.{Asked}
@@ -40,10 +39,6 @@ asked m = Other
 
 -- ---- `raise`
 
--- an exception of a class, without a text
-abbrev pub exception_of : Span → ExcClass → TypedExpr
-exception_of span x = typed (node.MakeExc x node.no_expr) (sort.Exc x) span
-
 abbrev pub raised : TypedExpr → Result TypedAct Message
 raised e = if is_exception (type_of e) then Ok (act.Raise (Some e)) else Err no_exception
 
@@ -57,10 +52,6 @@ span_of (at n span) = span
 
 -- ---- `assert`
 
-abbrev pub is_text : Sort → Bool
-is_text sort.Str = true
-is_text t = false
-
 -- of a test and a text
 abbrev pub asserted : List ClassEntry → TypedExpr × TypedExpr → Result TypedAct Message
 asserted classes p =
@@ -71,7 +62,7 @@ module _ (c : Context) where
   raises_value k span e = rule span raised (typed_at c k free e)
 
   abbrev pub raises_named : Known → Span → ExprTree → Asked → Seen TypedAct
-  raises_named k span e (Class x) = is (act.Raise (Some (exception_of (span_of e) x)))
+  raises_named k span e (Class x) = is (act.Raise (Some (exception_made (span_of e) x None)))
   raises_named k span e Variable = raises_value k span e
   raises_named k span e Voiceless = silent
   raises_named k span e Other = fails span no_exception

@@ -13,10 +13,12 @@ ghost use Rattle.py_check_messages.specs.Seen.{Tells, ruled};
 ghost use Rattle.py_check_coercions.specs.Boxes.{boxed};
 ghost use Rattle.py_check_places.specs.Views.{known_at};
 ghost use Rattle.py_check_targets.specs.Views.{boxed_act};
+ghost use Rattle.py_check_calls.specs.Exceptions.{exception_made};
 ghost use Rattle.py_check_exceptions.specs.Raises as rule_of;
 
 use crate::asked::{Asked, asked_as};
-use py_check_coercions::{kept, truth};
+use py_check_calls::exception_made;
+use py_check_coercions::truth;
 use py_check_context::{Context, Want, meaning_of};
 use py_check_flow::name_in;
 use py_check_messages::{no_exception, raise_outside, wrong_argument};
@@ -24,7 +26,7 @@ use py_check_places::Place;
 use py_check_targets::typed_at;
 use py_syntax::{Expr, Span};
 use py_syntax_diagnostics::Diag;
-use py_typed::{Classes, TExpr, TKind, TStmtKind, Ty};
+use py_typed::{Classes, TExpr, TStmtKind, Ty, is_text};
 use std::alloc::Global;
 use value_core::{ExcClass, Many, Memory};
 
@@ -125,16 +127,10 @@ fn class_raised(
     span: Span,
     class: ExcClass,
 ) -> Result<Option<Box<TStmtKind>>, Memory>
-    ensures { IfOk result (λ t. option_map boxed_act t ≡ Some (acts.Raise (Some (rule_of.exception_of span class)))) }
+    ensures { IfOk result (λ t. option_map boxed_act t ≡ Some (acts.Raise (Some (exception_made span class None)))) }
 {
-    let e = exception_of(alloc, span, class)?;
+    let e = exception_made(alloc, span, class, None)?;
     of_value(alloc, e)
-}
-
-fn exception_of(alloc: Global, span: Span, class: ExcClass) -> Result<Box<TExpr>, Memory>
-    ensures { IfOk result (λ e. boxed e ≡ rule_of.exception_of span class) }
-{
-    kept(alloc, TKind::MakeExc(class, None), Ty::Exc(class), span)
 }
 
 fn of_value(alloc: Global, e: Box<TExpr>) -> Result<Option<Box<TStmtKind>>, Memory>
@@ -258,10 +254,4 @@ fn asserted(
         TStmtKind::Assert(Box::into_inner(test), Some(Box::into_inner(text))),
     )?;
     Ok(Some(kind))
-}
-
-fn is_text(t: &Ty) -> bool
-    ensures { result ≡ rule_of.is_text (sort t.now) }
-{
-    matches!(t, Ty::Str)
 }

@@ -10,7 +10,7 @@ use Rattle.py_syntax.specs.declared.token.Span.{Span}
 use Rattle.py_typed.specs.Sorts as sort
 use Rattle.py_typed.specs.Sorts.{Sort, sorts_of}
 use Rattle.py_typed.specs.Classes.{Signature}
-use Rattle.py_typed.specs.Fits.{is_same_type, are_same_types, is_number, is_nothing, fits}
+use Rattle.py_typed.specs.Fits.{is_same_type, are_same_types, is_number, is_nothing, fits, is_text}
 use Rattle.py_typed.specs.Expressions as node
 use Rattle.py_typed.specs.Expressions.{TypedExpr, TypedNode, typed, type_of, exprs_of}
 use Rattle.py_typed.specs.Statements.{Variable, TypedModule}
@@ -24,7 +24,7 @@ use Rattle.py_check_calls.specs.declared.callees.Single.{Single}
 use Rattle.py_check_calls.specs.declared.callees.Single.TheVariants as one
 use Rattle.py_check_calls.specs.Callees.{Callee, function, print, input, range, single, exception, method, voiceless, uncalled, value}
 use Rattle.py_check_calls.specs.Builtins.{gives_value, as_value, unprintable, printed, print_call, input_call, the_only, single_takes, single_made, single_given, single_call}
-use Rattle.py_check_calls.specs.Exceptions.{is_text, exception_made, exception_call}
+use Rattle.py_check_calls.specs.Exceptions.{exception_made, exception_call}
 use Rattle.py_check_calls.specs.Methods.{item_of, method_row, pop_call, append_given, append_call, value_call, method_call}
 use Rattle.py_check_calls.specs.Calls.{arguments_row, no_keys, positional, refused, function_given, function_call, called}
 use Rattle.py_check_expressions_laws.specs.WellTyped.{is_asked, is_good, Within, IsSigned}

@@ -4,6 +4,7 @@ use Rattle.py_syntax.specs.declared.token.Span.{Span}
 use Rattle.py_syntax.specs.Expressions.{ExprTree}
 use Rattle.py_typed.specs.Sorts as sort
 use Rattle.py_typed.specs.Sorts.{Sort}
+use Rattle.py_typed.specs.Fits.{is_dict}
 use Rattle.py_typed.specs.Expressions as node
 use Rattle.py_typed.specs.Expressions.{TypedExpr, typed, type_of}
 use Rattle.py_typed.specs.Statements as act
@@ -17,7 +18,6 @@ use Rattle.py_check_messages.specs.Messages as message
 use Rattle.py_check_places.specs.Places.{Known}
 use Rattle.py_check_places.specs.Shapes.{is_item}
 use Rattle.py_check_targets.specs.Targets.{typed_at}
-use Rattle.py_check_loops.specs.Loops.{is_dict}
 use Rattle.py_check_statements.specs.Deletions.{item_deleted, deletion, deletes}
 use Rattle.py_check_expressions_laws.proofs.Stands.{parts_of_stands}
 use Rattle.py_check_expressions_laws.proofs.Telling.{ok_same}

@@ -9,7 +9,7 @@ use Rattle.py_syntax.specs.Expressions.{ExprTree, at}
 use Rattle.py_typed.specs.Sorts as sort
 use Rattle.py_typed.specs.Sorts.{Sort}
 use Rattle.py_typed.specs.Classes.{ClassEntry}
-use Rattle.py_typed.specs.Fits.{is_same_type}
+use Rattle.py_typed.specs.Fits.{is_same_type, is_text}
 use Rattle.py_typed.specs.Expressions.{TypedExpr, type_of}
 use Rattle.py_typed.specs.Statements as act
 use Rattle.py_typed.specs.Statements.{TypedAct, TypedTarget}
@@ -20,10 +20,11 @@ use Rattle.py_check_messages.specs.Seen.{both}
 use Rattle.py_check_messages.specs.Messages.{no_exception, wrong_argument}
 use Rattle.py_check_values.specs.Aims.{Aim}
 use Rattle.py_check_places.specs.Places.{Known}
+use Rattle.py_check_calls.specs.Exceptions.{exception_made}
 use Rattle.py_check_targets.specs.Targets.{typed_at, name_aim, seen_aim}
 use Rattle.py_check_exceptions.specs.declared.asked.Asked.{Asked}
 use Rattle.py_check_exceptions.specs.declared.asked.Asked.TheVariants.{Class, Variable, Voiceless, Other}
-use Rattle.py_check_exceptions.specs.Raises.{asked, exception_of, raised, raised_again, span_of, is_text, asserted, raises_value, raises_named, raises_by, raises, asserted_test, asserts}
+use Rattle.py_check_exceptions.specs.Raises.{asked, raised, raised_again, span_of, asserted, raises_value, raises_named, raises_by, raises, asserted_test, asserts}
 use Rattle.py_check_exceptions.specs.Handlers.{some_classes, all_classes, named, name_target, name_fault, head_fault, head_by, head, is_early, caught, name_at, handler_head}
 use Rattle.py_check_laws.proofs.Given.{done, ok_same, made_given, both_given, rule_given, if_then, unless_ok}
 use Rattle.py_check_laws.proofs.Aims.{AimAt}
@@ -53,7 +54,7 @@ module _ (C : Context) where
   -- what is raised: what is handled, a new exception of a class, or the value of an expression
   pub data Raised (handling : Bool) (k : Known) (e : Option ExprTree) (a : TypedAct) : Type 0 where
     raised_on : handling ≡ true → act.Raise None ≡ a → Raised handling k e a
-    raised_class : (place : Span) (x : ExcClass) → act.Raise (Some (exception_of place x)) ≡ a → Raised handling k e a
+    raised_class : (place : Span) (x : ExcClass) → act.Raise (Some (exception_made place x None)) ≡ a → Raised handling k e a
     raised_value : (value : ExprTree) (t : TypedExpr) → e ≡ Some value → (typed_at C k free value).got ≡ Some t → is_exception (type_of t) ≡ true → act.Raise (Some t) ≡ a → Raised handling k e a
 
   value_raised : (handling : Bool) (k : Known) (span : Span) (e : ExprTree) (a : TypedAct) → (raises_value C k span e).got ≡ Some a → Raised handling k (Some e) a
@@ -63,7 +64,7 @@ module _ (C : Context) where
       raised_value e r.0 refl r.1 q.0 (ok_same (act.Raise (Some r.0)) a q.1)
 
   named_raised : (handling : Bool) (k : Known) (span : Span) (e : ExprTree) (what : Asked) (a : TypedAct) → (raises_named C k span e what).got ≡ Some a → Raised handling k (Some e) a
-  named_raised handling k span e (Class x) a h = raised_class (span_of e) x (same_Some (act.Raise (Some (exception_of (span_of e) x))) a h)
+  named_raised handling k span e (Class x) a h = raised_class (span_of e) x (same_Some (act.Raise (Some (exception_made (span_of e) x None))) a h)
   named_raised handling k span e Variable a h = value_raised handling k span e a h
   named_raised handling k span e Voiceless a h = absurd (cc)
   named_raised handling k span e Other a h = absurd (cc)

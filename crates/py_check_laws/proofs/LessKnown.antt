@@ -27,10 +27,11 @@ use Rattle.py_check_coercions.specs.Several.{with_part}
 use Rattle.py_check_values.specs.Returns.{ReturnSort, bare_return, value_return}
 use Rattle.py_check_places.specs.Places.{Known, locals_in, where_test, entering, Way, setting_out, met, common, behind_arm}
 use Rattle.py_check_places.specs.Shapes.{leaves}
+use Rattle.py_check_calls.specs.Exceptions.{exception_made}
 use Rattle.py_check_targets.specs.Targets.{typed_at}
 use Rattle.py_check_loops.specs.Loops.{Course, course_items, course, loop_of}
 use Rattle.py_check_loops.specs.Heads.{some_items, for_head, in_for}
-use Rattle.py_check_exceptions.specs.Raises.{exception_of, raises, asserts}
+use Rattle.py_check_exceptions.specs.Raises.{raises, asserts}
 use Rattle.py_check_statements.specs.Bodies.{is_definition, around_loop, try_of, outside_try, handlers_after, clauses, maybe_block, condition, after, node_after, block_after, arms_after, return_wanted, returns, in_loop, statement, node_statement, block, branches}
 use Rattle.py_check_statements.specs.declared.bodies.Around.{Around}
 use Rattle.py_check_expressions_laws.specs.WellTyped as law
@@ -146,7 +147,7 @@ module _ (means : List ℕ → Meaning) (signatures : List (Option Signature)) (
     where
       by : Raised here handling k e a → LessAct k.names k.names a
       by (raised_on d q) = kept_less k.names (act.Raise None) a (λ known. refl) q
-      by (raised_class place x q) = kept_less k.names (act.Raise (Some (exception_of place x))) a (λ known. refl) q
+      by (raised_class place x q) = kept_less k.names (act.Raise (Some (exception_made place x None))) a (λ known. refl) q
       by (raised_value value t u g x q) = kept_less k.names (act.Raise (Some t)) a (λ known. refl) q
 
   -- behind an assertion its test was true

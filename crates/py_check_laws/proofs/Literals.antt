@@ -10,7 +10,7 @@ use Rattle.py_syntax.specs.Expressions.{ExprTree, ExprNode, at, Arguments, no_ar
 use Rattle.py_typed.specs.Sorts as sort
 use Rattle.py_typed.specs.Sorts.{Sort}
 use Rattle.py_typed.specs.Classes.{ClassEntry, Signature}
-use Rattle.py_typed.specs.Fits.{is_same_type, is_number, fits, join}
+use Rattle.py_typed.specs.Fits.{is_same_type, is_number, fits, join, is_text}
 use Rattle.py_typed.specs.Expressions as node
 use Rattle.py_typed.specs.Expressions.{TypedExpr, TypedNode, typed, type_of}
 use Rattle.py_typed.specs.Narrowing.{is_true_literal}
@@ -37,7 +37,7 @@ use Rattle.py_check_calls.specs.declared.callees.Single.{Single}
 use Rattle.py_check_calls.specs.declared.callees.Single.TheVariants as one
 use Rattle.py_check_calls.specs.Callees.{Callee, function, print, input, range, single, exception, method, voiceless, uncalled, value, callee, has_key}
 use Rattle.py_check_calls.specs.Builtins.{as_value, gives_value, unprintable, printed, the_only, single_takes, single_made, single_given, single_call, print_call, input_call}
-use Rattle.py_check_calls.specs.Exceptions.{is_text, exception_made, exception_call}
+use Rattle.py_check_calls.specs.Exceptions.{exception_made, exception_call}
 use Rattle.py_check_calls.specs.Methods.{attribute, is_list_method, pop_call, append_given, append_call, value_call, method_call, item_of as item_sort_of}
 use Rattle.py_check_calls.specs.Calls.{arguments_row, call_made, function_given, function_call, positional, refused, called}
 use Rattle.py_check_expressions.specs.Typing.{typing, items, entries, operands, arguments, part, count}

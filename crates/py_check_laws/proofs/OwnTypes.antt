@@ -9,7 +9,7 @@ use Rattle.py_syntax.specs.Expressions.{ExprTree, at}
 use Rattle.py_typed.specs.Sorts as sort
 use Rattle.py_typed.specs.Sorts.{Sort}
 use Rattle.py_typed.specs.Classes.{ClassEntry, Signature}
-use Rattle.py_typed.specs.Fits.{is_same_type, is_number, fits}
+use Rattle.py_typed.specs.Fits.{is_same_type, is_number, fits, is_text}
 use Rattle.py_typed.specs.Expressions as node
 use Rattle.py_typed.specs.Expressions.{TypedExpr, TypedNode, typed, type_of, exprs_of}
 use Rattle.py_typed.specs.Narrowing.{node_of, may_be_none, own_sort}
@@ -25,7 +25,7 @@ use Rattle.py_check_calls.specs.declared.callees.Single.{Single}
 use Rattle.py_check_calls.specs.declared.callees.Single.TheVariants as one
 use Rattle.py_check_calls.specs.Callees.{Callee, function, print, input, range, single, exception, method, voiceless, uncalled, value, callee, has_key}
 use Rattle.py_check_calls.specs.Builtins.{gives_value, as_value, unprintable, printed, print_call, input_call, the_only, single_takes, single_made, single_given, single_call}
-use Rattle.py_check_calls.specs.Exceptions.{is_text, exception_made, exception_given, exception_call}
+use Rattle.py_check_calls.specs.Exceptions.{exception_made, exception_given, exception_call}
 use Rattle.py_check_calls.specs.Methods.{item_of, pop_call, append_given, append_call, list_call, value_call, method_call}
 use Rattle.py_check_calls.specs.Calls.{arguments_row, positional, refused, function_given, function_call, called}
 use Rattle.py_check_expressions.specs.Typing.{typing, operands, arguments, part}

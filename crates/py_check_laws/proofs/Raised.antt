@@ -24,7 +24,7 @@ use Rattle.py_check_context.specs.Context as context
 use Rattle.py_check_values.specs.Aims.{Aim, held, first, barred, unwritten, misplaced}
 use Rattle.py_check_values.specs.Assignments.{binding_fault}
 use Rattle.py_check_places.specs.Places.{Known, bind_name}
-use Rattle.py_check_exceptions.specs.Raises.{exception_of}
+use Rattle.py_check_calls.specs.Exceptions.{exception_made}
 use Rattle.py_check_exceptions.specs.Handlers.{name_target, name_fault, handler_head, in_handler}
 use Rattle.py_check_expressions_laws.specs.WellTyped.{Describes, Within}
 use Rattle.py_check_expressions_laws.proofs.Sound.{sound_typing}
@@ -49,13 +49,13 @@ module _ (means : List ℕ → Meaning) (signatures : List (Option Signature)) (
 
   -- ---- `raise`
 
-  new_exception : (others : List ℕ) (place : Span) (x : ExcClass) → stands m locals init false others (exception_of place x) ≡ true
+  new_exception : (others : List ℕ) (place : Span) (x : ExcClass) → stands m locals init false others (exception_made place x None) ≡ true
   new_exception others place x = stands_made m locals init false others (expr.MakeExc x expr.no_expr) (Exc x) place refl (type_is_itself (Exc x)) refl refl refl
 
   pub good_raise : (loops handling : Bool) (k : Known) → Describes here k.types m locals → (e : Option ExprTree) → maybe_written e ≡ true → (a : TypedAct) → Raised here handling k e a → (others : List ℕ) → Within k.names others → Fine loops handling others k.names a
   good_raise loops handling k D e we a (raised_on q is) others w = subst (Fine loops handling others k.names) is (record { typed = q; names = w })
   good_raise loops handling k D e we a (raised_class place x is) others w =
-      subst (Fine loops handling others k.names) is (record { typed = and_from (stands m locals init false others (exception_of place x)) true (new_exception others place x) refl; names = w })
+      subst (Fine loops handling others k.names) is (record { typed = and_from (stands m locals init false others (exception_made place x None)) true (new_exception others place x) refl; names = w })
   good_raise loops handling k D e we a (raised_value value t p g x is) others w =
       let s = (sound_typing means signatures k.types m locals init D free k.names value (subst (λ o. maybe_written o ≡ true) p we) refl).each t g others w refl in
       subst (Fine loops handling others k.names) is (record { typed = and_from (stands m locals init false others t) (is_exception (type_of t)) s x; names = w })

@@ -35,6 +35,7 @@ use Rattle.py_check_values.specs.Returns.{ReturnSort, bare_return, value_return}
 use Rattle.py_check_places.specs.Places.{Known, with_names, is_bound, locals_among, where_test, entering, Way, setting_out, behind_arm}
 use Rattle.py_check_places.specs.Shapes.{is_row, is_item, is_flat, leaves, node_leaves, row_leaves}
 use Rattle.py_check_values.specs.Aims.{Aim, held, first, barred, unwritten, misplaced}
+use Rattle.py_check_calls.specs.Exceptions.{exception_made}
 use Rattle.py_check_targets.specs.Targets.{target_of, targets_of, is_placed, name_aim, seen_aim, read_aim, assigned, declared, given, updated, annotation_fault, typed_at, target_aims, next_part, more_parts, beyond, aims_behind, bound_aims}
 use Rattle.py_check_assignments.specs.Assignments.{value_for, assigns, declares, annotated_value, gives_value, annotates_other, annotates, updates_one, updates_row, updates}
 use Rattle.py_check_loops.specs.Loops.{Course, numbers, value, course, head, loop_over, loop_of}
@@ -352,7 +353,7 @@ module _ (C : Context) where
     where
       by : Raised C handling k e a → ActShape (node.Raise e) a
       by (raised_on q is) = plain_shape (node.Raise e) (act.Raise None) a refl refl refl is
-      by (raised_class place x is) = plain_shape (node.Raise e) (act.Raise (Some (Rattle.py_check_exceptions.specs.Raises.exception_of place x))) a refl refl refl is
+      by (raised_class place x is) = plain_shape (node.Raise e) (act.Raise (Some (exception_made place x None))) a refl refl refl is
       by (raised_value v t p g x is) = plain_shape (node.Raise e) (act.Raise (Some t)) a refl refl refl is
 
   assert_shape : (k : Known) (span : Span) (e : ExprTree) (text : Option ExprTree) (a : TypedAct) → (asserts C k span e text).got ≡ Some a → ActShape (node.Assert e text) a

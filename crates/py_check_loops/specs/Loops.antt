@@ -121,10 +121,6 @@ head_fault classes flat several aims s (Some t) = if are_names flat aims then it
 abbrev pub head : List ClassEntry → Bool → Bool → List Aim × Course → Result (List Aim × Course) Message
 head classes flat several p = unless (head_fault classes flat several p.0 (course_type p.1) (course_items p.1)) p
 
-abbrev pub is_dict : Sort → Bool
-is_dict (sort.DictOf k t) = true
-is_dict t = false
-
 -- the loop over it
 abbrev pub loop_over : List TypedTarget → Sort → TypedExpr → TypedSuite → TypedAct
 loop_over ts (sort.DictOf k t) e body = act.ForDict ts e body

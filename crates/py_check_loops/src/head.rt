@@ -27,7 +27,7 @@ use py_check_targets::{aims_behind, binds_several, put_behind};
 use py_check_values::{Aim, binds};
 use py_syntax::{Expr, Span, Stmt};
 use py_syntax_diagnostics::Diag;
-use py_typed::{Classes, TExpr, TStmt, TStmtKind, Target, Ty, copy_of};
+use py_typed::{Classes, TExpr, TStmt, TStmtKind, Target, Ty, copy_of, is_dict};
 use std::alloc::Global;
 use value_core::{Many, Memory};
 
@@ -305,10 +305,4 @@ fn loop_over(targets: Many<Target>, e: Box<TExpr>, body: Many<TStmt>) -> TStmtKi
     } else {
         TStmtKind::ForList(targets, e, body)
     }
-}
-
-fn is_dict(t: &Ty) -> bool
-    ensures { result ≡ loops.is_dict (sort t.now) }
-{
-    matches!(t, Ty::Dict(_, _))
 }

@@ -133,18 +133,11 @@ module _ (C : Context) (k : Known) (s : Stmt) where
 pub known_behind_loop : (outside names : List ℕ) (k end : Known) → outside ≡ names → k ≡ end → with_names k outside ≡ behind_loop names end
 known_behind_loop outside names k end same e = ap (with_names k) same ∙ ap (behind_loop names) e
 
--- ---- rows, at their start and at their end
-
-nothing_before : {A : Type 0} (rest : Option (List A)) → rest ≡ appended (Some []) rest
-nothing_before None = refl
-nothing_before (Some l) = refl
+-- ---- rows, at their end
 
 nothing_behind : {A : Type 0} (front : Option (List A)) → appended front (Some []) ≡ front
 nothing_behind None = refl
 nothing_behind (Some l) = ap Some (append-nil l)
-
-pub row_starts : {A : Type 0} (o : List Diag) (whole : Seen (List A)) → Remains (Some []) o o whole whole
-row_starts o whole = record { typed = nothing_before whole.got; told = refl }
 
 pub row_ends : {A : Type 0} (front : Option (List A)) (o0 o1 : List Diag) (whole rest : Seen (List A)) → rest ≡ is [] → Remains front o0 o1 whole rest → (front ≡ whole.got) × (o1 ≡ o0 ++ whole.said)
 row_ends {A = A} front o0 o1 whole rest over r = (

@@ -5,6 +5,7 @@
 use Rattle.std.specs.Prelude.{Bool, Result, Ok, Err, if◌then◌else◌}
 use Rattle.py_syntax.specs.declared.token.Span.{Span}
 use Rattle.py_syntax.specs.Expressions.{ExprTree}
+use Rattle.py_typed.specs.Fits.{is_dict}
 use Rattle.py_typed.specs.Expressions as node
 use Rattle.py_typed.specs.Expressions.{TypedExpr, typed, type_of}
 use Rattle.py_typed.specs.Statements as act
@@ -15,7 +16,6 @@ use Rattle.py_check_messages.specs.Messages.{only_entries}
 use Rattle.py_check_places.specs.Places.{Known}
 use Rattle.py_check_places.specs.Shapes.{is_item}
 use Rattle.py_check_targets.specs.Targets.{typed_at}
-use Rattle.py_check_loops.specs.Loops.{is_dict}
 
 -- an item of this value, with this index
 abbrev pub entry_deleted : TypedExpr → TypedExpr → Result TypedAct Message

@@ -8,7 +8,6 @@ ghost use Rattle.py_check_messages.specs.Seen.{Tells, judged, ruled};
 ghost use Rattle.py_check_coercions.specs.Boxes.{boxed};
 ghost use Rattle.py_check_places.specs.Views.{known_at};
 ghost use Rattle.py_check_targets.specs.Views.{boxed_act};
-ghost use Rattle.py_check_loops.specs.Loops as loops;
 ghost use Rattle.py_check_statements.specs.Deletions as rule_of;
 
 use crate::statements::in_box;
@@ -18,7 +17,7 @@ use py_check_places::{Place, is_item};
 use py_check_targets::typed_at;
 use py_syntax::{Expr, Span};
 use py_syntax_diagnostics::Diag;
-use py_typed::{TExpr, TKind, TStmtKind, Ty};
+use py_typed::{TExpr, TKind, TStmtKind, is_dict};
 use std::alloc::Global;
 use value_core::{Many, Memory};
 
@@ -96,10 +95,4 @@ fn entry_deleted(
         TStmtKind::Del(Box::into_inner(held), Box::into_inner(key)),
     )?;
     Ok(Some(kind))
-}
-
-fn is_dict(t: &Ty) -> bool
-    ensures { result ≡ loops.is_dict (sort t.now) }
-{
-    matches!(t, Ty::Dict(_, _))
 }

@@ -16,6 +16,7 @@ use Rattle.py_check_messages.specs.Seen.{Seen}
 use Rattle.py_check_messages.specs.Rows.{appended, kept}
 use Rattle.py_check_messages.proofs.RowLemmas.{Remains, row_step}
 use Rattle.py_check_values.specs.Aims.{Aim}
+use Rattle.py_check_expressions.proofs.RowLemmas.{row_starts, drop_none}
 use Rattle.py_check_places.specs.Places.{Known, with_names, known_behind}
 use Rattle.py_check_places.specs.Views.{trees}
 use Rattle.py_check_targets.specs.Targets.{aims, single_aim, next_part, more_parts}
@@ -44,10 +45,6 @@ more_from : (i : ℕ) (parts : Option (List Sort)) → more_parts (parts_from i 
 more_from i None = refl
 more_from i (Some ts) = left_behind i ts ∙ ap (λ n. Some (drop n ts)) (sym (add-one i))
 
-drop_none : {A : Type 0} (l : List A) → drop zero l ≡ l
-drop_none [] = refl
-drop_none (a ∷ l) = refl
-
 from_first : (parts : Option (List Sort)) → parts_from zero parts ≡ parts
 from_first None = refl
 from_first (Some ts) = ap Some (drop_none ts)
@@ -58,18 +55,11 @@ mapped_there f (Some a) = refl
 
 -- ---- the targets
 
-nothing_before : {A : Type 0} (rest : Option (List A)) → rest ≡ appended (Some []) rest
-nothing_before None = refl
-nothing_before (Some l) = refl
-
 trees_at : (leaves : List (Bor Expr)) (i : ℕ) (e : Bor Expr) → i < length leaves → e ≡ get_or leaves i e → trees (drop i leaves) ≡ expr_tree e.now ∷ trees (drop (i + 1) leaves)
 trees_at leaves i e h at =
     ap trees (drop-cons leaves i e h)
     ∙ ap (λ (x : Bor Expr). expr_tree x.now ∷ trees (drop (suc i) leaves)) (sym at)
     ∙ ap (λ k. expr_tree e.now ∷ trees (drop k leaves)) (sym (add-one i))
-
-row_starts : {A : Type 0} (old : List Diag) (whole : Seen (List A)) → Remains (Some []) old old whole whole
-row_starts old whole = record { typed = nothing_before whole.got; told = refl }
 
 -- no target is looked at yet
 pub aims_start : (c : Context) (k : Known) (parts : Option (List Sort)) (leaves : List (Bor Expr)) (names : List ℕ) (front : Option (List Aim)) (old : List Diag) → front ≡ Some [] → names ≡ k.names → Remains front old old (aims c k parts (trees leaves)) (aims c (with_names k names) (parts_from zero parts) (trees (drop zero leaves)))
@@ -79,7 +69,7 @@ aims_start c k parts leaves names front old empty same =
     let Names : List ℕ → Type 0 = λ l. Remains (Some []) old old whole (aims c (with_names k l) (parts_from zero parts) (trees (drop zero leaves))) in
     let Parts : Option (List Sort) → Type 0 = λ ts. Remains (Some []) old old whole (aims c k ts (trees (drop zero leaves))) in
     let Leaves : List (Bor Expr) → Type 0 = λ es. Remains (Some []) old old whole (aims c k parts (trees es)) in
-    subst Front (sym empty) (subst Names (sym same) (subst Parts (sym (from_first parts)) (subst Leaves (sym (drop_none leaves)) (row_starts old whole))))
+    subst Front (sym empty) (subst Names (sym same) (subst Parts (sym (from_first parts)) (subst Leaves (sym (drop_none leaves)) (row_starts (Some []) old whole refl))))
 
 module _ (c : Context) (k : Known) (parts : Option (List Sort)) (names : List ℕ) (leaves : List (Bor Expr)) (i : ℕ) (e : Bor Expr) (whole : Seen (List Aim)) (old new newer : List Diag) where
   abbrev one_at : List ℕ → Seen Aim

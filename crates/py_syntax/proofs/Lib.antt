@@ -2,4 +2,3 @@ mod Examples
 pub mod ExpressionLemmas
 pub mod StatementLemmas
 pub mod TokenLemmas
-pub mod TraversalLemmas

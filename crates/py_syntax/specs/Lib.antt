@@ -2,4 +2,3 @@ pub mod Texts
 pub mod Tokens
 pub mod Expressions
 pub mod Statements
-pub mod Traversals

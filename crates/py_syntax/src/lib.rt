@@ -2,9 +2,8 @@
 //!
 //! Nothing is computed here but the texts of keywords and signs. `specs/Texts.antt` has those texts,
 //! `specs/Tokens.antt` what holds of every whole list of tokens, and `specs/Expressions.antt` and
-//! `specs/Statements.antt` the tree as plain data, with what each declared node stands for. `specs/Traversals.antt`
-//! lists the nodes of a tree in the order of the text. For proofs above, `proofs/ExpressionLemmas.antt` and
-//! `proofs/StatementLemmas.antt` have an equation for each kind of node.
+//! `specs/Statements.antt` the tree as plain data, with what each declared node stands for. For proofs above,
+//! `proofs/ExpressionLemmas.antt` and `proofs/StatementLemmas.antt` have an equation for each kind of node.
 #![tactic(auto)]
 
 mod expression;

@@ -38,6 +38,14 @@ abbrev pub is_nothing : Sort → Bool
 is_nothing Nothing = true
 is_nothing t = false
 
+abbrev pub is_text : Sort → Bool
+is_text Str = true
+is_text t = false
+
+abbrev pub is_dict : Sort → Bool
+is_dict (DictOf k t) = true
+is_dict t = false
+
 -- of two numbers: i64 where one is i64, else int
 abbrev pub number_join : Sort → Sort → Sort
 number_join I64 t = I64

@@ -4,6 +4,7 @@ ghost use Rattle.std.specs.Option.{option_map};
 ghost use Rattle.py_typed.specs.Sorts.{sort, sorts_of};
 ghost use Rattle.py_typed.specs.Classes.{class_entry};
 ghost use Rattle.py_typed.specs.Fits as fit;
+ghost use Rattle.py_typed.specs.WellTypedExpr as well_typed;
 
 use crate::class_list::ClassList;
 use crate::classes::Classes;
@@ -144,6 +145,27 @@ pub fn is_nothing(t: &Ty) -> bool
     ensures { result ≡ fit.is_nothing (sort t.now) }
 {
     matches!(t, Ty::Nothing)
+}
+
+/// Whether a type is that of texts.
+pub fn is_text(t: &Ty) -> bool
+    ensures { result ≡ fit.is_text (sort t.now) }
+{
+    matches!(t, Ty::Str)
+}
+
+/// Whether a type is one of dicts.
+pub fn is_dict(t: &Ty) -> bool
+    ensures { result ≡ fit.is_dict (sort t.now) }
+{
+    matches!(t, Ty::Dict(_, _))
+}
+
+/// Whether a dict may have keys of a type: texts and numbers.
+pub fn is_key_type(t: &Ty) -> bool
+    ensures { result ≡ well_typed.is_key_type (sort t.now) }
+{
+    is_text(t) || is_number(t)
 }
 
 /// The type of arithmetic on two numbers.

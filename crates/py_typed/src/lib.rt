@@ -25,7 +25,10 @@ pub use class_list::ClassList;
 pub use classes::{ClassInfo, Classes, Sig};
 pub use copies::{copy_of, type_text};
 pub use expression::{TExpr, TKind};
-pub use fitting::{fits, is_nothing, is_number, is_same_type, join, number_join, optional, same};
+pub use fitting::{
+    fits, is_dict, is_key_type, is_nothing, is_number, is_same_type, is_text, join, number_join,
+    optional, same,
+};
 pub use laws::{
     fits_goes_on, fits_itself, join_holds_both, join_is_symmetric, same_fits, same_goes_on,
     under_by_bases,

@@ -13,6 +13,7 @@ use Rattle.py_check_context.specs.Context.{context}
 use Rattle.py_check_messages.specs.Seen.{Tells}
 use Rattle.py_check_messages.proofs.RowLemmas.{Remains}
 use Rattle.py_check_values.specs.Returns.{return_sort}
+use Rattle.py_check_expressions.proofs.RowLemmas.{row_starts}
 use Rattle.py_check_places.specs.Places.{Known, Way, with_names, where_test, setting_out, entering, meeting}
 use Rattle.py_check_places.specs.Views.{known_at}
 use Rattle.py_check_targets.specs.Views.{boxed_act}
@@ -25,7 +26,7 @@ use Rattle.py_check_exceptions.specs.Views.{boxed_handler_head}
 use Rattle.py_check_flow.specs.Closed.{is_closed}
 use Rattle.py_check_statements.specs.Bodies.{around_loop, around_clause, outside_try, behind_try, try_of, tries, clause, clauses, maybe_block, handlers_after, last_after, condition, left_while, behind_loop, block, block_after, branches, arms_after, guarded}
 use Rattle.py_check_statements.specs.Views.{boxed_stmt, guarded_seen, clause_seen, way}
-use Rattle.py_check_statements.proofs.BodyLemmas.{try_says, try_knows, always, made_says, leaf_says, both_say, pair_says, node_of, act_stays, known_after, line_says, act_says, act_knows, while_says, while_knows, for_says, for_knows, known_behind_loop, row_starts, row_ends, block_ends, known_ends, branches_end, ways_end, known_passed, row_passed, known_behind, row_behind, way_behind, ways_behind, arms_behind, known_behind_else}
+use Rattle.py_check_statements.proofs.BodyLemmas.{try_says, try_knows, always, made_says, leaf_says, both_say, pair_says, node_of, act_stays, known_after, line_says, act_says, act_knows, while_says, while_knows, for_says, for_knows, known_behind_loop, row_ends, block_ends, known_ends, branches_end, ways_end, known_passed, row_passed, known_behind, row_behind, way_behind, ways_behind, arms_behind, known_behind_else}
 use Rattle.py_check_statements.proofs.TryLemmas.{three_say, handler_tree_at, clauses_known, clauses_row, clauses_end, handlers_end}
 use Rattle.py_check_statements.proofs.blocks.+statement.Goals as goal
 
@@ -285,7 +286,7 @@ pub block-loop-s-init : goal.block-loop-s-init
 block-loop-s-init t c =
     let whole = block (context c.args.scope.now) (return_sort c.args.returns) c.args.around (known_at c.args.place.now) (body_tree c.args.body.now) in
     let P : List TStmt → Type 0 = λ l. Remains (Some (map typed_stmt l)) c.args.faults.now c.args.faults.now whole whole in
-    record { row = subst P (sym c.new.ensures) (row_starts c.args.faults.now whole); known = refl }
+    record { row = subst P (sym c.new.ensures) (row_starts (Some []) c.args.faults.now whole refl); known = refl }
 
 pub block-loop-s-preserved-then-is_definition : goal.block-loop-s-preserved-then-is_definition
 block-loop-s-preserved-then-is_definition t c =
@@ -337,7 +338,7 @@ pub branches-loop-e-init : goal.branches-loop-e-init
 branches-loop-e-init t c =
     let whole = branches (context c.args.scope.now) (return_sort c.args.returns) c.args.around (setting_out (known_at c.args.place.now)) (arms_of (map arm_tree c.args.arms.now)) in
     let P : List (TExpr × List TStmt) → Type 0 = λ l. Remains (Some (map typed_arm l)) c.args.faults.now c.args.faults.now whole whole in
-    record { row = subst P (sym c.new.ensures) (row_starts c.args.faults.now whole); known = refl }
+    record { row = subst P (sym c.new.ensures) (row_starts (Some []) c.args.faults.now whole refl); known = refl }
 
 pub branches-loop-e-preserved : goal.branches-loop-e-preserved
 branches-loop-e-preserved t c =
@@ -499,7 +500,7 @@ pub clauses-loop-i-init : goal.clauses-loop-i-init
 clauses-loop-i-init t c =
     let whole = clauses (context c.args.scope.now) (return_sort c.args.returns) c.args.around c.args.names.now (known_at c.args.place.now) (handlers_of (map handler_tree c.args.handlers.now)) in
     let P : List THandler → Type 0 = λ l. Remains (Some (map typed_handler l)) c.args.faults.now c.args.faults.now whole whole in
-    record { row = subst P (sym c.new.ensures) (row_starts c.args.faults.now whole); known = refl }
+    record { row = subst P (sym c.new.ensures) (row_starts (Some []) c.args.faults.now whole refl); known = refl }
 
 pub clauses-loop-i-preserved : goal.clauses-loop-i-preserved
 clauses-loop-i-preserved t c =
