@@ -11,12 +11,13 @@ ghost use Rattle.py_check_coercions.specs.Boxes.{boxed};
 ghost use Rattle.py_check_calls.specs.Builtins as rule_of;
 
 use crate::callees::Single;
+use crate::sites::CallSite;
 use py_check_coercions::{coerced, kept};
 use py_check_context::Want;
 use py_check_messages::{gives_nothing, wrong_argument, wrong_number};
 use py_syntax::Span;
 use py_syntax_diagnostics::Diag;
-use py_typed::{Classes, TExpr, TKind, Ty, is_nothing, is_number};
+use py_typed::{TExpr, TKind, Ty, is_nothing, is_number};
 use std::alloc::Global;
 use value_core::{Many, Memory};
 
@@ -30,26 +31,33 @@ pub(crate) fn gives_value(want: Want<'_>, t: &Ty) -> bool
 /// `print(..)`.
 pub(crate) fn print_call(
     alloc: Global,
-    classes: &Classes,
-    span: Span,
-    want: Want<'_>,
+    site: CallSite<'_>,
     es: Option<Many<TExpr>>,
     faults: &mut Many<Diag>,
 ) -> Result<Option<Box<TExpr>>, Memory>
-    ensures { IfOk result (λ t. Tells boxed t faults.old faults.new (ruled span (rule_of.print_call (map class_entry classes.now.list) (wanted want.entry) span) (option_map (map typed_expr) es))) }
+    ensures { IfOk result (λ t. Tells boxed t faults.old faults.new (ruled site.entry.span (rule_of.print_call (map class_entry site.entry.classes.now.list) (wanted site.entry.want) site.entry.span) (option_map (map typed_expr) es))) }
 {
     let Some(es) = es else {
         return Ok(None);
     };
     if let Some((i, s)) = unprintable(es.as_slice()) {
-        wrong_argument(alloc, classes, span, i, "print", s, "printable", faults)?;
+        wrong_argument(
+            alloc,
+            site.classes,
+            site.span,
+            i,
+            "print",
+            s,
+            "printable",
+            faults,
+        )?;
         return Ok(None);
     }
-    if !gives_value(want, &Ty::Nothing) {
-        gives_nothing(alloc, span, "print", faults)?;
+    if !gives_value(site.want, &Ty::Nothing) {
+        gives_nothing(alloc, site.span, "print", faults)?;
         return Ok(None);
     }
-    let e = kept(alloc, TKind::Print(es), Ty::Nothing, span)?;
+    let e = kept(alloc, TKind::Print(es), Ty::Nothing, site.span)?;
     Ok(Some(e))
 }
 
@@ -106,40 +114,38 @@ pub(crate) fn input_call(
 /// A call of a builtin that takes one value.
 pub(crate) fn single_call(
     alloc: Global,
-    classes: &Classes,
-    span: Span,
+    site: CallSite<'_>,
     f: Single,
     es: Option<Many<TExpr>>,
     faults: &mut Many<Diag>,
 ) -> Result<Option<Box<TExpr>>, Memory>
-    ensures { IfOk result (λ t. Tells boxed t faults.old faults.new (ruled span (rule_of.single_call (map class_entry classes.now.list) f span) (option_map (map typed_expr) es))) }
+    ensures { IfOk result (λ t. Tells boxed t faults.old faults.new (ruled site.entry.span (rule_of.single_call (map class_entry site.entry.classes.now.list) f site.entry.span) (option_map (map typed_expr) es))) }
 {
     let Some(es) = es else {
         return Ok(None);
     };
     let Some(e) = the_only(alloc, es)? else {
-        wrong_number(alloc, span, single_name(f), "1", faults)?;
+        wrong_number(alloc, site.span, single_name(f), "1", faults)?;
         return Ok(None);
     };
-    single_given(alloc, classes, span, f, e, faults)
+    single_given(alloc, site, f, e, faults)
 }
 
 // The same with its value.
 fn single_given(
     alloc: Global,
-    classes: &Classes,
-    span: Span,
+    site: CallSite<'_>,
     f: Single,
     e: Box<TExpr>,
     faults: &mut Many<Diag>,
 ) -> Result<Option<Box<TExpr>>, Memory>
-    ensures { IfOk result (λ t. Tells boxed t faults.old faults.new (judged span (rule_of.single_given (map class_entry classes.now.list) f span (Some (boxed e))))) }
+    ensures { IfOk result (λ t. Tells boxed t faults.old faults.new (judged site.entry.span (rule_of.single_given (map class_entry site.entry.classes.now.list) f site.entry.span (Some (boxed e))))) }
 {
     if !single_takes(f, &e.ty) {
         wrong_argument(
             alloc,
-            classes,
-            span,
+            site.classes,
+            site.span,
             1,
             single_name(f),
             &e.ty,
@@ -148,7 +154,7 @@ fn single_given(
         )?;
         return Ok(None);
     }
-    let e = single_made(alloc, span, f, e)?;
+    let e = single_made(alloc, site.span, f, e)?;
     Ok(Some(e))
 }
 

@@ -16,74 +16,73 @@ use crate::builtins::{gives_value, input_call, print_call, single_call};
 use crate::callees::Callee;
 use crate::exceptions::exception_call;
 use crate::methods::method_call;
+use crate::sites::CallSite;
 use py_check_coercions::{changed_row, kept, unfit};
-use py_check_context::{Row, Want};
+use py_check_context::Row;
 use py_check_messages::{
     gives_nothing, not_callable, range_outside_for, wrong_argument_type, wrong_number,
 };
 use py_syntax::Span;
 use py_syntax_diagnostics::Diag;
-use py_typed::{Classes, Sig, TExpr, TKind, copy_of};
+use py_typed::{Sig, TExpr, TKind, copy_of};
 use std::alloc::Global;
 use value_core::{Many, Memory, Name};
 
 /// A call, by what is called, the typed part of it, and the arguments (Python Language Reference, "Calls").
 pub fn called(
     alloc: Global,
-    classes: &Classes,
-    span: Span,
-    want: Want<'_>,
+    site: CallSite<'_>,
     keyed: bool,
     callee: Callee<'_>,
     part: Option<Box<TExpr>>,
     es: Option<Many<TExpr>>,
     faults: &mut Many<Diag>,
 ) -> Result<Option<Box<TExpr>>, Memory>
-    ensures { IfOk result (λ t. Tells boxed t faults.old faults.new (rule_of.called (map class_entry classes.now.list) (wanted want.entry) span keyed (callee_seen callee.entry) (option_map boxed part) (option_map (map typed_expr) es))) }
+    ensures { IfOk result (λ t. Tells boxed t faults.old faults.new (rule_of.called (map class_entry site.entry.classes.now.list) (wanted site.entry.want) site.entry.span keyed (callee_seen callee.entry) (option_map boxed part) (option_map (map typed_expr) es))) }
 {
     match callee {
         Callee::Function(x, i, sig) => {
-            let es = positional(alloc, span, keyed, es, faults)?;
-            function_call(alloc, classes, span, want, x, i, sig, es, faults)
+            let es = positional(alloc, site.span, keyed, es, faults)?;
+            function_call(alloc, site, x, i, sig, es, faults)
         }
         Callee::Print => {
-            let es = positional(alloc, span, keyed, es, faults)?;
-            print_call(alloc, classes, span, want, es, faults)
+            let es = positional(alloc, site.span, keyed, es, faults)?;
+            print_call(alloc, site, es, faults)
         }
         Callee::Input => {
-            let es = positional(alloc, span, keyed, es, faults)?;
-            input_call(alloc, span, es, faults)
+            let es = positional(alloc, site.span, keyed, es, faults)?;
+            input_call(alloc, site.span, es, faults)
         }
         Callee::Range => {
-            let es = positional(alloc, span, keyed, es, faults)?;
-            only_for_loops(alloc, span, es, faults)
+            let es = positional(alloc, site.span, keyed, es, faults)?;
+            only_for_loops(alloc, site.span, es, faults)
         }
         Callee::Single(f) => {
-            let es = positional(alloc, span, keyed, es, faults)?;
-            single_call(alloc, classes, span, f, es, faults)
+            let es = positional(alloc, site.span, keyed, es, faults)?;
+            single_call(alloc, site, f, es, faults)
         }
         Callee::Exception(class) => {
-            let es = positional(alloc, span, keyed, es, faults)?;
-            exception_call(alloc, classes, span, class, es, faults)
+            let es = positional(alloc, site.span, keyed, es, faults)?;
+            exception_call(alloc, site, class, es, faults)
         }
         Callee::Method(m) => {
             let Some(e) = part else {
                 return Ok(None);
             };
-            let es = positional(alloc, span, keyed, es, faults)?;
-            method_call(alloc, classes, span, want, m, e, es, faults)
+            let es = positional(alloc, site.span, keyed, es, faults)?;
+            method_call(alloc, site, m, e, es, faults)
         }
         Callee::Voiceless => Ok(None),
         Callee::Uncalled => {
-            let es = positional(alloc, span, keyed, es, faults)?;
-            uncallable(alloc, span, es, faults)
+            let es = positional(alloc, site.span, keyed, es, faults)?;
+            uncallable(alloc, site.span, es, faults)
         }
         Callee::Value => {
             if part.is_none() {
                 return Ok(None);
             }
-            let es = positional(alloc, span, keyed, es, faults)?;
-            uncallable(alloc, span, es, faults)
+            let es = positional(alloc, site.span, keyed, es, faults)?;
+            uncallable(alloc, site.span, es, faults)
         }
     }
 }
@@ -119,16 +118,14 @@ fn only_for_loops(
 // A call of a function.
 fn function_call(
     alloc: Global,
-    classes: &Classes,
-    span: Span,
-    want: Want<'_>,
+    site: CallSite<'_>,
     x: &Name,
     i: usize,
     sig: &Sig,
     es: Option<Many<TExpr>>,
     faults: &mut Many<Diag>,
 ) -> Result<Option<Box<TExpr>>, Memory>
-    ensures { IfOk result (λ t. Tells boxed t faults.old faults.new (ruled span (rule_of.function_call (map class_entry classes.now.list) (wanted want.entry) span x.now i (signature sig.now)) (option_map (map typed_expr) es))) }
+    ensures { IfOk result (λ t. Tells boxed t faults.old faults.new (ruled site.entry.span (rule_of.function_call (map class_entry site.entry.classes.now.list) (wanted site.entry.want) site.entry.span x.now i (signature sig.now)) (option_map (map typed_expr) es))) }
 {
     let Some(es) = es else {
         return Ok(None);
@@ -136,32 +133,30 @@ fn function_call(
     let number = sig.params.len();
     if es.len() != number {
         let number = format!(in alloc; "{number}")?;
-        wrong_number(alloc, span, x.as_str(), number.as_str(), faults)?;
+        wrong_number(alloc, site.span, x.as_str(), number.as_str(), faults)?;
         return Ok(None);
     }
-    function_given(alloc, classes, span, want, x, i, sig, es, faults)
+    function_given(alloc, site, x, i, sig, es, faults)
 }
 
 // The same with as many arguments as there are parameters.
 fn function_given(
     alloc: Global,
-    classes: &Classes,
-    span: Span,
-    want: Want<'_>,
+    site: CallSite<'_>,
     x: &Name,
     i: usize,
     sig: &Sig,
     es: Many<TExpr>,
     faults: &mut Many<Diag>,
 ) -> Result<Option<Box<TExpr>>, Memory>
-    ensures { IfOk result (λ t. Tells boxed t faults.old faults.new (judged span (rule_of.function_given (map class_entry classes.now.list) (wanted want.entry) span x.now i (signature sig.now) (map typed_expr es) (rows.unfit (map class_entry classes.now.list) (along (signature sig.now).params) 0 (map typed_expr es))))) }
+    ensures { IfOk result (λ t. Tells boxed t faults.old faults.new (judged site.entry.span (rule_of.function_given (map class_entry site.entry.classes.now.list) (wanted site.entry.want) site.entry.span x.now i (signature sig.now) (map typed_expr es) (rows.unfit (map class_entry site.entry.classes.now.list) (along (signature sig.now).params) 0 (map typed_expr es))))) }
 {
     let row = Row::Along(sig.params.as_slice());
-    if let Some(m) = unfit(classes, row, es.as_slice()) {
+    if let Some(m) = unfit(site.classes, row, es.as_slice()) {
         wrong_argument_type(
             alloc,
-            classes,
-            span,
+            site.classes,
+            site.span,
             m.place + 1,
             x.as_str(),
             m.found,
@@ -170,11 +165,11 @@ fn function_given(
         )?;
         return Ok(None);
     }
-    if !gives_value(want, &sig.ret) {
-        gives_nothing(alloc, span, x.as_str(), faults)?;
+    if !gives_value(site.want, &sig.ret) {
+        gives_nothing(alloc, site.span, x.as_str(), faults)?;
         return Ok(None);
     }
-    let e = call_made(alloc, span, i, sig, es)?;
+    let e = call_made(alloc, site.span, i, sig, es)?;
     Ok(Some(e))
 }
 

@@ -9,11 +9,12 @@ ghost use Rattle.py_check_coercions.specs.Boxes.{boxed};
 ghost use Rattle.py_check_calls.specs.Exceptions as rule_of;
 
 use crate::builtins::the_only;
+use crate::sites::CallSite;
 use py_check_coercions::kept;
 use py_check_messages::{wrong_argument, wrong_number};
 use py_syntax::Span;
 use py_syntax_diagnostics::Diag;
-use py_typed::{Classes, TExpr, TKind, Ty, is_text};
+use py_typed::{TExpr, TKind, Ty, is_text};
 use std::alloc::Global;
 use value_core::{ExcClass, Many, Memory};
 
@@ -21,44 +22,51 @@ use value_core::{ExcClass, Many, Memory};
 #[tactic(auto, using(crate::proofs::CallLemmas::given_some))]
 pub(crate) fn exception_call(
     alloc: Global,
-    classes: &Classes,
-    span: Span,
+    site: CallSite<'_>,
     class: ExcClass,
     es: Option<Many<TExpr>>,
     faults: &mut Many<Diag>,
 ) -> Result<Option<Box<TExpr>>, Memory>
-    ensures { IfOk result (λ t. Tells boxed t faults.old faults.new (ruled span (rule_of.exception_call (map class_entry classes.now.list) span class) (option_map (map typed_expr) es))) }
+    ensures { IfOk result (λ t. Tells boxed t faults.old faults.new (ruled site.entry.span (rule_of.exception_call (map class_entry site.entry.classes.now.list) site.entry.span class) (option_map (map typed_expr) es))) }
 {
     let Some(es) = es else {
         return Ok(None);
     };
     if es.is_empty() {
-        let e = exception_made(alloc, span, class, None)?;
+        let e = exception_made(alloc, site.span, class, None)?;
         return Ok(Some(e));
     }
     let Some(e) = the_only(alloc, es)? else {
-        wrong_number(alloc, span, class.name(), "0 or 1", faults)?;
+        wrong_number(alloc, site.span, class.name(), "0 or 1", faults)?;
         return Ok(None);
     };
-    exception_given(alloc, classes, span, class, e, faults)
+    exception_given(alloc, site, class, e, faults)
 }
 
 // The same with its one argument.
 fn exception_given(
     alloc: Global,
-    classes: &Classes,
-    span: Span,
+    site: CallSite<'_>,
     class: ExcClass,
     e: Box<TExpr>,
     faults: &mut Many<Diag>,
 ) -> Result<Option<Box<TExpr>>, Memory>
-    ensures { IfOk result (λ t. Tells boxed t faults.old faults.new (judged span (rule_of.exception_given (map class_entry classes.now.list) span class (Some (boxed e))))) }
+    ensures { IfOk result (λ t. Tells boxed t faults.old faults.new (judged site.entry.span (rule_of.exception_given (map class_entry site.entry.classes.now.list) site.entry.span class (Some (boxed e))))) }
 {
     if !is_text(&e.ty) {
-        wrong_argument(alloc, classes, span, 1, class.name(), &e.ty, "str", faults)?;
+        wrong_argument(
+            alloc,
+            site.classes,
+            site.span,
+            1,
+            class.name(),
+            &e.ty,
+            "str",
+            faults,
+        )?;
         return Ok(None);
     }
-    let e = exception_made(alloc, span, class, Some(e))?;
+    let e = exception_made(alloc, site.span, class, Some(e))?;
     Ok(Some(e))
 }
 

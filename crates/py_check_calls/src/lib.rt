@@ -10,9 +10,11 @@ mod callees;
 mod calls;
 mod exceptions;
 mod methods;
+mod sites;
 
 pub use arguments::{arguments_row, has_key, positional};
 pub use callees::{Callee, Single, callee_of, is_named};
 pub use calls::called;
 pub use exceptions::exception_made;
 pub use methods::attribute;
+pub use sites::CallSite;

@@ -10,8 +10,9 @@ ghost use Rattle.py_check_coercions.specs.Boxes.{boxed};
 ghost use Rattle.py_check_calls.specs.Methods as rule_of;
 
 use crate::builtins::{gives_value, the_only};
+use crate::sites::CallSite;
 use py_check_coercions::{coerced, kept};
-use py_check_context::{Row, Want};
+use py_check_context::Row;
 use py_check_messages::{
     gives_nothing, no_attribute, not_a_value, not_callable, wrong_argument_type, wrong_number,
 };
@@ -40,28 +41,26 @@ pub(crate) fn method_row<'a>(m: &Name, t: &'a Ty) -> Row<'a>
 /// `e.m(..)`.
 pub(crate) fn method_call(
     alloc: Global,
-    classes: &Classes,
-    span: Span,
-    want: Want<'_>,
+    site: CallSite<'_>,
     m: &Name,
     e: Box<TExpr>,
     es: Option<Many<TExpr>>,
     faults: &mut Many<Diag>,
 ) -> Result<Option<Box<TExpr>>, Memory>
-    ensures { IfOk result (λ t. Tells boxed t faults.old faults.new (ruled span (rule_of.method_call (map class_entry classes.now.list) (wanted want.entry) span m.now (boxed e)) (option_map (map typed_expr) es))) }
+    ensures { IfOk result (λ t. Tells boxed t faults.old faults.new (ruled site.entry.span (rule_of.method_call (map class_entry site.entry.classes.now.list) (wanted site.entry.want) site.entry.span m.now (boxed e)) (option_map (map typed_expr) es))) }
 {
     let Some(es) = es else {
         return Ok(None);
     };
     if m.as_str() == "__init__" {
-        not_callable(alloc, span, faults)?;
+        not_callable(alloc, site.span, faults)?;
         return Ok(None);
     }
     let Some(t) = item_of(alloc, &e.ty)? else {
-        no_attribute(alloc, classes, span, &e.ty, m.as_str(), faults)?;
+        no_attribute(alloc, site.classes, site.span, &e.ty, m.as_str(), faults)?;
         return Ok(None);
     };
-    list_call(alloc, classes, span, want, m, e, t, es, faults)
+    list_call(alloc, site, m, e, t, es, faults)
 }
 
 /// `e.a` that is not called (Python Language Reference, "Attribute references").
@@ -111,54 +110,59 @@ fn item_of(alloc: Global, t: &Ty) -> Result<Option<Ty>, Memory>
 // A method of a list with items of a type.
 fn list_call(
     alloc: Global,
-    classes: &Classes,
-    span: Span,
-    want: Want<'_>,
+    site: CallSite<'_>,
     m: &Name,
     e: Box<TExpr>,
     t: Ty,
     es: Many<TExpr>,
     faults: &mut Many<Diag>,
 ) -> Result<Option<Box<TExpr>>, Memory>
-    ensures { IfOk result (λ r. Tells boxed r faults.old faults.new (judged span (rule_of.list_call (map class_entry classes.now.list) (wanted want.entry) span m.now (boxed e) (sort t) (map typed_expr es)))) }
+    ensures { IfOk result (λ r. Tells boxed r faults.old faults.new (judged site.entry.span (rule_of.list_call (map class_entry site.entry.classes.now.list) (wanted site.entry.want) site.entry.span m.now (boxed e) (sort t) (map typed_expr es)))) }
 {
     if m.as_str() == "append" {
-        return append_call(alloc, classes, span, want, e, t, es, faults);
+        return append_call(alloc, site, e, t, es, faults);
     }
     if m.as_str() == "pop" {
-        return pop_call(alloc, span, e, t, es, faults);
+        return pop_call(alloc, site.span, e, t, es, faults);
     }
-    no_attribute(alloc, classes, span, &e.ty, m.as_str(), faults)?;
+    no_attribute(alloc, site.classes, site.span, &e.ty, m.as_str(), faults)?;
     Ok(None)
 }
 
 // `e.append(x)`.
 fn append_call(
     alloc: Global,
-    classes: &Classes,
-    span: Span,
-    want: Want<'_>,
+    site: CallSite<'_>,
     e: Box<TExpr>,
     t: Ty,
     es: Many<TExpr>,
     faults: &mut Many<Diag>,
 ) -> Result<Option<Box<TExpr>>, Memory>
-    ensures { IfOk result (λ r. Tells boxed r faults.old faults.new (judged span (rule_of.append_call (map class_entry classes.now.list) (wanted want.entry) span (boxed e) (sort t) (map typed_expr es)))) }
+    ensures { IfOk result (λ r. Tells boxed r faults.old faults.new (judged site.entry.span (rule_of.append_call (map class_entry site.entry.classes.now.list) (wanted site.entry.want) site.entry.span (boxed e) (sort t) (map typed_expr es)))) }
 {
     let Some(x) = the_only(alloc, es)? else {
-        wrong_number(alloc, span, "append", "1", faults)?;
+        wrong_number(alloc, site.span, "append", "1", faults)?;
         return Ok(None);
     };
-    if !fits(&x.ty, &t, classes) {
-        wrong_argument_type(alloc, classes, span, 1, "append", &x.ty, &t, faults)?;
+    if !fits(&x.ty, &t, site.classes) {
+        wrong_argument_type(
+            alloc,
+            site.classes,
+            site.span,
+            1,
+            "append",
+            &x.ty,
+            &t,
+            faults,
+        )?;
         return Ok(None);
     }
-    if !gives_value(want, &Ty::Nothing) {
-        gives_nothing(alloc, span, "append", faults)?;
+    if !gives_value(site.want, &Ty::Nothing) {
+        gives_nothing(alloc, site.span, "append", faults)?;
         return Ok(None);
     }
     let x = coerced(alloc, x, &t)?;
-    let e = kept(alloc, TKind::Append(e, x), Ty::Nothing, span)?;
+    let e = kept(alloc, TKind::Append(e, x), Ty::Nothing, site.span)?;
     Ok(Some(e))
 }
 
