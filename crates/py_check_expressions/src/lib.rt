@@ -5,9 +5,11 @@
 //! typing, and `laws` proves it.
 #![tactic(auto)]
 
+mod environments;
 mod laws;
 mod leaves;
 mod nodes;
 
+pub use environments::Environment;
 pub use laws::what_is_typed_has_said_nothing;
 pub use nodes::{arguments, expression};

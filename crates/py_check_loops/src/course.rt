@@ -22,7 +22,7 @@ ghost use Rattle.py_check_loops.specs.Views.{course_seen};
 use py_check_calls::{has_key, positional};
 use py_check_coercions::coerced;
 use py_check_context::{Builtin, Context, Meaning, Row, Want, meaning_of};
-use py_check_expressions::arguments;
+use py_check_expressions::{Environment, arguments};
 use py_check_flow::name_in;
 use py_check_messages::{wrong_argument, wrong_number};
 use py_check_places::Place;
@@ -146,9 +146,12 @@ fn arguments_at(
 ) -> Result<Option<Many<TExpr>>, Memory>
     ensures { IfOk result (λ es. Tells (map typed_expr) es faults.old faults.new (typing.arguments (context scope.now) (known_at place.now).types (along []) 0 (known_at place.now).names (arguments_of (map arg_tree args.now)))) }
 {
-    let types = &place.types;
-    let names = place.names.as_slice();
-    arguments(alloc, scope, types, names, args, Row::Along(&[]), faults)
+    let environment = Environment {
+        scope,
+        vars: &place.types,
+        known: place.names.as_slice(),
+    };
+    arguments(alloc, environment, args, Row::Along(&[]), faults)
 }
 
 // A call of `range` with these arguments (Python Library Reference, "Ranges").

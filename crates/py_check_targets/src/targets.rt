@@ -20,7 +20,7 @@ ghost use Rattle.py_check_targets.specs.Views.{boxed_aim, aims_seen, parts_from}
 
 use crate::values::asks;
 use py_check_context::{Context, Meaning, VarType, Want, meaning_of};
-use py_check_expressions::expression;
+use py_check_expressions::{Environment, expression};
 use py_check_flow::name_in;
 use py_check_places::{Place, is_item, is_row, known_behind, leaves, parts_of};
 use py_check_values::Aim;
@@ -41,9 +41,12 @@ pub fn typed_at(
 ) -> Result<Option<Box<TExpr>>, Memory>
     ensures { IfOk result (λ t. Tells boxed t faults.old faults.new (rule_of.typed_at (context scope.now) (known_at place.now) (wanted want.entry) (expr_tree e.now))) }
 {
-    let types = &place.types;
-    let names = place.names.as_slice();
-    expression(alloc, scope, types, want, names, e, faults)
+    let environment = Environment {
+        scope,
+        vars: &place.types,
+        known: place.names.as_slice(),
+    };
+    expression(alloc, environment, want, e, faults)
 }
 
 /// A name that is assigned to, unless it is a variable without a type.

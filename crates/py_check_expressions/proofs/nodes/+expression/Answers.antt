@@ -25,175 +25,175 @@ use Rattle.py_check_expressions.proofs.nodes.+expression.Goals as goal
 
 pub expression-returns-in-Str : goal.expression-returns-in-Str
 expression-returns-in-Str t c =
-    let C = context c.args.scope.now in
-    let V = var_sorts c.args.vars.now in
-    let K = c.args.known.now in
+    let C = context c.args.environment.scope.now in
+    let V = var_sorts c.args.environment.vars.now in
+    let K = c.args.environment.known.now in
     let w = wanted c.args.want in
     node_says C V w K c.args.e.now (tree.Str c.in-Str.s) c.text.result c.args.faults.now c.args.faults.now (tree_of c.args.e.now _ _ c.in-Str.is (expr_node-Str c.in-Str.s)) (leaf_says boxed _ c.text.result c.args.faults.now c.text.ensures)
 
 pub expression-returns-in-True : goal.expression-returns-in-True
 expression-returns-in-True t c =
-    let C = context c.args.scope.now in
-    let V = var_sorts c.args.vars.now in
-    let K = c.args.known.now in
+    let C = context c.args.environment.scope.now in
+    let V = var_sorts c.args.environment.vars.now in
+    let K = c.args.environment.known.now in
     let w = wanted c.args.want in
     node_says C V w K c.args.e.now (tree.True) c.flag.result c.args.faults.now c.args.faults.now (tree_of c.args.e.now _ _ c.in-True.is expr_node-True) (leaf_says boxed _ c.flag.result c.args.faults.now c.flag.ensures)
 
 pub expression-returns-in-False : goal.expression-returns-in-False
 expression-returns-in-False t c =
-    let C = context c.args.scope.now in
-    let V = var_sorts c.args.vars.now in
-    let K = c.args.known.now in
+    let C = context c.args.environment.scope.now in
+    let V = var_sorts c.args.environment.vars.now in
+    let K = c.args.environment.known.now in
     let w = wanted c.args.want in
     node_says C V w K c.args.e.now (tree.False) c.flag-in-False.result c.args.faults.now c.args.faults.now (tree_of c.args.e.now _ _ c.in-False.is expr_node-False) (leaf_says boxed _ c.flag-in-False.result c.args.faults.now c.flag-in-False.ensures)
 
 pub expression-returns-in-Nothing : goal.expression-returns-in-Nothing
 expression-returns-in-Nothing t c =
-    let C = context c.args.scope.now in
-    let V = var_sorts c.args.vars.now in
-    let K = c.args.known.now in
+    let C = context c.args.environment.scope.now in
+    let V = var_sorts c.args.environment.vars.now in
+    let K = c.args.environment.known.now in
     let w = wanted c.args.want in
     node_says C V w K c.args.e.now (tree.Nothing) c.nothing.result c.args.faults.now c.args.faults.now (tree_of c.args.e.now _ _ c.in-Nothing.is expr_node-Nothing) (leaf_says boxed _ c.nothing.result c.args.faults.now c.nothing.ensures)
 
 pub expression-returns-in-Name : goal.expression-returns-in-Name
 expression-returns-in-Name t c =
-    let C = context c.args.scope.now in
-    let V = var_sorts c.args.vars.now in
-    let K = c.args.known.now in
+    let C = context c.args.environment.scope.now in
+    let V = var_sorts c.args.environment.vars.now in
+    let K = c.args.environment.known.now in
     let w = wanted c.args.want in
     node_says C V w K c.args.e.now (tree.Name c.in-Name.x) c.named.result c.args.faults.now c.named.new.faults (tree_of c.args.e.now _ _ c.in-Name.is (expr_node-Name c.in-Name.x)) c.named.ensures
 
 pub expression-returns-in-Neg : goal.expression-returns-in-Neg
 expression-returns-in-Neg t c =
-    let C = context c.args.scope.now in
-    let V = var_sorts c.args.vars.now in
-    let K = c.args.known.now in
+    let C = context c.args.environment.scope.now in
+    let V = var_sorts c.args.environment.vars.now in
+    let K = c.args.environment.known.now in
     let w = wanted c.args.want in
     let h : IfOk c.negated.result (λ x. Tells boxed x c.args.faults.now c.negated.new.faults (node_typing C V w K c.args.e.now.span (tree.Neg (expr_tree c.in-Neg.e.value)))) = search (rules, c.negated.ensures) in
     node_says C V w K c.args.e.now (tree.Neg (expr_tree c.in-Neg.e.value)) c.negated.result c.args.faults.now c.negated.new.faults (tree_of c.args.e.now _ _ c.in-Neg.is (expr_node-Neg c.in-Neg.e)) h
 
 pub expression-returns-in-Plus : goal.expression-returns-in-Plus
 expression-returns-in-Plus t c =
-    let C = context c.args.scope.now in
-    let V = var_sorts c.args.vars.now in
-    let K = c.args.known.now in
+    let C = context c.args.environment.scope.now in
+    let V = var_sorts c.args.environment.vars.now in
+    let K = c.args.environment.known.now in
     let w = wanted c.args.want in
     let h : IfOk c.affirmed.result (λ x. Tells boxed x c.args.faults.now c.affirmed.new.faults (node_typing C V w K c.args.e.now.span (tree.Plus (expr_tree c.in-Plus.e.value)))) = search (rules, c.affirmed.ensures) in
     node_says C V w K c.args.e.now (tree.Plus (expr_tree c.in-Plus.e.value)) c.affirmed.result c.args.faults.now c.affirmed.new.faults (tree_of c.args.e.now _ _ c.in-Plus.is (expr_node-Plus c.in-Plus.e)) h
 
 pub expression-returns-in-Not : goal.expression-returns-in-Not
 expression-returns-in-Not t c =
-    let C = context c.args.scope.now in
-    let V = var_sorts c.args.vars.now in
-    let K = c.args.known.now in
+    let C = context c.args.environment.scope.now in
+    let V = var_sorts c.args.environment.vars.now in
+    let K = c.args.environment.known.now in
     let w = wanted c.args.want in
     let h : IfOk c.inverted.result (λ x. Tells boxed x c.args.faults.now c.inverted.new.faults (node_typing C V w K c.args.e.now.span (tree.Not (expr_tree c.in-Not.e.value)))) = search (rules, c.inverted.ensures) in
     node_says C V w K c.args.e.now (tree.Not (expr_tree c.in-Not.e.value)) c.inverted.result c.args.faults.now c.inverted.new.faults (tree_of c.args.e.now _ _ c.in-Not.is (expr_node-Not c.in-Not.e)) h
 
 pub expression-returns-in-Bin : goal.expression-returns-in-Bin
 expression-returns-in-Bin t c =
-    let C = context c.args.scope.now in
-    let V = var_sorts c.args.vars.now in
-    let K = c.args.known.now in
+    let C = context c.args.environment.scope.now in
+    let V = var_sorts c.args.environment.vars.now in
+    let K = c.args.environment.known.now in
     let w = wanted c.args.want in
     let h : IfOk c.computed.result (λ x. Tells boxed x c.args.faults.now c.computed.new.faults (node_typing C V w K c.args.e.now.span (tree.Bin c.in-Bin.op (expr_tree c.in-Bin.a.value) (expr_tree c.in-Bin.b.value)))) = search (rules, c.computed.ensures) in
     node_says C V w K c.args.e.now (tree.Bin c.in-Bin.op (expr_tree c.in-Bin.a.value) (expr_tree c.in-Bin.b.value)) c.computed.result c.args.faults.now c.computed.new.faults (tree_of c.args.e.now _ _ c.in-Bin.is (expr_node-Bin c.in-Bin.op c.in-Bin.a c.in-Bin.b)) h
 
 pub expression-returns-in-Compare : goal.expression-returns-in-Compare
 expression-returns-in-Compare t c =
-    let C = context c.args.scope.now in
-    let V = var_sorts c.args.vars.now in
-    let K = c.args.known.now in
+    let C = context c.args.environment.scope.now in
+    let V = var_sorts c.args.environment.vars.now in
+    let K = c.args.environment.known.now in
     let w = wanted c.args.want in
     let h : IfOk c.compared.result (λ x. Tells boxed x c.args.faults.now c.compared.new.faults (node_typing C V w K c.args.e.now.span (tree.Compare (expr_tree c.in-Compare.e.value) (comparisons_of (map comparison_tree c.in-Compare.cs))))) = search (rules, c.compared.ensures, c.as_slice.ensures) in
     node_says C V w K c.args.e.now (tree.Compare (expr_tree c.in-Compare.e.value) (comparisons_of (map comparison_tree c.in-Compare.cs))) c.compared.result c.args.faults.now c.compared.new.faults (tree_of c.args.e.now _ _ c.in-Compare.is (expr_node-Compare c.in-Compare.e c.in-Compare.cs)) h
 
 pub expression-returns-in-And : goal.expression-returns-in-And
 expression-returns-in-And t c =
-    let C = context c.args.scope.now in
-    let V = var_sorts c.args.vars.now in
-    let K = c.args.known.now in
+    let C = context c.args.environment.scope.now in
+    let V = var_sorts c.args.environment.vars.now in
+    let K = c.args.environment.known.now in
     let w = wanted c.args.want in
     let h : IfOk c.joined.result (λ x. Tells boxed x c.args.faults.now c.joined.new.faults (node_typing C V w K c.args.e.now.span (tree.And (expr_tree c.in-And.a.value) (expr_tree c.in-And.b.value)))) = search (rules, c.joined.ensures) in
     node_says C V w K c.args.e.now (tree.And (expr_tree c.in-And.a.value) (expr_tree c.in-And.b.value)) c.joined.result c.args.faults.now c.joined.new.faults (tree_of c.args.e.now _ _ c.in-And.is (expr_node-And c.in-And.a c.in-And.b)) h
 
 pub expression-returns-in-Or : goal.expression-returns-in-Or
 expression-returns-in-Or t c =
-    let C = context c.args.scope.now in
-    let V = var_sorts c.args.vars.now in
-    let K = c.args.known.now in
+    let C = context c.args.environment.scope.now in
+    let V = var_sorts c.args.environment.vars.now in
+    let K = c.args.environment.known.now in
     let w = wanted c.args.want in
     let h : IfOk c.joined-in-Or.result (λ x. Tells boxed x c.args.faults.now c.joined-in-Or.new.faults (node_typing C V w K c.args.e.now.span (tree.Or (expr_tree c.in-Or.a.value) (expr_tree c.in-Or.b.value)))) = search (rules, c.joined-in-Or.ensures) in
     node_says C V w K c.args.e.now (tree.Or (expr_tree c.in-Or.a.value) (expr_tree c.in-Or.b.value)) c.joined-in-Or.result c.args.faults.now c.joined-in-Or.new.faults (tree_of c.args.e.now _ _ c.in-Or.is (expr_node-Or c.in-Or.a c.in-Or.b)) h
 
 pub expression-returns-in-Cond : goal.expression-returns-in-Cond
 expression-returns-in-Cond t c =
-    let C = context c.args.scope.now in
-    let V = var_sorts c.args.vars.now in
-    let K = c.args.known.now in
+    let C = context c.args.environment.scope.now in
+    let V = var_sorts c.args.environment.vars.now in
+    let K = c.args.environment.known.now in
     let w = wanted c.args.want in
     let h : IfOk c.chosen.result (λ x. Tells boxed x c.args.faults.now c.chosen.new.faults (node_typing C V w K c.args.e.now.span (tree.Cond (expr_tree c.in-Cond.a.value) (expr_tree c.in-Cond.t.value) (expr_tree c.in-Cond.b.value)))) = search (rules, c.chosen.ensures) in
     node_says C V w K c.args.e.now (tree.Cond (expr_tree c.in-Cond.a.value) (expr_tree c.in-Cond.t.value) (expr_tree c.in-Cond.b.value)) c.chosen.result c.args.faults.now c.chosen.new.faults (tree_of c.args.e.now _ _ c.in-Cond.is (expr_node-Cond c.in-Cond.a c.in-Cond.t c.in-Cond.b)) h
 
 pub expression-returns-in-List : goal.expression-returns-in-List
 expression-returns-in-List t c =
-    let C = context c.args.scope.now in
-    let V = var_sorts c.args.vars.now in
-    let K = c.args.known.now in
+    let C = context c.args.environment.scope.now in
+    let V = var_sorts c.args.environment.vars.now in
+    let K = c.args.environment.known.now in
     let w = wanted c.args.want in
     let h : IfOk c.list.result (λ x. Tells boxed x c.args.faults.now c.list.new.faults (node_typing C V w K c.args.e.now.span (tree.ListOf (exprs_of (map expr_tree c.in-List.es))))) = search (rules, c.list.ensures, c.as_slice-in-List.ensures) in
     node_says C V w K c.args.e.now (tree.ListOf (exprs_of (map expr_tree c.in-List.es))) c.list.result c.args.faults.now c.list.new.faults (tree_of c.args.e.now _ _ c.in-List.is (expr_node-List c.in-List.es)) h
 
 pub expression-returns-in-Tuple : goal.expression-returns-in-Tuple
 expression-returns-in-Tuple t c =
-    let C = context c.args.scope.now in
-    let V = var_sorts c.args.vars.now in
-    let K = c.args.known.now in
+    let C = context c.args.environment.scope.now in
+    let V = var_sorts c.args.environment.vars.now in
+    let K = c.args.environment.known.now in
     let w = wanted c.args.want in
     let h : IfOk c.tuple.result (λ x. Tells boxed x c.args.faults.now c.tuple.new.faults (node_typing C V w K c.args.e.now.span (tree.TupleOf (exprs_of (map expr_tree c.in-Tuple.es))))) = search (rules, c.tuple.ensures, c.as_slice-in-Tuple.ensures) in
     node_says C V w K c.args.e.now (tree.TupleOf (exprs_of (map expr_tree c.in-Tuple.es))) c.tuple.result c.args.faults.now c.tuple.new.faults (tree_of c.args.e.now _ _ c.in-Tuple.is (expr_node-Tuple c.in-Tuple.es)) h
 
 pub expression-returns-in-Dict : goal.expression-returns-in-Dict
 expression-returns-in-Dict t c =
-    let C = context c.args.scope.now in
-    let V = var_sorts c.args.vars.now in
-    let K = c.args.known.now in
+    let C = context c.args.environment.scope.now in
+    let V = var_sorts c.args.environment.vars.now in
+    let K = c.args.environment.known.now in
     let w = wanted c.args.want in
     let h : IfOk c.dict.result (λ x. Tells boxed x c.args.faults.now c.dict.new.faults (node_typing C V w K c.args.e.now.span (tree.DictOf (entries_of (map entry_tree c.in-Dict.es))))) = search (rules, c.dict.ensures, c.as_slice-in-Dict.ensures) in
     node_says C V w K c.args.e.now (tree.DictOf (entries_of (map entry_tree c.in-Dict.es))) c.dict.result c.args.faults.now c.dict.new.faults (tree_of c.args.e.now _ _ c.in-Dict.is (expr_node-Dict c.in-Dict.es)) h
 
 pub expression-returns-in-Index : goal.expression-returns-in-Index
 expression-returns-in-Index t c =
-    let C = context c.args.scope.now in
-    let V = var_sorts c.args.vars.now in
-    let K = c.args.known.now in
+    let C = context c.args.environment.scope.now in
+    let V = var_sorts c.args.environment.vars.now in
+    let K = c.args.environment.known.now in
     let w = wanted c.args.want in
     let h : IfOk c.indexed.result (λ x. Tells boxed x c.args.faults.now c.indexed.new.faults (node_typing C V w K c.args.e.now.span (tree.Index (expr_tree c.in-Index.e.value) (expr_tree c.in-Index.i.value)))) = search (rules, c.indexed.ensures) in
     node_says C V w K c.args.e.now (tree.Index (expr_tree c.in-Index.e.value) (expr_tree c.in-Index.i.value)) c.indexed.result c.args.faults.now c.indexed.new.faults (tree_of c.args.e.now _ _ c.in-Index.is (expr_node-Index c.in-Index.e c.in-Index.i)) h
 
 pub expression-returns-in-Attr : goal.expression-returns-in-Attr
 expression-returns-in-Attr t c =
-    let C = context c.args.scope.now in
-    let V = var_sorts c.args.vars.now in
-    let K = c.args.known.now in
+    let C = context c.args.environment.scope.now in
+    let V = var_sorts c.args.environment.vars.now in
+    let K = c.args.environment.known.now in
     let w = wanted c.args.want in
     let h : IfOk c.member.result (λ x. Tells boxed x c.args.faults.now c.member.new.faults (node_typing C V w K c.args.e.now.span (tree.Attr (expr_tree c.in-Attr.e.value) c.in-Attr.a))) = search (rules, c.member.ensures) in
     node_says C V w K c.args.e.now (tree.Attr (expr_tree c.in-Attr.e.value) c.in-Attr.a) c.member.result c.args.faults.now c.member.new.faults (tree_of c.args.e.now _ _ c.in-Attr.is (expr_node-Attr c.in-Attr.e c.in-Attr.a)) h
 
 pub expression-returns-in-Call : goal.expression-returns-in-Call
 expression-returns-in-Call t c =
-    let C = context c.args.scope.now in
-    let V = var_sorts c.args.vars.now in
-    let K = c.args.known.now in
+    let C = context c.args.environment.scope.now in
+    let V = var_sorts c.args.environment.vars.now in
+    let K = c.args.environment.known.now in
     let w = wanted c.args.want in
     let h : IfOk c.call.result (λ x. Tells boxed x c.args.faults.now c.call.new.faults (node_typing C V w K c.args.e.now.span (tree.Call (expr_tree c.in-Call.f.value) (arguments_of (map arg_tree c.in-Call.args))))) = search (rules, c.call.ensures, c.as_slice-in-Call.ensures) in
     node_says C V w K c.args.e.now (tree.Call (expr_tree c.in-Call.f.value) (arguments_of (map arg_tree c.in-Call.args))) c.call.result c.args.faults.now c.call.new.faults (tree_of c.args.e.now _ _ c.in-Call.is (expr_node-Call c.in-Call.f c.in-Call.args)) h
 
 pub tuple-returns : goal.tuple-returns
 tuple-returns t c =
-    let C = context c.args.scope.now in
-    let V = var_sorts c.args.vars.now in
-    let K = c.args.known.now in
+    let C = context c.args.environment.scope.now in
+    let V = var_sorts c.args.environment.vars.now in
+    let K = c.args.environment.known.now in
     let w = wanted c.args.want in
     let xs = exprs_of (map expr_tree c.args.es.now) in
     let R = displays.parts_row w (count xs) in
@@ -205,25 +205,25 @@ tuple-returns t c =
 
 pub part-returns-then-is_named : goal.part-returns-then-is_named
 part-returns-then-is_named t c =
-    let C = context c.args.scope.now in
-    let V = var_sorts c.args.vars.now in
-    let K = c.args.known.now in
+    let C = context c.args.environment.scope.now in
+    let V = var_sorts c.args.environment.vars.now in
+    let K = c.args.environment.known.now in
     let P : Seen TypedExpr → Type 0 = λ s. IfOk c.receiver.result (λ x. Tells boxed x c.args.faults.now c.receiver.new.faults s) in
     subst P (sym (named_part C V free K c.args.f.now (sym c.is_named.ensures ∙ c.if-is_named.true))) c.receiver.ensures
 
 pub part-returns-else-is_named : goal.part-returns-else-is_named
 part-returns-else-is_named t c =
-    let C = context c.args.scope.now in
-    let V = var_sorts c.args.vars.now in
-    let K = c.args.known.now in
+    let C = context c.args.environment.scope.now in
+    let V = var_sorts c.args.environment.vars.now in
+    let K = c.args.environment.known.now in
     let P : Seen TypedExpr → Type 0 = λ s. IfOk c.expression.result (λ x. Tells boxed x c.args.faults.now c.expression.new.faults s) in
     subst P (sym (value_part C V free K c.args.f.now (sym c.is_named.ensures ∙ c.if-is_named.false))) c.expression.ensures
 
 pub compared-returns : goal.compared-returns
 compared-returns t c =
-    let C = context c.args.scope.now in
-    let V = var_sorts c.args.vars.now in
-    let K = c.args.known.now in
+    let C = context c.args.environment.scope.now in
+    let V = var_sorts c.args.environment.vars.now in
+    let K = c.args.environment.known.now in
     let cs = comparisons_of (map comparison_tree c.args.cs.now) in
     let s = typing C V free K (expr_tree c.args.e.now) in
     let rest = (operands C V K cs).said in
@@ -233,9 +233,9 @@ compared-returns t c =
 
 pub operands-loop-op-preserved : goal.operands-loop-op-preserved
 operands-loop-op-preserved t c =
-    let C = context c.args.scope.now in
-    let V = var_sorts c.args.vars.now in
-    let K = c.args.known.now in
+    let C = context c.args.environment.scope.now in
+    let V = var_sorts c.args.environment.vars.now in
+    let K = c.args.environment.known.now in
     let xs = c.args.cs.now in
     let i = c.loop-op.op-index in
     let p = c.loop-op-item.result in
@@ -259,9 +259,9 @@ operands-loop-op-preserved t c =
 
 pub items-loop-i-init : goal.items-loop-i-init
 items-loop-i-init t c =
-    let C = context c.args.scope.now in
-    let V = var_sorts c.args.vars.now in
-    let K = c.args.known.now in
+    let C = context c.args.environment.scope.now in
+    let V = var_sorts c.args.environment.vars.now in
+    let K = c.args.environment.known.now in
     let R = row c.args.asked in
     let old = c.args.faults.now in
     let xs = c.args.es.now in
@@ -272,9 +272,9 @@ items-loop-i-init t c =
 
 pub items-loop-i-preserved : goal.items-loop-i-preserved
 items-loop-i-preserved t c =
-    let C = context c.args.scope.now in
-    let V = var_sorts c.args.vars.now in
-    let K = c.args.known.now in
+    let C = context c.args.environment.scope.now in
+    let V = var_sorts c.args.environment.vars.now in
+    let K = c.args.environment.known.now in
     let R = row c.args.asked in
     let xs = c.args.es.now in
     let i = c.loop-i.i in
@@ -292,9 +292,9 @@ items-loop-i-preserved t c =
 
 pub entries-loop-k-init : goal.entries-loop-k-init
 entries-loop-k-init t c =
-    let C = context c.args.scope.now in
-    let V = var_sorts c.args.vars.now in
-    let K = c.args.known.now in
+    let C = context c.args.environment.scope.now in
+    let V = var_sorts c.args.environment.vars.now in
+    let K = c.args.environment.known.now in
     let o = option_map entry_types c.args.expected in
     let old = c.args.faults.now in
     let xs = c.args.es.now in
@@ -305,9 +305,9 @@ entries-loop-k-init t c =
 
 pub entries-loop-k-preserved : goal.entries-loop-k-preserved
 entries-loop-k-preserved t c =
-    let C = context c.args.scope.now in
-    let V = var_sorts c.args.vars.now in
-    let K = c.args.known.now in
+    let C = context c.args.environment.scope.now in
+    let V = var_sorts c.args.environment.vars.now in
+    let K = c.args.environment.known.now in
     let o = option_map entry_types c.args.expected in
     let xs = c.args.es.now in
     let i = c.loop-k.k-index in
@@ -331,9 +331,9 @@ entries-loop-k-preserved t c =
 
 pub arguments-loop-i-init : goal.arguments-loop-i-init
 arguments-loop-i-init t c =
-    let C = context c.args.scope.now in
-    let V = var_sorts c.args.vars.now in
-    let K = c.args.known.now in
+    let C = context c.args.environment.scope.now in
+    let V = var_sorts c.args.environment.vars.now in
+    let K = c.args.environment.known.now in
     let R = row c.args.asked in
     let old = c.args.faults.now in
     let xs = c.args.args.now in
@@ -344,9 +344,9 @@ arguments-loop-i-init t c =
 
 pub arguments-loop-i-preserved : goal.arguments-loop-i-preserved
 arguments-loop-i-preserved t c =
-    let C = context c.args.scope.now in
-    let V = var_sorts c.args.vars.now in
-    let K = c.args.known.now in
+    let C = context c.args.environment.scope.now in
+    let V = var_sorts c.args.environment.vars.now in
+    let K = c.args.environment.known.now in
     let R = row c.args.asked in
     let xs = c.args.args.now in
     let i = c.loop-i.i in

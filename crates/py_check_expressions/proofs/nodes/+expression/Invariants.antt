@@ -80,24 +80,24 @@ decreases-arguments l = most size-Arg l.args.now * 3
 
 abbrev pub invariant-operands-loop-op : goal.invariant-operands-loop-op
 invariant-operands-loop-op l = record {
-  each : map maybe_pair l.found ++ each_operand (context l.scope) (var_sorts l.vars) l.known (comparisons_of (map comparison_tree (drop l.op-index l.cs))) ≡ each_operand (context l.scope) (var_sorts l.vars) l.known (comparisons_of (map comparison_tree l.cs));
-  told : l.fn.faults ++ (operands (context l.scope) (var_sorts l.vars) l.known (comparisons_of (map comparison_tree l.cs))).said ≡ l.faults ++ (operands (context l.scope) (var_sorts l.vars) l.known (comparisons_of (map comparison_tree (drop l.op-index l.cs)))).said;
+  each : map maybe_pair l.found ++ each_operand (context l.environment.scope.now) (var_sorts l.environment.vars.now) l.environment.known.now (comparisons_of (map comparison_tree (drop l.op-index l.cs))) ≡ each_operand (context l.environment.scope.now) (var_sorts l.environment.vars.now) l.environment.known.now (comparisons_of (map comparison_tree l.cs));
+  told : l.fn.faults ++ (operands (context l.environment.scope.now) (var_sorts l.environment.vars.now) l.environment.known.now (comparisons_of (map comparison_tree l.cs))).said ≡ l.faults ++ (operands (context l.environment.scope.now) (var_sorts l.environment.vars.now) l.environment.known.now (comparisons_of (map comparison_tree (drop l.op-index l.cs)))).said;
 }
 
 abbrev pub invariant-items-loop-i : goal.invariant-items-loop-i
 invariant-items-loop-i l =
     Remains (option_map (map typed_expr) l.found) l.fn.faults l.faults
-    (items (context l.scope) (var_sorts l.vars) (row l.asked) 0 l.known (exprs_of (map expr_tree l.es)))
-    (items (context l.scope) (var_sorts l.vars) (row l.asked) l.i l.known (exprs_of (map expr_tree (drop l.i l.es))))
+    (items (context l.environment.scope.now) (var_sorts l.environment.vars.now) (row l.asked) 0 l.environment.known.now (exprs_of (map expr_tree l.es)))
+    (items (context l.environment.scope.now) (var_sorts l.environment.vars.now) (row l.asked) l.i l.environment.known.now (exprs_of (map expr_tree (drop l.i l.es))))
 
 abbrev pub invariant-entries-loop-k : goal.invariant-entries-loop-k
 invariant-entries-loop-k l =
     Remains (option_map (map typed_entry) l.found) l.fn.faults l.faults
-    (entries (context l.scope) (var_sorts l.vars) (key_wanted (option_map entry_types l.expected)) (value_wanted (option_map entry_types l.expected)) l.known (entries_of (map entry_tree l.es)))
-    (entries (context l.scope) (var_sorts l.vars) (key_wanted (option_map entry_types l.expected)) (value_wanted (option_map entry_types l.expected)) l.known (entries_of (map entry_tree (drop l.k-index l.es))))
+    (entries (context l.environment.scope.now) (var_sorts l.environment.vars.now) (key_wanted (option_map entry_types l.expected)) (value_wanted (option_map entry_types l.expected)) l.environment.known.now (entries_of (map entry_tree l.es)))
+    (entries (context l.environment.scope.now) (var_sorts l.environment.vars.now) (key_wanted (option_map entry_types l.expected)) (value_wanted (option_map entry_types l.expected)) l.environment.known.now (entries_of (map entry_tree (drop l.k-index l.es))))
 
 abbrev pub invariant-arguments-loop-i : goal.invariant-arguments-loop-i
 invariant-arguments-loop-i l =
     Remains (option_map (map typed_expr) l.found) l.fn.faults l.faults
-    (arguments (context l.scope) (var_sorts l.vars) (row l.asked) 0 l.known (arguments_of (map arg_tree l.args)))
-    (arguments (context l.scope) (var_sorts l.vars) (row l.asked) l.i l.known (arguments_of (map arg_tree (drop l.i l.args))))
+    (arguments (context l.environment.scope.now) (var_sorts l.environment.vars.now) (row l.asked) 0 l.environment.known.now (arguments_of (map arg_tree l.args)))
+    (arguments (context l.environment.scope.now) (var_sorts l.environment.vars.now) (row l.asked) l.i l.environment.known.now (arguments_of (map arg_tree (drop l.i l.args))))
