@@ -72,19 +72,17 @@ pub fn expression(
         ExprKind::Neg(e) => negated(alloc, environment, span, e, faults),
         ExprKind::Plus(e) => affirmed(alloc, environment, span, e, faults),
         ExprKind::Not(e) => inverted(alloc, environment, span, e, faults),
-        ExprKind::Bin(op, a, b) => { computed(alloc, environment, span, *op, a, b, faults) }
-        ExprKind::Compare(e, cs) => { compared(alloc, environment, span, e, cs.as_slice(), faults) }
-        ExprKind::And(a, b) => { joined(alloc, environment, want, span, true, a, b, faults) }
-        ExprKind::Or(a, b) => { joined(alloc, environment, want, span, false, a, b, faults) }
+        ExprKind::Bin(op, a, b) => computed(alloc, environment, span, *op, a, b, faults),
+        ExprKind::Compare(e, cs) => compared(alloc, environment, span, e, cs.as_slice(), faults),
+        ExprKind::And(a, b) => joined(alloc, environment, want, span, true, a, b, faults),
+        ExprKind::Or(a, b) => joined(alloc, environment, want, span, false, a, b, faults),
         ExprKind::Cond(a, t, b) => chosen(alloc, environment, want, span, a, t, b, faults),
         ExprKind::List(es) => list(alloc, environment, want, span, es.as_slice(), faults),
         ExprKind::Tuple(es) => tuple(alloc, environment, want, span, es.as_slice(), faults),
         ExprKind::Dict(es) => dict(alloc, environment, want, span, es.as_slice(), faults),
         ExprKind::Index(e, i) => indexed(alloc, environment, span, e, i, faults),
         ExprKind::Attr(e, a) => member(alloc, environment, span, e, a, faults),
-        ExprKind::Call(f, args) => {
-            call(alloc, environment, want, span, f, args.as_slice(), faults)
-        }
+        ExprKind::Call(f, args) => call(alloc, environment, want, span, f, args.as_slice(), faults),
     }
 }
 
