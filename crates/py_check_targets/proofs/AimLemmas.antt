@@ -49,10 +49,6 @@ from_first : (parts : Option (List Sort)) → parts_from zero parts ≡ parts
 from_first None = refl
 from_first (Some ts) = ap Some (drop_none ts)
 
-pub mapped_there : {A B : Type 0} (f : A → B) (o : Option A) → is_some (option_map f o) ≡ is_some o
-mapped_there f None = refl
-mapped_there f (Some a) = refl
-
 -- ---- the targets
 
 trees_at : (leaves : List (Bor Expr)) (i : ℕ) (e : Bor Expr) → i < length leaves → e ≡ get_or leaves i e → trees (drop i leaves) ≡ expr_tree e.now ∷ trees (drop (i + 1) leaves)

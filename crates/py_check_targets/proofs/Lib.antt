@@ -1,2 +1,4 @@
 pub mod AimLemmas
 pub mod PlaceLemmas
+pub mod LookLemmas
+pub mod SeenLemmas

@@ -2,10 +2,11 @@
 --
 -- A target is a name, an item, or a flat tuple of these. The rule of an item, which is an expression, is asked before that of the
 -- assignment. No name of a target is read by it. Where a target is a variable without a type nothing is said of what holds it.
--- Targets are bound one behind the other, so an item is looked at with what is known once the names before it are bound. Where each
--- of the targets has a type already, the value is asked for these. Else it is asked for nothing, and the targets are looked at with
--- what its parts make known.
-use Rattle.std.specs.Prelude.{ℕ, Bool, true, false, not, ◌&&◌, if◌then◌else◌, List, [], ◌∷◌, ◌++◌, length, Option, Some, None, is_some, unwrap_or, Result, Ok, Err}
+-- The value is asked for the types of its targets, where each of these has one before anything is known of the value, and else for
+-- nothing. Then the targets are bound one behind the other, so an item is looked at with what is known once the names before it are
+-- bound to their parts. The value has to fit both what its targets are then and what it was asked for: a tuple display that does not
+-- fit what it was asked for may have an item None, which no other tuple has.
+use Rattle.std.specs.Prelude.{ℕ, Bool, true, false, not, ◌&&◌, if◌then◌else◌, List, [], ◌∷◌, ◌++◌, length, Option, Some, None, unwrap_or, Result, Ok, Err}
 use Rattle.std.specs.List.{list_all, flat_map}
 use Rattle.std.specs.Option.{option_map}
 use Rattle.std.specs.Map.{lookup}
@@ -131,11 +132,6 @@ more_parts None = None
 more_parts (Some []) = Some []
 more_parts (Some (t ∷ ts)) = Some ts
 
--- targets that have their types before anything is known of the value ask it for these and keep them; else they are what they are
--- behind the value
-abbrev pub settled : Bool → Seen (List Aim) → Seen (List Aim) → Seen (List Aim)
-settled several early late = if is_some (asked_sort several early.got) then early else late
-
 -- ---- a value for targets
 
 abbrev pub targets_of : List Aim → List TypedTarget
@@ -171,21 +167,35 @@ abbrev pub several_fault : List ClassEntry → List Aim → Sort → Option Mess
 several_fault classes aims t =
     first_of (unpacking_fault classes aims t) (parts_fault classes [] aims (some_parts (items_for t (length aims))))
 
+-- a value that was asked for the types of its targets has to fit these too, part by part
+abbrev pub unfit_fault : List ClassEntry → List Sort → List Sort → Option Message
+unfit_fault classes (t ∷ ts) (s ∷ ss) = first_of (again_fault classes (Some t) s) (unfit_fault classes ts ss)
+unfit_fault classes ts ss = None
+
+-- for so many targets
+abbrev pub asked_fault : List ClassEntry → ℕ → Option Sort → Sort → Option Message
+asked_fault classes n None s = None
+asked_fault classes n (Some t) s = unfit_fault classes (some_parts (items_for t n)) (some_parts (items_for s n))
+
+-- what is wrong where a value that was asked for this, if for anything, is bound to several targets
+abbrev pub taking_fault : List ClassEntry → Option Sort → List Aim → Sort → Option Message
+taking_fault classes asked aims s = first_of (several_fault classes aims s) (asked_fault classes (length aims) asked s)
+
 abbrev pub one_assigned : List ClassEntry → List Aim → TypedExpr → Result TypedExpr Message
 one_assigned classes (a ∷ []) e = assignment classes a e
 one_assigned classes aims e = Err no_target
 
-abbrev pub value_assigned : List ClassEntry → Bool → List Aim → TypedExpr → Result TypedExpr Message
-value_assigned classes several aims e = if several then unless (several_fault classes aims (type_of e)) e else one_assigned classes aims e
+abbrev pub value_assigned : List ClassEntry → Bool → Option Sort → List Aim → TypedExpr → Result TypedExpr Message
+value_assigned classes several asked aims e = if several then unless (taking_fault classes asked aims (type_of e)) e else one_assigned classes aims e
 
 abbrev pub act_of : List TypedTarget → Result TypedExpr Message → Result TypedAct Message
 act_of ts (Ok e) = Ok (act.Assign ts e)
 act_of ts (Err m) = Err m
 
--- of the targets and the value
-abbrev pub assigned : List ClassEntry → ExprTree → List Aim × TypedExpr → Result TypedAct Message
-assigned classes target p =
-    if are_placed (is_flat target) p.0 then act_of (targets_of p.0) (value_assigned classes (is_row target) p.0 p.1)
+-- of the targets and the value, which was asked for this, if for anything
+abbrev pub assigned : List ClassEntry → ExprTree → Option Sort → List Aim × TypedExpr → Result TypedAct Message
+assigned classes target asked p =
+    if are_placed (is_flat target) p.0 then act_of (targets_of p.0) (value_assigned classes (is_row target) asked p.0 p.1)
     else Err no_target
 
 -- ---- an annotation
@@ -247,13 +257,9 @@ module _ (c : Context) where
   abbrev pub target_aims : Known → ExprTree → Seen (List Aim)
   target_aims k target = aims k None (leaves target)
 
-  -- and behind a value of this type, if it has one
+  -- and as a value of this type, if it has one, is bound to them
   abbrev pub aims_behind : Known → ExprTree → Option Sort → Seen (List Aim)
   aims_behind k target t = aims k (Some (parts_of (is_row target) (length (leaves target)) t)) (leaves target)
-
-  -- as the value is bound to them
-  abbrev pub bound_aims : Known → ExprTree → Option Sort → Seen (List Aim)
-  bound_aims k target t = settled (is_row target) (target_aims k target) (aims_behind k target t)
 
   -- one that was read
   abbrev pub read_aim : Known → Option (List ℕ) → Bool → TypedExpr → Aim

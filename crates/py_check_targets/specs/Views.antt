@@ -1,13 +1,12 @@
--- What targets on the heap, statements and new names stand for, and what is left of the parts of a value.
+-- What targets, types and statements on the heap and new names stand for, and what is left of the parts of a value.
 use Rattle.std.specs.Prelude.{ℕ, List, map, drop, Option}
 use Rattle.std.specs.Option.{option_map}
 use Rattle.std.specs.declared.boxed.Box.{Box}
 use Rattle.std.specs.declared.alloc.Global.{Global}
-use Rattle.py_syntax_diagnostics.specs.declared.diagnostic.Diag.{Diag}
 use Rattle.py_typed.specs.declared.statement.TStmtKind.{TStmtKind}
+use Rattle.py_typed.specs.declared.types.Ty.{Ty}
 use Rattle.py_typed.specs.Sorts.{Sort, sort}
 use Rattle.py_typed.specs.Statements.{TypedAct, typed_act}
-use Rattle.py_check_messages.specs.Seen.{Seen}
 use Rattle.py_check_values.specs.declared.aims.Aim as declared
 use Rattle.py_check_values.specs.Aims.{Aim, aim_seen}
 use Rattle.py_check_targets.specs.declared.several.NewName.{NewName}
@@ -15,9 +14,8 @@ use Rattle.py_check_targets.specs.declared.several.NewName.{NewName}
 abbrev pub boxed_aim : Box declared.Aim Global → Aim
 boxed_aim a = aim_seen a.value
 
--- targets, and what was said of them
-abbrev pub aims_seen : Option (List declared.Aim) → List Diag → Seen (List Aim)
-aims_seen found said = record { got = option_map (map aim_seen) found; said = said }
+abbrev pub boxed_sort : Box Ty Global → Sort
+boxed_sort t = sort t.value
 
 abbrev pub boxed_act : Box TStmtKind Global → TypedAct
 boxed_act a = typed_act a.value

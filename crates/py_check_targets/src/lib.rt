@@ -7,8 +7,6 @@ mod several;
 mod targets;
 mod values;
 
-pub use several::binds_several;
-pub use targets::{
-    aims_behind, bound_aims, in_box, name_aim, put_behind, target_aims, typed_at, value_aim,
-};
-pub use values::{value_for, value_type};
+pub use several::{binds_several, takes_several};
+pub use targets::{aims_behind, in_box, name_aim, put_behind, target_aims, typed_at, value_aim};
+pub use values::{asked_type, value_asked, value_type};

@@ -37,6 +37,66 @@ pub fn binds_several(
     fit_parts(alloc, classes, span, aims, parts, faults)
 }
 
+/// The same of a value that was asked for this type, if for any: it has to fit it too.
+pub fn takes_several(
+    alloc: Global,
+    classes: &Classes,
+    span: Span,
+    asked: Option<&Ty>,
+    aims: &[Aim<'_>],
+    t: &Ty,
+    faults: &mut Many<Diag>,
+) -> Result<bool, Memory>
+    ensures { IfOk result (λ right. Finds right faults.old faults.new span (rule_of.taking_fault (map class_entry classes.now.list) (option_map sort (option_copied asked.entry)) (map aim_seen aims.now) (sort t.now))) }
+{
+    if !binds_several(alloc, classes, span, aims, t, faults)? {
+        return Ok(false);
+    }
+    fits_asked(alloc, classes, span, aims.len(), asked, t, faults)
+}
+
+// Whether a value of a type fits what it was asked for, part by part for so many targets.
+fn fits_asked(
+    alloc: Global,
+    classes: &Classes,
+    span: Span,
+    count: usize,
+    asked: Option<&Ty>,
+    t: &Ty,
+    faults: &mut Many<Diag>,
+) -> Result<bool, Memory>
+    ensures { IfOk result (λ right. Finds right faults.old faults.new span (rule_of.asked_fault (map class_entry classes.now.list) count (option_map sort (option_copied asked.entry)) (sort t.now))) }
+{
+    let Some(asked) = asked else {
+        return Ok(true);
+    };
+    let asked = some_parts(items_for(asked, count));
+    let parts = some_parts(items_for(t, count));
+    fit_each(alloc, classes, span, asked, parts, faults)
+}
+
+// Whether each part fits its type; the first that does not is said.
+fn fit_each(
+    alloc: Global,
+    classes: &Classes,
+    span: Span,
+    types: &[Ty],
+    parts: &[Ty],
+    faults: &mut Many<Diag>,
+) -> Result<bool, Memory>
+    ensures { IfOk result (λ right. Finds right faults.old faults.new span (rule_of.unfit_fault (map class_entry classes.now.list) (map sort types.now) (map sort parts.now))) }
+{
+    for (i, t) in types.iter().enumerate() {
+        let Some(s) = parts.get(i) else {
+            return Ok(true);
+        };
+        if !fits_again(alloc, classes, span, Some(t), s, faults)? {
+            return Ok(false);
+        }
+    }
+    Ok(true)
+}
+
 /// A new name, with the type of the part that it takes.
 #[derive(Clone, Copy)]
 pub(crate) struct NewName<'a> {

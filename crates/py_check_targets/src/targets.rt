@@ -13,12 +13,10 @@ ghost use Rattle.py_check_coercions.specs.Boxes.{boxed};
 ghost use Rattle.py_check_values.specs.Aims.{aim_seen};
 ghost use Rattle.py_check_places.specs.Places as places;
 ghost use Rattle.py_check_places.specs.Places.{with_names};
-ghost use Rattle.py_check_places.specs.Shapes as shapes;
 ghost use Rattle.py_check_targets.specs.Targets as rule_of;
 ghost use Rattle.py_check_places.specs.Views.{known_at, trees};
-ghost use Rattle.py_check_targets.specs.Views.{boxed_aim, aims_seen, parts_from};
+ghost use Rattle.py_check_targets.specs.Views.{boxed_aim, parts_from};
 
-use crate::values::asks;
 use py_check_context::{Context, Meaning, VarType, Want, meaning_of};
 use py_check_expressions::{Environment, expression};
 use py_check_flow::name_in;
@@ -252,7 +250,7 @@ pub fn target_aims<'a>(
     aims(alloc, scope, place, None, targets.as_slice(), faults)
 }
 
-/// The single targets of a target, each by what it is, behind a value of this type, if it has one.
+/// The single targets of a target, each by what it is, as a value of this type, if it has one, is bound to them.
 pub fn aims_behind<'a>(
     alloc: Global,
     scope: &Context<'_>,
@@ -266,29 +264,6 @@ pub fn aims_behind<'a>(
     let targets = leaves(alloc, target)?;
     let parts = parts_of(is_row(target), targets.len(), t);
     aims(alloc, scope, place, Some(parts), targets.as_slice(), faults)
-}
-
-/// The single targets of a target as a value of this type, if it has one, is bound to them: those that were looked at before it,
-/// with what was said of them, or, where not each of these has a type, those behind the value.
-pub fn bound_aims<'a>(
-    alloc: Global,
-    scope: &Context<'_>,
-    place: &Place,
-    target: &'a Expr,
-    early: Option<Many<Aim<'a>>>,
-    said: Many<Diag>,
-    t: Option<&Ty>,
-    faults: &mut Many<Diag>,
-) -> Result<Option<Many<Aim<'a>>>, Memory>
-    ensures { IfOk result (λ found. Tells (map aim_seen) found faults.old faults.new (rule_of.settled (shapes.is_row (expr_tree target.now)) (aims_seen early.entry said) (rule_of.aims_behind (context scope.now) (known_at place.now) (expr_tree target.now) (option_map sort (option_copied t.entry))))) }
-{
-    if asks(is_row(target), &early) {
-        put_behind(faults, said)?;
-        return Ok(early);
-    }
-    drop(early);
-    drop(said);
-    aims_behind(alloc, scope, place, target, t, faults)
 }
 
 /// Diagnostics behind others.

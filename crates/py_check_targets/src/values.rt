@@ -1,5 +1,5 @@
 //! Values that are assigned, and what targets ask of them.
-ghost use Rattle.std.specs.Prelude.{◌≡◌, ◌∷◌, [], map, is_some, IfOk};
+ghost use Rattle.std.specs.Prelude.{◌≡◌, ◌∷◌, [], map, IfOk};
 ghost use Rattle.std.specs.Option.{option_map, option_copied};
 ghost use Rattle.py_syntax.specs.Expressions.{expr_tree};
 ghost use Rattle.py_typed.specs.Sorts.{sort};
@@ -10,6 +10,7 @@ ghost use Rattle.py_check_coercions.specs.Boxes.{boxed};
 ghost use Rattle.py_check_targets.specs.Targets as rule_of;
 ghost use Rattle.py_check_places.specs.Views.{known_at};
 ghost use Rattle.py_check_values.specs.Aims.{aim_seen};
+ghost use Rattle.py_check_targets.specs.Views.{boxed_sort};
 
 use crate::targets::typed_at;
 use py_check_context::{Context, Want};
@@ -21,23 +22,18 @@ use py_typed::{TExpr, Ty, copy_of};
 use std::alloc::Global;
 use value_core::{Many, Memory};
 
-/// A value for one target or for several, which ask it for their types.
-pub fn value_for(
+/// A value that is asked for this type, if for any.
+pub fn value_asked(
     alloc: Global,
     scope: &Context<'_>,
     place: &Place,
-    several: bool,
-    aims: &Option<Many<Aim<'_>>>,
+    asked: Option<&Ty>,
     e: &Expr,
     faults: &mut Many<Diag>,
 ) -> Result<Option<Box<TExpr>>, Memory>
-    ensures { IfOk result (λ t. Tells boxed t faults.old faults.new (rule_of.typed_at (context scope.now) (known_at place.now) (rule_of.asked_by several (option_map (map aim_seen) aims.now)) (expr_tree e.now))) }
+    ensures { IfOk result (λ t. Tells boxed t faults.old faults.new (rule_of.typed_at (context scope.now) (known_at place.now) (wants_some (option_map sort (option_copied asked.entry))) (expr_tree e.now))) }
 {
-    let asked = asked_type(alloc, several, aims)?;
-    let want = want_of(asked.as_ref());
-    let value = typed_at(alloc, scope, place, want, e, faults);
-    drop(asked);
-    value
+    typed_at(alloc, scope, place, want_of(asked), e, faults)
 }
 
 // What is asked for by a type, if there is one.
@@ -50,18 +46,21 @@ fn want_of(t: Option<&Ty>) -> Want<'_>
     }
 }
 
-// The type that targets ask for, if each is typed and has one.
-fn asked_type(
+/// The type that one target or several ask their value for, if each is typed and has one.
+pub fn asked_type(
     alloc: Global,
     several: bool,
     aims: &Option<Many<Aim<'_>>>,
-) -> Result<Option<Ty>, Memory>
-    ensures { IfOk result (λ t. option_map sort t ≡ rule_of.asked_sort several (option_map (map aim_seen) aims.now)) }
+) -> Result<Option<Box<Ty>>, Memory>
+    ensures { IfOk result (λ t. option_map boxed_sort t ≡ rule_of.asked_sort several (option_map (map aim_seen) aims.now)) }
 {
-    match aims {
-        Some(aims) => type_for(alloc, several, aims.as_slice()),
-        None => Ok(None),
-    }
+    let Some(aims) = aims else {
+        return Ok(None);
+    };
+    let Some(t) = type_for(alloc, several, aims.as_slice())? else {
+        return Ok(None);
+    };
+    Ok(Some(Box::new(alloc, t)?))
 }
 
 fn type_for(alloc: Global, several: bool, aims: &[Aim<'_>]) -> Result<Option<Ty>, Memory>
@@ -106,48 +105,6 @@ fn held_types(alloc: Global, aims: &[Aim<'_>]) -> Result<Option<Many<Ty>>, Memor
         types.push(copy_of(alloc, t)?)?;
     }
     Ok(Some(types))
-}
-
-/// Whether each target has a type, for which they ask.
-pub(crate) fn asks(several: bool, aims: &Option<Many<Aim<'_>>>) -> bool
-    ensures { result ≡ is_some (rule_of.asked_sort several (option_map (map aim_seen) aims.now)) }
-{
-    match aims {
-        Some(aims) => has_types(several, aims.as_slice()),
-        None => false,
-    }
-}
-
-fn has_types(several: bool, aims: &[Aim<'_>]) -> bool
-    ensures { result ≡ is_some (rule_of.sort_for several (map aim_seen aims.now)) }
-{
-    if several {
-        all_held(aims)
-    } else {
-        one_held(aims)
-    }
-}
-
-fn one_held(aims: &[Aim<'_>]) -> bool
-    ensures { result ≡ is_some (rule_of.single_sort (map aim_seen aims.now)) }
-{
-    match aims {
-        [] => false,
-        [a] => held_type(a).is_some(),
-        [_, _, ..] => false,
-    }
-}
-
-#[tactic(auto, using(crate::proofs::AimLemmas::mapped_there))]
-fn all_held(aims: &[Aim<'_>]) -> bool
-    ensures { result ≡ is_some (option_map rule_of.tuple_sort (rule_of.held_sorts (map aim_seen aims.now))) }
-{
-    for a in aims {
-        if held_type(a).is_none() {
-            return false;
-        }
-    }
-    true
 }
 
 // The type of a target, if it has one.
