@@ -169,7 +169,12 @@ fn single_aim<'a>(
             in_box(alloc, a)
         }
         None => {
-            let t = expression(alloc, scope, &place.types, Want::Free, names, e, faults)?;
+            let environment = Environment {
+                scope,
+                vars: &place.types,
+                known: names,
+            };
+            let t = expression(alloc, environment, Want::Free, e, faults)?;
             let a = aim_of(is_item(e), t);
             in_box(alloc, a)
         }
