@@ -1,23 +1,27 @@
 -- The head of a loop, from what was said of what it goes over and of its targets.
-use Rattle.std.proofs.Common.{◌≡◌, List, [], ◌++◌, map, Option, Result, ap, ◌∙◌, subst, append_assoc}
+use Rattle.std.proofs.Common.{◌≡◌, List, [], ◌++◌, map, Bool, Option, Some, None, is_some, Result, Ok, Err, IfOk, refl, ap, ◌∙◌, subst, append_assoc}
 use Rattle.std.specs.declared.boxed.Box.{Box}
 use Rattle.std.specs.declared.alloc.Global.{Global}
 use Rattle.std.specs.Option.{option_map, option_zip}
+use Rattle.value_core.specs.declared.memory.Memory.{Memory}
 use Rattle.py_syntax.specs.declared.token.Span.{Span}
 use Rattle.py_syntax.specs.Expressions.{ExprTree}
+use Rattle.py_syntax.specs.Statements.{StmtTree}
 use Rattle.py_syntax_diagnostics.specs.declared.diagnostic.Diag.{Diag}
 use Rattle.py_typed.specs.Sorts.{Sort}
+use Rattle.py_typed.specs.Classes.{ClassEntry}
 use Rattle.py_check_context.specs.Context.{Context}
 use Rattle.py_check_messages.specs.Seen.{Seen, Message, Tells, both, made, rule, ruled}
 use Rattle.py_check_values.specs.declared.aims.Aim as declared
-use Rattle.py_check_values.specs.Aims.{aim_seen}
-use Rattle.py_check_places.specs.Places.{Known}
-use Rattle.py_check_places.specs.Shapes.{is_row, is_flat}
+use Rattle.py_check_values.specs.Aims.{Aim, aim_seen}
+use Rattle.py_check_places.specs.Places.{Known, entering}
+use Rattle.py_check_places.specs.Shapes.{is_row, is_flat, bind_target}
 use Rattle.py_check_targets.specs.Targets.{targets_of, aims_behind}
+use Rattle.py_check_targets.proofs.SeenLemmas.{seen_of}
 use Rattle.py_check_loops.specs.declared.course.Course as run
 use Rattle.py_check_loops.specs.declared.head.Head.{Head}
-use Rattle.py_check_loops.specs.Loops.{course, head}
-use Rattle.py_check_loops.specs.Heads.{some_items, for_head}
+use Rattle.py_check_loops.specs.Loops.{Course, course, head}
+use Rattle.py_check_loops.specs.Heads.{some_items, for_head, in_for}
 use Rattle.py_check_loops.specs.Views.{course_seen, boxed_head}
 
 -- two parts and what is made of them, where their rule holds
@@ -31,10 +35,30 @@ made_parts span g f va vb vd s t a b r o0 o1 o2 o3 ta tb tr =
           ∙ ap (λ q. o0 ++ ((s.said ++ t.said) ++ (ruled span f q).said)) z,
     )
 
-pub head_says : (c : Context) (k : Known) (span : Span) (target e : ExprTree) (w : Option run.Course) (said : List Diag) (found : Option (List declared.Aim)) (t : Option Sort) (h : Option (Box Head Global)) (old mid next new : List Diag) → Tells course_seen w [] said (course c k e) → t ≡ some_items (option_map course_seen w) → Tells (map aim_seen) found old mid (aims_behind c k target t) → next ≡ mid ++ said
-    → Tells boxed_head h next new (made (λ p. (targets_of p.0, p.1)) (ruled span (head c.classes (is_flat target) (is_row target)) (option_zip (option_map (map aim_seen) found) (option_map course_seen w)))) → Tells boxed_head h old new (for_head c k span target e)
-head_says c k span target e w said found t h old mid next new first type second put last =
-    let T = aims_behind c k target (some_items (course c k e).got) in
-    made_parts span (λ p. (targets_of p.0, p.1)) (head c.classes (is_flat target) (is_row target)) (map aim_seen) course_seen boxed_head T (course c k e) found w h old mid next new
-    (subst (λ u. Tells (map aim_seen) found old mid (aims_behind c k target u)) (type ∙ ap some_items first.0) second)
-    (first.0, put ∙ ap (λ l. mid ++ l) first.1) last
+-- of targets that were looked at, and of what is gone over, which is put behind them
+pub head_made : (classes : List ClassEntry) (span : Span) (flat several : Bool) (s : Seen (List Aim)) (found : Option (List declared.Aim)) (w : Option run.Course) (said : List Diag) (r : Result (Option (Box Head Global)) Memory) (old mid next new : List Diag) → Tells (map aim_seen) found old mid s → next ≡ mid ++ said
+    → IfOk r (λ h. Tells boxed_head h next new (made (λ p. (targets_of p.0, p.1)) (ruled span (head classes flat several) (option_zip (option_map (map aim_seen) found) (option_map course_seen w)))))
+    → IfOk r (λ h. Tells boxed_head h old new (made (λ p. (targets_of p.0, p.1)) (rule span (head classes flat several) (both s (seen_of (option_map course_seen w) said)))))
+head_made classes span flat several s found w said (Ok h) old mid next new told put last =
+    made_parts span (λ p. (targets_of p.0, p.1)) (head classes flat several) (map aim_seen) course_seen boxed_head s (seen_of (option_map course_seen w) said) found w h old mid next new told (refl, put) last
+head_made classes span flat several s found w said (Err m) old mid next new told put last = tt
+
+-- the head of a `for`, whose targets are looked at where the loop is entered
+pub head_says : (c : Context) (k entered : Known) (s : StmtTree) (span : Span) (target e : ExprTree) (over : Seen Course) (t : Option Sort) (h : Option (Box Head Global)) (old new : List Diag) → over ≡ course c k e → t ≡ some_items over.got → entered ≡ entering c k s
+    → Tells boxed_head h old new (made (λ p. (targets_of p.0, p.1)) (rule span (head c.classes (is_flat target) (is_row target)) (both (aims_behind c entered target t) over))) → Tells boxed_head h old new (for_head c k s span target e)
+head_says c k entered s span target e over t h old new is items entry told =
+    let P : Known → Seen Course → Option Sort → Type 0 = λ l o u. Tells boxed_head h old new (made (λ p. (targets_of p.0, p.1)) (rule span (head c.classes (is_flat target) (is_row target)) (both (aims_behind c l target u) o))) in
+    subst (λ l. P l (course c k e) (some_items (course c k e).got)) entry (subst (λ o. P entered o (some_items o.got)) is (subst (λ u. P entered over u) items told))
+
+some_there : {A B : Type 0} (f : A → B) (o : Option A) → is_some o ≡ is_some (option_map f o)
+some_there f None = refl
+some_there f (Some a) = refl
+
+-- and what is known where its body begins
+pub head_knows : (c : Context) (k entered begun : Known) (s : StmtTree) (span : Span) (target e : ExprTree) (over : Seen Course) (t : Option Sort) (h : Option (Box Head Global)) (there : Bool) (old new : List Diag) → over ≡ course c k e → t ≡ some_items over.got → entered ≡ entering c k s → there ≡ is_some h
+    → Tells boxed_head h old new (for_head c k s span target e) → begun ≡ bind_target c there entered target t → begun ≡ in_for c k s span target e
+head_knows c k entered begun s span target e over t h there old new is items entry has told bound =
+    bound
+    ∙ ap (λ b. bind_target c b entered target t) (has ∙ some_there boxed_head h ∙ ap is_some told.0)
+    ∙ ap (λ l. bind_target c (is_some (for_head c k s span target e).got) l target t) entry
+    ∙ ap (bind_target c (is_some (for_head c k s span target e).got) (entering c k s) target) (items ∙ ap (λ (o : Seen Course). some_items o.got) is)

@@ -1,9 +1,9 @@
 -- The head of a `for`: what it goes over, its targets, and what is known where its body begins (Python Language Reference, "The for
 -- statement").
 --
--- What is gone over is evaluated where the loop is entered, and the names that the loop binds are dropped behind that. All names of
--- the target are bound, whether the head holds or is refused. Nothing is asked of what is gone over, and the targets are looked at
--- with what its items make known.
+-- What is gone over is evaluated where the loop is entered. Behind that the names that the loop binds are dropped, and only then the
+-- targets are looked at, with what the items make known. All names of the target are bound, whether the head holds or is refused.
+-- Nothing is asked of what is gone over.
 use Rattle.std.specs.Prelude.{List, Option, Some, None, is_some}
 use Rattle.py_syntax.specs.declared.token.Span.{Span}
 use Rattle.py_syntax.specs.Expressions.{ExprTree}
@@ -23,12 +23,13 @@ some_items None = None
 some_items (Some w) = course_items w
 
 module _ (c : Context) where
-  -- the targets, and what is gone over
-  abbrev pub for_head : Known → Span → ExprTree → ExprTree → Seen (List TypedTarget × Course)
-  for_head k span target e =
-      made (λ p. (targets_of p.0, p.1)) (rule span (head c.classes (is_flat target) (is_row target)) (both (aims_behind c k target (some_items (course c k e).got)) (course c k e)))
+  -- the targets, and what is gone over, of the loop that the statement s is
+  abbrev pub for_head : Known → StmtTree → Span → ExprTree → ExprTree → Seen (List TypedTarget × Course)
+  for_head k s span target e =
+      made (λ p. (targets_of p.0, p.1))
+      (rule span (head c.classes (is_flat target) (is_row target)) (both (aims_behind c (entering c k s) target (some_items (course c k e).got)) (course c k e)))
 
   -- what is known where the body begins
   abbrev pub in_for : Known → StmtTree → Span → ExprTree → ExprTree → Known
   in_for k s span target e =
-      bind_target c (is_some (for_head k span target e).got) (entering c k s) target (some_items (course c k e).got)
+      bind_target c (is_some (for_head k s span target e).got) (entering c k s) target (some_items (course c k e).got)

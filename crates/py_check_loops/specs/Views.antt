@@ -3,13 +3,13 @@ use Rattle.std.specs.Prelude.{List, map}
 use Rattle.std.specs.Option.{option_map}
 use Rattle.std.specs.declared.boxed.Box.{Box}
 use Rattle.std.specs.declared.alloc.Global.{Global}
-use Rattle.py_typed.specs.declared.types.Ty.{Ty}
-use Rattle.py_typed.specs.Sorts.{Sort, sort}
 use Rattle.py_typed.specs.Statements.{TypedTarget, typed_target}
+use Rattle.py_check_messages.specs.Seen.{Seen}
 use Rattle.py_check_coercions.specs.Boxes.{boxed}
 use Rattle.py_check_loops.specs.declared.course.Course as declared
 use Rattle.py_check_loops.specs.declared.course.Course.TheVariants as case
 use Rattle.py_check_loops.specs.declared.head.Head.{Head}
+use Rattle.py_check_loops.specs.declared.head.GoneOver.{GoneOver}
 use Rattle.py_check_loops.specs.Loops.{Course, numbers, value}
 
 abbrev pub course_seen : declared.Course → Course
@@ -22,5 +22,5 @@ head_seen h = (map typed_target h.targets, course_seen h.course)
 abbrev pub boxed_head : Box Head Global → List TypedTarget × Course
 boxed_head h = head_seen h.value
 
-abbrev pub boxed_sort : Box Ty Global → Sort
-boxed_sort t = sort t.value
+abbrev pub over_seen : GoneOver → Seen Course
+over_seen over = record { got = option_map course_seen over.course; said = over.said }

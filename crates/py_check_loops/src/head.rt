@@ -8,16 +8,17 @@ ghost use Rattle.py_typed.specs.Sorts.{sort};
 ghost use Rattle.py_typed.specs.Classes.{class_entry};
 ghost use Rattle.py_typed.specs.Statements.{maybe_typed, typed_act, typed_stmt, typed_target, suite_of};
 ghost use Rattle.py_check_context.specs.Context.{context};
-ghost use Rattle.py_check_messages.specs.Seen.{Tells, Finds, made, ruled};
+ghost use Rattle.py_check_messages.specs.Seen.{Tells, Finds, both, made, rule, ruled};
 ghost use Rattle.py_check_coercions.specs.Boxes.{boxed};
 ghost use Rattle.py_check_places.specs.Places as places;
+ghost use Rattle.py_check_places.specs.Shapes as shapes;
 ghost use Rattle.py_check_targets.specs.Targets as targets;
 ghost use Rattle.py_check_places.specs.Views.{known_at};
 ghost use Rattle.py_check_values.specs.Aims.{aim_seen};
-ghost use Rattle.py_check_targets.specs.Views.{boxed_act};
+ghost use Rattle.py_check_targets.specs.Views.{boxed_act, boxed_sort};
 ghost use Rattle.py_check_loops.specs.Loops as loops;
 ghost use Rattle.py_check_loops.specs.Heads as rule_of;
-ghost use Rattle.py_check_loops.specs.Views.{boxed_head, boxed_sort, course_seen};
+ghost use Rattle.py_check_loops.specs.Views.{boxed_head, course_seen, over_seen};
 
 use crate::course::{Course, course_items, course_of, course_type};
 use py_check_context::Context;
@@ -56,53 +57,68 @@ pub fn begin_for(
     e: &Expr,
     faults: &mut Many<Diag>,
 ) -> Result<Begun, Memory>
-    ensures told { IfOk result (λ begun. Tells boxed_head begun.head faults.old faults.new (rule_of.for_head (context scope.now) (known_at place.old) span (expr_tree target.now) (expr_tree e.now))) }
+    ensures told { IfOk result (λ begun. Tells boxed_head begun.head faults.old faults.new (rule_of.for_head (context scope.now) (known_at place.old) (stmt_tree s.now) span (expr_tree target.now) (expr_tree e.now))) }
     ensures known { IfOk result (λ begun. known_at place.new ≡ rule_of.in_for (context scope.now) (known_at place.old) (stmt_tree s.now) span (expr_tree target.now) (expr_tree e.now)) }
     ensures outside { IfOk result (λ begun. begun.outside.items ≡ (places.entering (context scope.now) (known_at place.old) (stmt_tree s.now)).names) }
 {
-    let HeadParts { head, items } = typed_head(alloc, scope, place, span, target, e, faults)?;
+    let over = gone_over(alloc, scope, place, e)?;
+    let items = items_copied(alloc, &over.course)?;
     enter(alloc, scope, place, s)?;
     let outside = Vec::from_slice(alloc, place.names.as_slice())?;
     let items = items.as_deref();
+    let head = typed_head(alloc, scope, place, span, target, over, items, faults)?;
     bind_target(alloc, scope, place, head.is_some(), target, items)?;
     Ok(Begun { head, outside })
 }
 
-// A head, if it has a typed form, and the type of the items that are gone over, if there is one.
+// What is gone over, with what was said of it.
 #[derive(Drop)]
-struct HeadParts {
-    head: Option<Box<Head>>,
-    items: Option<Box<Ty>>,
+struct GoneOver {
+    course: Option<Course>,
+    said: Many<Diag>,
 }
 
-fn typed_head(
+fn gone_over(
     alloc: Global,
     scope: &Context<'_>,
     place: &Place,
-    span: Span,
-    target: &Expr,
     e: &Expr,
-    faults: &mut Many<Diag>,
-) -> Result<HeadParts, Memory>
-    ensures told { IfOk result (λ found. Tells boxed_head found.head faults.old faults.new (rule_of.for_head (context scope.now) (known_at place.now) span (expr_tree target.now) (expr_tree e.now))) }
-    ensures items { IfOk result (λ found. option_map boxed_sort found.items ≡ rule_of.some_items (loops.course (context scope.now) (known_at place.now) (expr_tree e.now)).got) }
+) -> Result<GoneOver, Memory>
+    ensures { IfOk result (λ over. over_seen over ≡ loops.course (context scope.now) (known_at place.now) (expr_tree e.now)) }
 {
     let mut said = Many::new(alloc);
-    let gone_over = course_of(alloc, scope, place, e, &mut said)?;
-    let items = items_copied(alloc, &gone_over)?;
-    let aims = aims_behind(alloc, scope, place, target, items.as_deref(), faults)?;
+    let course = course_of(alloc, scope, place, e, &mut said)?;
+    Ok(GoneOver { course, said })
+}
+
+// The head, where the loop is entered, of these targets and what is gone over, whose items have this type if it has some.
+fn typed_head(
+    alloc: Global,
+    scope: &Context<'_>,
+    entered: &Place,
+    span: Span,
+    target: &Expr,
+    over: GoneOver,
+    items: Option<&Ty>,
+    faults: &mut Many<Diag>,
+) -> Result<Option<Box<Head>>, Memory>
+    ensures { IfOk result (λ h. Tells boxed_head h faults.old faults.new (made (λ p. (targets.targets_of p.0, p.1)) (rule span (loops.head (context scope.now).classes (shapes.is_flat (expr_tree target.now)) (shapes.is_row (expr_tree target.now))) (both (targets.aims_behind (context scope.now) (known_at entered.now) (expr_tree target.now) (option_map sort (option_copied items.entry))) (over_seen over))))) }
+{
+    let GoneOver { course, said } = over;
+    let aims = aims_behind(alloc, scope, entered, target, items, faults)?;
     put_behind(faults, said)?;
-    let head = head_of(
+    let flat = is_flat(target);
+    let several = is_row(target);
+    head_of(
         alloc,
         scope.classes,
         span,
-        is_flat(target),
-        is_row(target),
+        flat,
+        several,
         aims,
-        gone_over,
+        course,
         faults,
-    )?;
-    Ok(HeadParts { head, items })
+    )
 }
 
 // The type of the items of what is gone over.
