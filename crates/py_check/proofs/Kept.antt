@@ -157,7 +157,7 @@ module _ (C : Context) where
     follows_node k span (node.For target e body) =
         let s = node.at (node.For target e body) span in
         let l = in_for C k s span target e in
-        follows_on k.types l.types (block_after C l body).types (follows_target (is_some (for_head C k span target e).got) (entering C k s) target (some_items (course C k e).got)) (follows_block l body)
+        follows_on k.types l.types (block_after C l body).types (follows_target (is_some (for_head C k s span target e).got) (entering C k s) target (some_items (course C k e).got)) (follows_block l body)
     follows_node k span (node.Try body clauses last) =
         let names = outside_try C k (node.at (node.Try body clauses last) span) in
         let first = block_after C k body in

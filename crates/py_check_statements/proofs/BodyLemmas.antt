@@ -119,9 +119,9 @@ module _ (C : Context) (k : Known) (s : Stmt) where
         let P : StmtTree → Type 0 = λ t. IfOk r (λ x. Tells boxed_act x o0 o1 (made (λ p. acts.While p.0 (suite_of p.1)) (guarded C R (around_loop around) (entering C k t) e body))) in
         act_says (node.While e body) is (subst P (same_tree (node.While e body) is) h)
 
-    pub for_says : (target e : ExprTree) (body : Suite) → stmt_node s.kind ≡ node.For target e body → IfOk r (λ x. Tells boxed_act x o0 o1 (made (λ p. loop_of p.0.0 p.0.1 (suite_of p.1)) (both (for_head C k s.span target e) (block C R (around_loop around) (in_for C k (stmt_tree s) s.span target e) body)))) → IfOk r (λ x. Tells boxed_act x o0 o1 (node_statement C R around k s.span (stmt_node s.kind)))
+    pub for_says : (target e : ExprTree) (body : Suite) → stmt_node s.kind ≡ node.For target e body → IfOk r (λ x. Tells boxed_act x o0 o1 (made (λ p. loop_of p.0.0 p.0.1 (suite_of p.1)) (both (for_head C k (stmt_tree s) s.span target e) (block C R (around_loop around) (in_for C k (stmt_tree s) s.span target e) body)))) → IfOk r (λ x. Tells boxed_act x o0 o1 (node_statement C R around k s.span (stmt_node s.kind)))
     for_says target e body is h =
-        let P : StmtTree → Type 0 = λ t. IfOk r (λ x. Tells boxed_act x o0 o1 (made (λ p. loop_of p.0.0 p.0.1 (suite_of p.1)) (both (for_head C k s.span target e) (block C R (around_loop around) (in_for C k t s.span target e) body)))) in
+        let P : StmtTree → Type 0 = λ t. IfOk r (λ x. Tells boxed_act x o0 o1 (made (λ p. loop_of p.0.0 p.0.1 (suite_of p.1)) (both (for_head C k t s.span target e) (block C R (around_loop around) (in_for C k t s.span target e) body)))) in
         act_says (node.For target e body) is (subst P (same_tree (node.For target e body) is) h)
 
     pub try_says : (body : Suite) (clauses : Handlers) (last : MaybeSuite) → stmt_node s.kind ≡ node.Try body clauses last → IfOk r (λ x. Tells boxed_act x o0 o1 (tries C R around k (outside_try C k (stmt_tree s)) body clauses last)) → IfOk r (λ x. Tells boxed_act x o0 o1 (node_statement C R around k s.span (stmt_node s.kind)))

@@ -183,7 +183,8 @@ module _ (c : Context) (ret : ReturnSort) where
         (block (around_loop a) (where_test c (entering c k (node.at (node.While e body) span)) true e) body))
     node_statement a k span (node.For target e body) =
         made (λ p. loop_of p.0.0 p.0.1 (suite_of p.1))
-        (both (for_head c k span target e) (block (around_loop a) (in_for c k (node.at (node.For target e body) span) span target e) body))
+        (both (for_head c k (node.at (node.For target e body) span) span target e)
+        (block (around_loop a) (in_for c k (node.at (node.For target e body) span) span target e) body))
     node_statement a k span (node.Try body handlers last) =
         made try_of
         (both

@@ -266,7 +266,7 @@ fn for_loop(
     place: &mut Place,
     faults: &mut Many<Diag>,
 ) -> Result<Option<Box<TStmtKind>>, Memory>
-    ensures told { IfOk result (λ t. Tells boxed_act t faults.old faults.new (made (λ p. loop_of p.0.0 p.0.1 (acts.suite_of p.1)) (both (heads.for_head (context scope.now) (known_at place.old) s.now.span (expr_tree target.now) (expr_tree e.now)) (rules_of.block (context scope.now) (return_sort returns.entry) (rules_of.around_loop around) (heads.in_for (context scope.now) (known_at place.old) (stmt_tree s.now) s.now.span (expr_tree target.now) (expr_tree e.now)) (body_tree body.now))))) }
+    ensures told { IfOk result (λ t. Tells boxed_act t faults.old faults.new (made (λ p. loop_of p.0.0 p.0.1 (acts.suite_of p.1)) (both (heads.for_head (context scope.now) (known_at place.old) (stmt_tree s.now) s.now.span (expr_tree target.now) (expr_tree e.now)) (rules_of.block (context scope.now) (return_sort returns.entry) (rules_of.around_loop around) (heads.in_for (context scope.now) (known_at place.old) (stmt_tree s.now) s.now.span (expr_tree target.now) (expr_tree e.now)) (body_tree body.now))))) }
     ensures known { IfOk result (λ t. known_at place.new ≡ rules_of.behind_loop (places.entering (context scope.now) (known_at place.old) (stmt_tree s.now)).names (rules_of.block_after (context scope.now) (heads.in_for (context scope.now) (known_at place.old) (stmt_tree s.now) s.now.span (expr_tree target.now) (expr_tree e.now)) (body_tree body.now))) }
 {
     let Begun { head, outside } = begin_for(alloc, scope, place, s, s.span, target, e, faults)?;

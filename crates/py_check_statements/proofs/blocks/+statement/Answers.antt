@@ -440,7 +440,7 @@ for_loop-returns t c =
     let behind = block_after C inside body in
     let P : Known → Type 0 = λ k. Tells (map typed_stmt) c.in_ok-body.body c.begin_for.new.faults c.block.new.faults (block C R (around_loop c.args.around) k body) in
     record {
-      told = pair_says (λ p. loop_of p.0.0 p.0.1 (suite_of p.1)) boxed_head (map typed_stmt) boxed_act (for_head C K s.span target e) (block C R (around_loop c.args.around) inside body) begun.head c.in_ok-body.body c.looped.result c.args.faults.now c.begin_for.new.faults c.block.new.faults c.in_ok-head.ensures.told (subst P c.in_ok-head.ensures.known c.in_ok-body.ensures.told) c.looped.ensures;
+      told = pair_says (λ p. loop_of p.0.0 p.0.1 (suite_of p.1)) boxed_head (map typed_stmt) boxed_act (for_head C K (stmt_tree s) s.span target e) (block C R (around_loop c.args.around) inside body) begun.head c.in_ok-body.body c.looped.result c.args.faults.now c.begin_for.new.faults c.block.new.faults c.in_ok-head.ensures.told (subst P c.in_ok-head.ensures.known c.in_ok-body.ensures.told) c.looped.ensures;
       known = always c.looped.result (with_names end outside ≡ behind_loop names behind)
           (known_behind_loop outside names end behind c.in_ok-head.ensures.outside (c.in_ok-body.ensures.known ∙ ap (λ k. block_after C k body) c.in_ok-head.ensures.known));
     }
