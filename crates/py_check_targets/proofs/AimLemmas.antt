@@ -13,7 +13,7 @@ use Rattle.py_typed.specs.Sorts.{Sort, sort}
 use Rattle.py_check_context.specs.Context.{Context}
 use Rattle.py_check_flow.specs.Bindings.{name_in}
 use Rattle.py_check_messages.specs.Seen.{Seen}
-use Rattle.py_check_messages.specs.Rows.{appended, kept}
+use Rattle.py_check_messages.specs.Rows.{kept}
 use Rattle.py_check_messages.proofs.RowLemmas.{Remains, row_step}
 use Rattle.py_check_values.specs.Aims.{Aim}
 use Rattle.py_check_expressions.proofs.RowLemmas.{row_starts, drop_none}

@@ -1,5 +1,5 @@
 -- What targets, types and statements on the heap and new names stand for, and what is left of the parts of a value.
-use Rattle.std.specs.Prelude.{ℕ, List, map, drop, Option}
+use Rattle.std.specs.Prelude.{ℕ, List, drop, Option}
 use Rattle.std.specs.Option.{option_map}
 use Rattle.std.specs.declared.boxed.Box.{Box}
 use Rattle.std.specs.declared.alloc.Global.{Global}
