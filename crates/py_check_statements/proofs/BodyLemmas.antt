@@ -20,7 +20,7 @@ use Rattle.py_typed.specs.Expressions.{TypedExpr}
 use Rattle.py_typed.specs.Statements as acts
 use Rattle.py_typed.specs.Statements.{TypedStmt, TypedAct, TypedSuite, on_line, suite_of}
 use Rattle.py_check_context.specs.Context.{Context}
-use Rattle.py_check_messages.specs.Seen.{Seen, is, both, made, Tells}
+use Rattle.py_check_messages.specs.Seen.{Seen, is, silent, both, made, Tells}
 use Rattle.py_check_messages.specs.Rows.{kept, appended, row_then}
 use Rattle.py_check_messages.proofs.RowLemmas.{Remains, row_step}
 use Rattle.py_check_operators.specs.Facts.{facts}
@@ -51,6 +51,10 @@ made_says f va vb s a r o0 o1 ta =
 -- what is made, and says nothing
 pub leaf_says : {A X : Type 0} (v : X → A) (a : A) (r : Result (Option X) Memory) (o : List Diag) → IfOk r (λ x. option_map v x ≡ Some a) → IfOk r (λ x. Tells v x o o (is a))
 leaf_says v a r o = if_ok r (λ x. option_map v x ≡ Some a) (λ x. Tells v x o o (is a)) (λ x h. (h, sym (append-nil o)))
+
+-- what has no typed form, and says nothing
+pub silent_says : {A X : Type 0} (v : X → A) (o : List Diag) → Tells v None o o silent
+silent_says v o = (refl, sym (append-nil o))
 
 -- two parts, one behind the other, and what is made of them
 pub both_say : {A B X Y Z : Type 0} (va : X → A) (vb : Y → B) (vc : Z → A × B) (s : Seen A) (t : Seen B) (a : Option X) (b : Option Y) (r : Option Z) (o0 o1 o2 : List Diag) → Tells va a o0 o1 s → Tells vb b o1 o2 t → option_map vc r ≡ option_zip (option_map va a) (option_map vb b) → Tells vc r o0 o2 (both s t)

@@ -1,16 +1,14 @@
 -- What except clauses and a `try` say, and what is known behind them, from what their parts said.
-use Rattle.std.proofs.Common.{◌≡◌, ◌∙◌, ◌<◌, ◌≤◌, ◌+◌, ℕ, zero, suc, Bool, true, false, List, [], ◌∷◌, ◌++◌, Option, Some, None, Result, Ok, Err, IfOk, length, map, drop, get_or, drop-cons, add-one, refl, ap, sym, subst, arith}
+use Rattle.std.proofs.Common.{◌≡◌, ◌∙◌, ◌<◌, ◌≤◌, ◌+◌, ℕ, zero, suc, Bool, List, [], ◌∷◌, ◌++◌, Option, Result, Ok, Err, IfOk, length, map, drop, get_or, drop-cons, add-one, refl, ap, sym, subst, arith}
 use Rattle.std.proofs.lemmas.List.{append_assoc, drop_all}
 use Rattle.std.proofs.Math.Dec.{eqb-zero-suc, eqb-suc-suc}
 use Rattle.std.specs.Prelude.{nat_eq}
 use Rattle.std.specs.Option.{option_map, option_zip}
 use Rattle.value_core.specs.declared.exception.ExcClass.{ExcClass}
 use Rattle.value_core.specs.declared.memory.Memory.{Memory}
-use Rattle.py_syntax.specs.declared.expression.Expr.{Expr}
-use Rattle.py_syntax.specs.declared.statement.Stmt.{Stmt}
 use Rattle.py_syntax.specs.declared.statement.Handler.{Handler, out-Handler, fold_out-Handler}
 use Rattle.py_syntax.specs.Statements as node
-use Rattle.py_syntax.specs.Statements.{StmtTree, StmtNode, ClassTree, FuncTree, HandlerTree, Handlers, MaybeSuite, maybe_expr, maybe_suite, body_tree, handler_tree, handlers_of, node_step, class_step, func_step, handler_step, stmt_step}
+use Rattle.py_syntax.specs.Statements.{StmtTree, StmtNode, ClassTree, FuncTree, HandlerTree, Handlers, maybe_expr, body_tree, handler_tree, handlers_of, node_step, class_step, func_step, handler_step, stmt_step}
 use Rattle.py_syntax_diagnostics.specs.declared.diagnostic.Diag.{Diag}
 use Rattle.py_typed.specs.Statements.{TypedStmt, TypedTarget, HandlerParts}
 use Rattle.py_check_context.specs.Context.{Context}
@@ -21,7 +19,7 @@ use Rattle.py_check_values.specs.Returns.{ReturnSort}
 use Rattle.py_check_places.specs.Places.{Known, with_names}
 use Rattle.py_check_exceptions.specs.Handlers.{in_handler}
 use Rattle.py_check_statements.specs.declared.bodies.Around.{Around}
-use Rattle.py_check_statements.specs.Bodies.{is_last, clause_of, block_after, handlers_after, last_after, clause, clauses, maybe_block}
+use Rattle.py_check_statements.specs.Bodies.{is_last, clause_of, block_after, handlers_after, clause, clauses}
 
 if_ok : {X : Type 0} (r : Result X Memory) (P Q : X → Type 0) → ((x : X) → P x → Q x) → IfOk r P → IfOk r Q
 if_ok (Ok x) P Q f h = f x h
@@ -52,16 +50,15 @@ none_left [] (suc n) p = absurd (omega arith)
 none_left (h ∷ hs) zero p = sym (eqb-zero-suc (length hs))
 none_left (h ∷ hs) (suc n) p = none_left hs n (omega arith) ∙ sym (eqb-suc-suc n (length hs))
 
-module _ (C : Context) (names : List ℕ) (hs : List Handler) (i : ℕ) (h : Handler) (p : i < length hs) (is : h ≡ get_or hs i h) (b : List Stmt) (same : b ≡ (out-Handler h).body) (last : Bool) (ends : last ≡ nat_eq (i + 1) (length hs)) where
+module _ (C : Context) (names : List ℕ) (hs : List Handler) (i : ℕ) (h : Handler) (p : i < length hs) (is : h ≡ get_or hs i h) (last : Bool) (ends : last ≡ nat_eq (i + 1) (length hs)) where
   abbrev more : Handlers
   more = handlers_of (map handler_tree (drop (i + 1) hs))
 
-  clause_at : handlers_of (map handler_tree (drop i hs)) ≡ node.handler_then (handler_tree h).class (handler_tree h).name (body_tree b) (handler_tree h).span more
+  clause_at : handlers_of (map handler_tree (drop i hs)) ≡ node.handler_then (handler_tree h).class (handler_tree h).name (handler_tree h).body (handler_tree h).span more
   clause_at =
       ap (λ l. handlers_of (map handler_tree l)) (drop-cons hs i h p)
       ∙ ap (λ (x : Handler). handlers_of (handler_tree x ∷ map handler_tree (drop (suc i) hs))) (sym is)
       ∙ ap (λ n. handlers_of (handler_tree h ∷ map handler_tree (drop n hs))) (sym (add-one i))
-      ∙ ap (λ l. node.handler_then (handler_tree h).class (handler_tree h).name l (handler_tree h).span more) (ap (λ (x : HandlerTree). x.body) (handler_tree_at h) ∙ ap body_tree (sym same))
 
   last_is : is_last more ≡ last
   last_is = none_left hs (i + 1) (omega (arith, p)) ∙ sym ends
@@ -70,25 +67,25 @@ module _ (C : Context) (names : List ℕ) (hs : List Handler) (i : ℕ) (h : Han
   inside k l = in_handler C k (handler_tree h).span (handler_tree h).class (handler_tree h).name l
 
   -- one more clause, which begins with these names
-  module _ (k k0 k1 : Known) (begun : k0 ≡ with_names k names) (ended : k1 ≡ block_after C (inside k0 last) (body_tree b)) where
-    behind : k1 ≡ block_after C (inside (with_names k names) last) (body_tree b)
-    behind = ended ∙ ap (λ x. block_after C (inside x last) (body_tree b)) begun
+  module _ (k k0 k1 : Known) (begun : k0 ≡ with_names k names) (ended : k1 ≡ block_after C (inside k0 last) (handler_tree h).body) where
+    behind : k1 ≡ block_after C (inside (with_names k names) last) (handler_tree h).body
+    behind = ended ∙ ap (λ x. block_after C (inside x last) (handler_tree h).body) begun
 
     pub clauses_known : (start : Known) → handlers_after C names start (handlers_of (map handler_tree hs)) ≡ handlers_after C names k (handlers_of (map handler_tree (drop i hs))) → handlers_after C names start (handlers_of (map handler_tree hs)) ≡ handlers_after C names k1 more
     clauses_known start before =
         before
         ∙ ap (handlers_after C names k) clause_at
-        ∙ ap (λ l. handlers_after C names (block_after C (inside (with_names k names) l) (body_tree b)) more) last_is
+        ∙ ap (λ l. handlers_after C names (block_after C (inside (with_names k names) l) (handler_tree h).body) more) last_is
         ∙ ap (λ x. handlers_after C names x more) (sym behind)
 
     module _ (R : ReturnSort) (around : Around) where
       abbrev one_at : Known → Bool → Seen ((List ExcClass × Option TypedTarget) × List TypedStmt)
-      one_at x l = clause C R around x (handler_tree h).span (handler_tree h).class (handler_tree h).name l (body_tree b)
+      one_at x l = clause C R around x (handler_tree h).span (handler_tree h).class (handler_tree h).name l (handler_tree h).body
 
       row_at : clauses C R around names k (handlers_of (map handler_tree (drop i hs))) ≡ row_then (made clause_of (one_at (with_names k names) last)) (clauses C R around names k1 more)
       row_at =
           ap (clauses C R around names k) clause_at
-          ∙ ap (λ l. row_then (made clause_of (one_at (with_names k names) l)) (clauses C R around names (block_after C (inside (with_names k names) l) (body_tree b)) more)) last_is
+          ∙ ap (λ l. row_then (made clause_of (one_at (with_names k names) l)) (clauses C R around names (block_after C (inside (with_names k names) l) (handler_tree h).body) more)) last_is
           ∙ ap (λ x. row_then (made clause_of (one_at (with_names k names) last)) (clauses C R around names x more)) (sym behind)
 
       pub clauses_row : (front front1 : Option (List HandlerParts)) (got : Option ((List ExcClass × Option TypedTarget) × List TypedStmt)) (o0 o1 o2 : List Diag) (whole : Seen (List HandlerParts)) → front1 ≡ kept front (option_map clause_of got) → got ≡ (one_at k0 last).got → o2 ≡ o1 ++ (one_at k0 last).said → Remains front o0 o1 whole (clauses C R around names k (handlers_of (map handler_tree (drop i hs)))) → Remains front1 o0 o2 whole (clauses C R around names k1 more)

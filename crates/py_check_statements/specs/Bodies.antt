@@ -17,9 +17,9 @@ use Rattle.py_typed.specs.Statements.{TypedStmt, TypedAct, TypedSuite, TypedTarg
 use Rattle.py_check_context.specs.Context.{Context, Wanted, free, test, wants, dropped}
 use Rattle.py_check_flow.specs.Bindings.{name_in}
 use Rattle.py_check_flow.specs.Closed.{is_closed, breaks_suite}
-use Rattle.py_check_messages.specs.Seen.{Seen, is, fails, both, behind, made}
+use Rattle.py_check_messages.specs.Seen.{Seen, is, silent, fails, both, behind, made}
 use Rattle.py_check_messages.specs.Rows.{row_then}
-use Rattle.py_check_messages.specs.Messages.{outside_loop, no_exception}
+use Rattle.py_check_messages.specs.Messages.{outside_loop}
 use Rattle.py_check_coercions.specs.Values.{truth}
 use Rattle.py_check_coercions.specs.Several.{with_part}
 use Rattle.py_check_values.specs.Returns.{ReturnSort, gives, bare_return, value_return}
@@ -192,8 +192,8 @@ module _ (c : Context) (ret : ReturnSort) where
         (maybe_block a (outside_try c k (node.at (node.Try body handlers last) span))
         (handlers_after c (outside_try c k (node.at (node.Try body handlers last) span)) (block_after c k body) handlers) last))
     node_statement a k span (node.Del e) = deletes c k span e
-    -- a row passes over definitions
-    node_statement a k span n = fails span no_exception
+    -- definitions, which no row asks for: it passes over them
+    node_statement a k span n = silent
 
     -- TYPED STATEMENTS in a row
     pub block : Around → Known → Suite → Seen (List TypedStmt)

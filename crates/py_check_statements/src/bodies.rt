@@ -27,6 +27,13 @@ pub struct Around {
     pub handling: bool,
 }
 
+/// Where a statement stands: in a function that returns this, or in none, and with this around it.
+#[derive(Clone, Copy)]
+pub struct Inside<'a> {
+    pub returns: Returns<'a>,
+    pub around: Around,
+}
+
 /// A test, as a truth value.
 pub fn condition(
     alloc: Global,

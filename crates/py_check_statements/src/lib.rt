@@ -13,5 +13,5 @@ mod statements;
 mod tries;
 
 pub use blocks::block;
-pub use bodies::{Around, condition, is_definition, return_wanted};
+pub use bodies::{Around, Inside, condition, is_definition, return_wanted};
 pub use statements::{alone, placed, returns, with_statement};

@@ -3,11 +3,10 @@ ghost use Rattle.std.specs.Prelude.{◌≡◌, true, map, codes, IfOk, Some, Non
 ghost use Rattle.std.specs.Option.{option_map};
 ghost use Rattle.py_syntax.specs.Expressions.{expr_tree};
 ghost use Rattle.py_syntax.specs.Statements.{maybe_expr};
-ghost use Rattle.py_typed.specs.Statements.{TypedAct, typed_stmt, on_line};
+ghost use Rattle.py_typed.specs.Statements.{typed_stmt, on_line};
 ghost use Rattle.py_typed.specs.Statements as acts;
 ghost use Rattle.py_check_context.specs.Context.{context, dropped};
-ghost use Rattle.py_check_messages.specs.Seen.{Tells, is, fails, made};
-ghost use Rattle.py_check_messages.specs.Messages as message;
+ghost use Rattle.py_check_messages.specs.Seen.{Tells, made};
 ghost use Rattle.py_check_messages.specs.Rows.{kept};
 ghost use Rattle.py_check_coercions.specs.Boxes.{boxed};
 ghost use Rattle.py_check_values.specs.Returns.{return_sort};
@@ -22,7 +21,7 @@ ghost use Rattle.py_check_statements.specs.Views.{boxed_stmt};
 use crate::bodies::return_wanted;
 use py_check_context::{Context, Want};
 use py_check_exceptions::asserts;
-use py_check_messages::{no_exception, outside_loop};
+use py_check_messages::outside_loop;
 use py_check_places::{Place, learn};
 use py_check_targets::typed_at;
 use py_check_values::{Returns, returned, returned_nothing};
@@ -166,18 +165,6 @@ pub(crate) fn continued(
     }
     let kind = in_box(alloc, TStmtKind::Continue)?;
     Ok(Some(kind))
-}
-
-/// A statement that has no typed form: an import or a definition.
-pub(crate) fn untyped(
-    alloc: Global,
-    span: Span,
-    faults: &mut Many<Diag>,
-) -> Result<Option<Box<TStmtKind>>, Memory>
-    ensures { IfOk result (λ t. Tells boxed_act t faults.old faults.new (fails {A = TypedAct} span message.no_exception)) }
-{
-    no_exception(alloc, span, faults)?;
-    Ok(None)
 }
 
 /// A statement on its line.

@@ -1,8 +1,8 @@
-use Rattle.std.proofs.Common.{rules, ◌+◌, nat_eq, ◌<◌, ◌≤◌, length, ◌≡◌, ◌∙◌, map, List, Option, Some, ℕ, true, refl, ap, sym, subst}
+use Rattle.std.proofs.Common.{rules, ◌+◌, nat_eq, ◌<◌, ◌≤◌, length, ◌≡◌, ◌∙◌, map, List, Option, Some, None, Ok, ℕ, true, refl, ap, sym, subst}
 use Rattle.std.specs.Option.{option_map}
 use Rattle.py_syntax.specs.Expressions.{expr_tree}
 use Rattle.py_syntax.specs.Statements as tree
-use Rattle.py_syntax.specs.Statements.{HandlerTree, stmt_tree, stmt_node, body_tree, arms_of, arm_tree, handlers_of, handler_tree, maybe_suite, def_of, func_tree, class_def_of, class_tree, maybe_expr}
+use Rattle.py_syntax.specs.Statements.{HandlerTree, Suite, stmt_tree, stmt_node, body_tree, arms_of, arm_tree, handlers_of, handler_tree, maybe_suite, def_of, func_tree, class_def_of, class_tree, maybe_expr}
 use Rattle.py_syntax.proofs.StatementLemmas.{stmt_node-Expr, stmt_node-Assign, stmt_node-Annot, stmt_node-Aug, stmt_node-Del, stmt_node-Pass, stmt_node-Break, stmt_node-Continue, stmt_node-Return, stmt_node-Raise, stmt_node-Global, stmt_node-Assert, stmt_node-Import, stmt_node-From, stmt_node-If, stmt_node-While, stmt_node-For, stmt_node-Try, stmt_node-Def, stmt_node-Class}
 use Rattle.py_typed.specs.declared.expression.TExpr.{TExpr}
 use Rattle.py_typed.specs.declared.statement.TStmt.{TStmt}
@@ -24,9 +24,9 @@ use Rattle.py_check_loops.specs.Views.{boxed_head}
 use Rattle.py_check_exceptions.specs.Handlers.{handler_head, in_handler}
 use Rattle.py_check_exceptions.specs.Views.{boxed_handler_head}
 use Rattle.py_check_flow.specs.Closed.{is_closed}
-use Rattle.py_check_statements.specs.Bodies.{around_loop, around_clause, outside_try, behind_try, try_of, tries, clause, clauses, maybe_block, handlers_after, last_after, condition, left_while, behind_loop, block, block_after, branches, arms_after, guarded}
+use Rattle.py_check_statements.specs.Bodies.{around_loop, around_clause, outside_try, behind_try, try_of, clause, clauses, maybe_block, handlers_after, last_after, condition, left_while, behind_loop, block, block_after, branches, arms_after, guarded}
 use Rattle.py_check_statements.specs.Views.{boxed_stmt, guarded_seen, clause_seen, way}
-use Rattle.py_check_statements.proofs.BodyLemmas.{try_says, try_knows, always, made_says, leaf_says, both_say, pair_says, node_of, act_stays, known_after, line_says, act_says, act_knows, while_says, while_knows, for_says, for_knows, known_behind_loop, row_ends, block_ends, known_ends, branches_end, ways_end, known_passed, row_passed, known_behind, row_behind, way_behind, ways_behind, arms_behind, known_behind_else}
+use Rattle.py_check_statements.proofs.BodyLemmas.{try_says, try_knows, always, made_says, leaf_says, silent_says, both_say, pair_says, node_of, act_stays, known_after, line_says, act_says, act_knows, while_says, while_knows, for_says, for_knows, known_behind_loop, row_ends, block_ends, known_ends, branches_end, ways_end, known_passed, row_passed, known_behind, row_behind, way_behind, ways_behind, arms_behind, known_behind_else}
 use Rattle.py_check_statements.proofs.TryLemmas.{three_say, handler_tree_at, clauses_known, clauses_row, clauses_end, handlers_end}
 use Rattle.py_check_statements.proofs.blocks.+statement.Goals as goal
 
@@ -40,7 +40,7 @@ act-returns-in-Expr t c =
     let n = tree.Do (expr_tree c.in-Expr.e) in
     let is : stmt_node s.kind ≡ n = node_of s _ _ c.in-Expr.is (stmt_node-Expr c.in-Expr.e) in
     record {
-      told = act_says C K s (return_sort c.args.returns) c.args.around c.alone.result c.args.faults.now c.alone.new.faults n is c.alone.ensures;
+      told = act_says C K s (return_sort c.args.inside.returns) c.args.inside.around c.alone.result c.args.faults.now c.alone.new.faults n is c.alone.ensures;
       known = act_stays C K s c.alone.result n is refl;
     }
 
@@ -52,7 +52,7 @@ act-returns-in-Assign t c =
     let n = tree.Assign (expr_tree c.in-Assign.target) (expr_tree c.in-Assign.e) in
     let is : stmt_node s.kind ≡ n = node_of s _ _ c.in-Assign.is (stmt_node-Assign c.in-Assign.target c.in-Assign.e) in
     record {
-      told = act_says C K s (return_sort c.args.returns) c.args.around c.assign.result c.args.faults.now c.assign.new.faults n is c.assign.ensures.told;
+      told = act_says C K s (return_sort c.args.inside.returns) c.args.inside.around c.assign.result c.args.faults.now c.assign.new.faults n is c.assign.ensures.told;
       known = act_knows C K s c.assign.result (known_at c.assign.new.place) n is c.assign.ensures.known;
     }
 
@@ -64,7 +64,7 @@ act-returns-in-Annot t c =
     let n = tree.Annot (expr_tree c.in-Annot.target) (expr_tree c.in-Annot.mark) (maybe_expr c.in-Annot.e) in
     let is : stmt_node s.kind ≡ n = node_of s _ _ c.in-Annot.is (stmt_node-Annot c.in-Annot.target c.in-Annot.mark c.in-Annot.e) in
     record {
-      told = act_says C K s (return_sort c.args.returns) c.args.around c.annotate.result c.args.faults.now c.annotate.new.faults n is c.annotate.ensures.told;
+      told = act_says C K s (return_sort c.args.inside.returns) c.args.inside.around c.annotate.result c.args.faults.now c.annotate.new.faults n is c.annotate.ensures.told;
       known = act_knows C K s c.annotate.result (known_at c.annotate.new.place) n is c.annotate.ensures.known;
     }
 
@@ -76,7 +76,7 @@ act-returns-in-Aug t c =
     let n = tree.Aug (expr_tree c.in-Aug.target) c.in-Aug.op (expr_tree c.in-Aug.e) in
     let is : stmt_node s.kind ≡ n = node_of s _ _ c.in-Aug.is (stmt_node-Aug c.in-Aug.target c.in-Aug.op c.in-Aug.e) in
     record {
-      told = act_says C K s (return_sort c.args.returns) c.args.around c.update.result c.args.faults.now c.update.new.faults n is c.update.ensures.told;
+      told = act_says C K s (return_sort c.args.inside.returns) c.args.inside.around c.update.result c.args.faults.now c.update.new.faults n is c.update.ensures.told;
       known = act_knows C K s c.update.result (known_at c.update.new.place) n is c.update.ensures.known;
     }
 
@@ -88,7 +88,7 @@ act-returns-in-Del t c =
     let n = tree.Del (expr_tree c.in-Del.e) in
     let is : stmt_node s.kind ≡ n = node_of s _ _ c.in-Del.is (stmt_node-Del c.in-Del.e) in
     record {
-      told = act_says C K s (return_sort c.args.returns) c.args.around c.deleted.result c.args.faults.now c.deleted.new.faults n is c.deleted.ensures;
+      told = act_says C K s (return_sort c.args.inside.returns) c.args.inside.around c.deleted.result c.args.faults.now c.deleted.new.faults n is c.deleted.ensures;
       known = act_stays C K s c.deleted.result n is refl;
     }
 
@@ -100,7 +100,7 @@ act-returns-in-Pass t c =
     let n = tree.Pass in
     let is : stmt_node s.kind ≡ n = node_of s _ _ c.in-Pass.is stmt_node-Pass in
     record {
-      told = act_says C K s (return_sort c.args.returns) c.args.around c.passed.result c.args.faults.now c.args.faults.now n is (leaf_says boxed_act acts.Pass c.passed.result c.args.faults.now c.passed.ensures);
+      told = act_says C K s (return_sort c.args.inside.returns) c.args.inside.around c.passed.result c.args.faults.now c.args.faults.now n is (leaf_says boxed_act acts.Pass c.passed.result c.args.faults.now c.passed.ensures);
       known = act_stays C K s c.passed.result n is refl;
     }
 
@@ -112,7 +112,7 @@ act-returns-in-Break t c =
     let n = tree.Break in
     let is : stmt_node s.kind ≡ n = node_of s _ _ c.in-Break.is stmt_node-Break in
     record {
-      told = act_says C K s (return_sort c.args.returns) c.args.around c.broken.result c.args.faults.now c.broken.new.faults n is c.broken.ensures;
+      told = act_says C K s (return_sort c.args.inside.returns) c.args.inside.around c.broken.result c.args.faults.now c.broken.new.faults n is c.broken.ensures;
       known = act_stays C K s c.broken.result n is refl;
     }
 
@@ -124,7 +124,7 @@ act-returns-in-Continue t c =
     let n = tree.Continue in
     let is : stmt_node s.kind ≡ n = node_of s _ _ c.in-Continue.is stmt_node-Continue in
     record {
-      told = act_says C K s (return_sort c.args.returns) c.args.around c.continued.result c.args.faults.now c.continued.new.faults n is c.continued.ensures;
+      told = act_says C K s (return_sort c.args.inside.returns) c.args.inside.around c.continued.result c.args.faults.now c.continued.new.faults n is c.continued.ensures;
       known = act_stays C K s c.continued.result n is refl;
     }
 
@@ -136,7 +136,7 @@ act-returns-in-Return t c =
     let n = tree.Return (maybe_expr c.in-Return.e) in
     let is : stmt_node s.kind ≡ n = node_of s _ _ c.in-Return.is (stmt_node-Return c.in-Return.e) in
     record {
-      told = act_says C K s (return_sort c.args.returns) c.args.around c.returns.result c.args.faults.now c.returns.new.faults n is c.returns.ensures;
+      told = act_says C K s (return_sort c.args.inside.returns) c.args.inside.around c.returns.result c.args.faults.now c.returns.new.faults n is c.returns.ensures;
       known = act_stays C K s c.returns.result n is refl;
     }
 
@@ -148,7 +148,7 @@ act-returns-in-Raise t c =
     let n = tree.Raise (maybe_expr c.in-Raise.e) in
     let is : stmt_node s.kind ≡ n = node_of s _ _ c.in-Raise.is (stmt_node-Raise c.in-Raise.e) in
     record {
-      told = act_says C K s (return_sort c.args.returns) c.args.around c.raises.result c.args.faults.now c.raises.new.faults n is c.raises.ensures;
+      told = act_says C K s (return_sort c.args.inside.returns) c.args.inside.around c.raises.result c.args.faults.now c.raises.new.faults n is c.raises.ensures;
       known = act_stays C K s c.raises.result n is refl;
     }
 
@@ -160,7 +160,7 @@ act-returns-in-Global t c =
     let n = tree.Global c.in-Global.field-0 in
     let is : stmt_node s.kind ≡ n = node_of s _ _ c.in-Global.is (stmt_node-Global c.in-Global.field-0) in
     record {
-      told = act_says C K s (return_sort c.args.returns) c.args.around c.passed-in-Global.result c.args.faults.now c.args.faults.now n is (leaf_says boxed_act acts.Pass c.passed-in-Global.result c.args.faults.now c.passed-in-Global.ensures);
+      told = act_says C K s (return_sort c.args.inside.returns) c.args.inside.around c.passed-in-Global.result c.args.faults.now c.args.faults.now n is (leaf_says boxed_act acts.Pass c.passed-in-Global.result c.args.faults.now c.passed-in-Global.ensures);
       known = act_stays C K s c.passed-in-Global.result n is refl;
     }
 
@@ -172,7 +172,7 @@ act-returns-in-Assert t c =
     let n = tree.Assert (expr_tree c.in-Assert.e) (maybe_expr c.in-Assert.text) in
     let is : stmt_node s.kind ≡ n = node_of s _ _ c.in-Assert.is (stmt_node-Assert c.in-Assert.e c.in-Assert.text) in
     record {
-      told = act_says C K s (return_sort c.args.returns) c.args.around c.asserted.result c.args.faults.now c.asserted.new.faults n is c.asserted.ensures.told;
+      told = act_says C K s (return_sort c.args.inside.returns) c.args.inside.around c.asserted.result c.args.faults.now c.asserted.new.faults n is c.asserted.ensures.told;
       known = act_knows C K s c.asserted.result (known_at c.asserted.new.place) n is c.asserted.ensures.known;
     }
 
@@ -184,8 +184,8 @@ act-returns-in-Import t c =
     let n = tree.Import c.in-Import.field-0 c.in-Import.field-1 in
     let is : stmt_node s.kind ≡ n = node_of s _ _ c.in-Import.is (stmt_node-Import c.in-Import.field-0 c.in-Import.field-1) in
     record {
-      told = act_says C K s (return_sort c.args.returns) c.args.around c.untyped.result c.args.faults.now c.untyped.new.faults n is c.untyped.ensures;
-      known = act_stays C K s c.untyped.result n is refl;
+      told = act_says C K s (return_sort c.args.inside.returns) c.args.inside.around (Ok None) c.args.faults.now c.args.faults.now n is (silent_says boxed_act c.args.faults.now);
+      known = act_stays C K s (Ok None) n is refl;
     }
 
 pub act-returns-in-From : goal.act-returns-in-From
@@ -196,8 +196,8 @@ act-returns-in-From t c =
     let n = tree.From c.in-From.field-0 c.in-From.field-1 in
     let is : stmt_node s.kind ≡ n = node_of s _ _ c.in-From.is (stmt_node-From c.in-From.field-0 c.in-From.field-1) in
     record {
-      told = act_says C K s (return_sort c.args.returns) c.args.around c.untyped-in-From.result c.args.faults.now c.untyped-in-From.new.faults n is c.untyped-in-From.ensures;
-      known = act_stays C K s c.untyped-in-From.result n is refl;
+      told = act_says C K s (return_sort c.args.inside.returns) c.args.inside.around (Ok None) c.args.faults.now c.args.faults.now n is (silent_says boxed_act c.args.faults.now);
+      known = act_stays C K s (Ok None) n is refl;
     }
 
 pub act-returns-in-If : goal.act-returns-in-If
@@ -210,7 +210,7 @@ act-returns-in-If t c =
     let n = tree.If (arms_of (map arm_tree arms)) (body_tree other) in
     let is : stmt_node s.kind ≡ n = node_of s _ _ (rw c.as_slice.ensures (rw c.as_slice-in-If.ensures c.in-If.is)) (stmt_node-If arms other) in
     record {
-      told = act_says C K s (return_sort c.args.returns) c.args.around c.conditional.result c.args.faults.now c.conditional.new.faults n is c.conditional.ensures.told;
+      told = act_says C K s (return_sort c.args.inside.returns) c.args.inside.around c.conditional.result c.args.faults.now c.conditional.new.faults n is c.conditional.ensures.told;
       known = act_knows C K s c.conditional.result (known_at c.conditional.new.place) n is c.conditional.ensures.known;
     }
 
@@ -223,7 +223,7 @@ act-returns-in-While t c =
     let body = c.as_slice-in-While.result.now in
     let is : stmt_node s.kind ≡ tree.While (expr_tree e) (body_tree body) = node_of s _ _ (rw c.as_slice-in-While.ensures c.in-While.is) (stmt_node-While e body) in
     record {
-      told = while_says C K s (return_sort c.args.returns) c.args.around c.while_loop.result c.args.faults.now c.while_loop.new.faults (expr_tree e) (body_tree body) is c.while_loop.ensures.told;
+      told = while_says C K s (return_sort c.args.inside.returns) c.args.inside.around c.while_loop.result c.args.faults.now c.while_loop.new.faults (expr_tree e) (body_tree body) is c.while_loop.ensures.told;
       known = while_knows C K s c.while_loop.result (known_at c.while_loop.new.place) (expr_tree e) (body_tree body) is c.while_loop.ensures.known;
     }
 
@@ -237,7 +237,7 @@ act-returns-in-For t c =
     let body = c.as_slice-in-For.result.now in
     let is : stmt_node s.kind ≡ tree.For (expr_tree target) (expr_tree e) (body_tree body) = node_of s _ _ (rw c.as_slice-in-For.ensures c.in-For.is) (stmt_node-For target e body) in
     record {
-      told = for_says C K s (return_sort c.args.returns) c.args.around c.for_loop.result c.args.faults.now c.for_loop.new.faults (expr_tree target) (expr_tree e) (body_tree body) is c.for_loop.ensures.told;
+      told = for_says C K s (return_sort c.args.inside.returns) c.args.inside.around c.for_loop.result c.args.faults.now c.for_loop.new.faults (expr_tree target) (expr_tree e) (body_tree body) is c.for_loop.ensures.told;
       known = for_knows C K s c.for_loop.result (known_at c.for_loop.new.place) (expr_tree target) (expr_tree e) (body_tree body) is c.for_loop.ensures.known;
     }
 
@@ -252,7 +252,7 @@ act-returns-in-Try t c =
     let L = maybe_suite (option_map body_tree last) in
     let is : stmt_node s.kind ≡ tree.Try (body_tree body) (handlers_of (map handler_tree handlers)) L = node_of s _ _ (rw c.as_slice-in-Try.ensures (rw c.as_slice-in-Try-2.ensures c.in-Try.is)) (stmt_node-Try body handlers last) in
     record {
-      told = try_says C K s (return_sort c.args.returns) c.args.around c.try_statement.result c.args.faults.now c.try_statement.new.faults (body_tree body) (handlers_of (map handler_tree handlers)) L is c.try_statement.ensures.told;
+      told = try_says C K s (return_sort c.args.inside.returns) c.args.inside.around c.try_statement.result c.args.faults.now c.try_statement.new.faults (body_tree body) (handlers_of (map handler_tree handlers)) L is c.try_statement.ensures.told;
       known = try_knows C K s c.try_statement.result (known_at c.try_statement.new.place) (body_tree body) (handlers_of (map handler_tree handlers)) L is c.try_statement.ensures.known;
     }
 
@@ -264,8 +264,8 @@ act-returns-in-Def t c =
     let n = def_of (func_tree c.in-Def.field-0) in
     let is : stmt_node s.kind ≡ n = node_of s _ _ c.in-Def.is (stmt_node-Def c.in-Def.field-0) in
     record {
-      told = act_says C K s (return_sort c.args.returns) c.args.around c.untyped-in-Def.result c.args.faults.now c.untyped-in-Def.new.faults n is c.untyped-in-Def.ensures;
-      known = act_stays C K s c.untyped-in-Def.result n is refl;
+      told = act_says C K s (return_sort c.args.inside.returns) c.args.inside.around (Ok None) c.args.faults.now c.args.faults.now n is (silent_says boxed_act c.args.faults.now);
+      known = act_stays C K s (Ok None) n is refl;
     }
 
 pub act-returns-in-Class : goal.act-returns-in-Class
@@ -276,22 +276,22 @@ act-returns-in-Class t c =
     let n = class_def_of (class_tree c.in-Class.field-0) in
     let is : stmt_node s.kind ≡ n = node_of s _ _ c.in-Class.is (stmt_node-Class c.in-Class.field-0) in
     record {
-      told = act_says C K s (return_sort c.args.returns) c.args.around c.untyped-in-Class.result c.args.faults.now c.untyped-in-Class.new.faults n is c.untyped-in-Class.ensures;
-      known = act_stays C K s c.untyped-in-Class.result n is refl;
+      told = act_says C K s (return_sort c.args.inside.returns) c.args.inside.around (Ok None) c.args.faults.now c.args.faults.now n is (silent_says boxed_act c.args.faults.now);
+      known = act_stays C K s (Ok None) n is refl;
     }
 
 -- ---- rows
 
 pub block-loop-s-init : goal.block-loop-s-init
 block-loop-s-init t c =
-    let whole = block (context c.args.scope.now) (return_sort c.args.returns) c.args.around (known_at c.args.place.now) (body_tree c.args.body.now) in
+    let whole = block (context c.args.scope.now) (return_sort c.args.inside.returns) c.args.inside.around (known_at c.args.place.now) (body_tree c.args.body.now) in
     let P : List TStmt → Type 0 = λ l. Remains (Some (map typed_stmt l)) c.args.faults.now c.args.faults.now whole whole in
     record { row = subst P (sym c.new.ensures) (row_starts (Some []) c.args.faults.now whole refl); known = refl }
 
 pub block-loop-s-preserved-then-is_definition : goal.block-loop-s-preserved-then-is_definition
 block-loop-s-preserved-then-is_definition t c =
     let C = context c.args.scope.now in
-    let R = return_sort c.args.returns in
+    let R = return_sort c.args.inside.returns in
     let K0 = known_at c.args.place.now in
     let K = known_at c.loop-s.place in
     let xs = c.args.body.now in
@@ -299,14 +299,14 @@ block-loop-s-preserved-then-is_definition t c =
     let s = c.s-item.result in
     let d = sym c.is_definition.ensures ∙ c.if-is_definition.true in
     record {
-      row = row_passed C xs i s c.loop-s-test.true c.s-item.is R c.args.around K (option_map (map typed_stmt) c.loop-s.found) c.args.faults.now c.loop-s.faults (block C R c.args.around K0 (body_tree xs)) d c.loop-s.invariant.row;
+      row = row_passed C xs i s c.loop-s-test.true c.s-item.is R c.args.inside.around K (option_map (map typed_stmt) c.loop-s.found) c.args.faults.now c.loop-s.faults (block C R c.args.inside.around K0 (body_tree xs)) d c.loop-s.invariant.row;
       known = known_passed C xs i s c.loop-s-test.true c.s-item.is K0 K d c.loop-s.invariant.known;
     }
 
 pub block-loop-s-preserved : goal.block-loop-s-preserved
 block-loop-s-preserved t c =
     let C = context c.args.scope.now in
-    let R = return_sort c.args.returns in
+    let R = return_sort c.args.inside.returns in
     let K0 = known_at c.args.place.now in
     let K = known_at c.loop-s.place in
     let K1 = known_at c.act.new.place in
@@ -315,35 +315,35 @@ block-loop-s-preserved t c =
     let s = c.s-item.result in
     let d = sym c.is_definition.ensures ∙ c.if-is_definition.false in
     let known = known_after C K s K1 c.in_ok-kind.ensures.known in
-    let told = line_says C K s R c.args.around c.in_ok-kind.kind c.in_ok-one.one c.loop-s.faults c.act.new.faults c.in_ok-kind.ensures.told c.in_ok-one.ensures in
+    let told = line_says C K s R c.args.inside.around c.in_ok-kind.kind c.in_ok-one.one c.loop-s.faults c.act.new.faults c.in_ok-kind.ensures.told c.in_ok-one.ensures in
     record {
-      row = row_behind C xs i s c.loop-s-test.true c.s-item.is R c.args.around K K1 (option_map (map typed_stmt) c.loop-s.found) (option_map (map typed_stmt) c.in_ok-found.found) (option_map boxed_stmt c.in_ok-one.one) c.args.faults.now c.loop-s.faults c.act.new.faults (block C R c.args.around K0 (body_tree xs)) d known c.in_ok-found.ensures told.0 told.1 c.loop-s.invariant.row;
+      row = row_behind C xs i s c.loop-s-test.true c.s-item.is R c.args.inside.around K K1 (option_map (map typed_stmt) c.loop-s.found) (option_map (map typed_stmt) c.in_ok-found.found) (option_map boxed_stmt c.in_ok-one.one) c.args.faults.now c.loop-s.faults c.act.new.faults (block C R c.args.inside.around K0 (body_tree xs)) d known c.in_ok-found.ensures told.0 told.1 c.loop-s.invariant.row;
       known = known_behind C xs i s c.loop-s-test.true c.s-item.is K0 K K1 known c.loop-s.invariant.known;
     }
 
 pub block-returns : goal.block-returns
 block-returns t c =
     let C = context c.args.scope.now in
-    let R = return_sort c.args.returns in
+    let R = return_sort c.args.inside.returns in
     let K0 = known_at c.args.place.now in
     let K = known_at c.loop-s.place in
     let xs = c.args.body.now in
     let i = c.loop-s.s-index in
     record {
-      told = row_ends (option_map (map typed_stmt) c.loop-s.found) c.args.faults.now c.loop-s.faults (block C R c.args.around K0 (body_tree xs)) _ (block_ends C xs i c.loop-s-test.false R c.args.around K) c.loop-s.invariant.row;
+      told = row_ends (option_map (map typed_stmt) c.loop-s.found) c.args.faults.now c.loop-s.faults (block C R c.args.inside.around K0 (body_tree xs)) _ (block_ends C xs i c.loop-s-test.false R c.args.inside.around K) c.loop-s.invariant.row;
       known = known_ends C xs i c.loop-s-test.false K0 K c.loop-s.invariant.known;
     }
 
 pub branches-loop-e-init : goal.branches-loop-e-init
 branches-loop-e-init t c =
-    let whole = branches (context c.args.scope.now) (return_sort c.args.returns) c.args.around (setting_out (known_at c.args.place.now)) (arms_of (map arm_tree c.args.arms.now)) in
+    let whole = branches (context c.args.scope.now) (return_sort c.args.inside.returns) c.args.inside.around (setting_out (known_at c.args.place.now)) (arms_of (map arm_tree c.args.arms.now)) in
     let P : List (TExpr × List TStmt) → Type 0 = λ l. Remains (Some (map typed_arm l)) c.args.faults.now c.args.faults.now whole whole in
     record { row = subst P (sym c.new.ensures) (row_starts (Some []) c.args.faults.now whole refl); known = refl }
 
 pub branches-loop-e-preserved : goal.branches-loop-e-preserved
 branches-loop-e-preserved t c =
     let C = context c.args.scope.now in
-    let R = return_sort c.args.returns in
+    let R = return_sort c.args.inside.returns in
     let W0 : Way = setting_out (known_at c.args.place.now) in
     let K = known_at c.loop-e.place in
     let E : Option (List ℕ) = option_map (λ v. v.items) c.loop-e.ends in
@@ -356,20 +356,20 @@ branches-loop-e-preserved t c =
     let b = c.as_slice-body.result.now in
     let e = way_behind C xs i a c.loop-e-test.true c.loop-e-item.is b c.as_slice-body.ensures K (known_at c.guarded.new.place) (known_at c.leave_arm.new.place) E E1 c.in_ok-fails.fails.items c.in_ok-fails.ensures c.in_ok-one.ensures.known c.in_ok-ends.ensures.known c.in_ok-ends.ensures.ends in
     record {
-      row = arms_behind C xs i a c.loop-e-test.true c.loop-e-item.is b c.as_slice-body.ensures R c.args.around W W1 (option_map (map typed_arm) c.loop-e.found) (option_map (map typed_arm) c.in_ok-found.found) (option_map guarded_seen c.in_ok-one.one) c.args.faults.now c.loop-e.faults c.guarded.new.faults (branches C R c.args.around W0 (arms_of (map arm_tree xs))) e c.in_ok-found.ensures c.in_ok-one.ensures.told.0 c.in_ok-one.ensures.told.1 c.loop-e.invariant.row;
+      row = arms_behind C xs i a c.loop-e-test.true c.loop-e-item.is b c.as_slice-body.ensures R c.args.inside.around W W1 (option_map (map typed_arm) c.loop-e.found) (option_map (map typed_arm) c.in_ok-found.found) (option_map guarded_seen c.in_ok-one.one) c.args.faults.now c.loop-e.faults c.guarded.new.faults (branches C R c.args.inside.around W0 (arms_of (map arm_tree xs))) e c.in_ok-found.ensures c.in_ok-one.ensures.told.0 c.in_ok-one.ensures.told.1 c.loop-e.invariant.row;
       known = ways_behind C xs i a c.loop-e-test.true c.loop-e-item.is b c.as_slice-body.ensures W0 W W1 e c.loop-e.invariant.known;
     }
 
 pub branches-returns : goal.branches-returns
 branches-returns t c =
     let C = context c.args.scope.now in
-    let R = return_sort c.args.returns in
+    let R = return_sort c.args.inside.returns in
     let W0 : Way = setting_out (known_at c.args.place.now) in
     let W : Way = way (known_at c.loop-e.place) (option_map (λ v. v.items) c.loop-e.ends) in
     let xs = c.args.arms.now in
     let i = c.loop-e.e-index in
     record {
-      told = row_ends (option_map (map typed_arm) c.loop-e.found) c.args.faults.now c.loop-e.faults (branches C R c.args.around W0 (arms_of (map arm_tree xs))) _ (branches_end C xs i c.loop-e-test.false R c.args.around W) c.loop-e.invariant.row;
+      told = row_ends (option_map (map typed_arm) c.loop-e.found) c.args.faults.now c.loop-e.faults (branches C R c.args.inside.around W0 (arms_of (map arm_tree xs))) _ (branches_end C xs i c.loop-e-test.false R c.args.inside.around W) c.loop-e.invariant.row;
       known = ways_end C xs i c.loop-e-test.false W0 W c.loop-e.invariant.known;
     }
 
@@ -378,29 +378,29 @@ branches-returns t c =
 pub guarded-returns : goal.guarded-returns
 guarded-returns t c =
     let C = context c.args.scope.now in
-    let R = return_sort c.args.returns in
+    let R = return_sort c.args.inside.returns in
     let K = known_at c.args.place.now in
     let e = expr_tree c.args.e.now in
     let body = body_tree c.args.body.now in
-    let P : Known → Type 0 = λ k. Tells (map typed_stmt) c.in_ok-body.body c.condition.new.faults c.block.new.faults (block C R c.args.around k body) in
+    let P : Known → Type 0 = λ k. Tells (map typed_stmt) c.in_ok-body.body c.condition.new.faults c.block.new.faults (block C R c.args.inside.around k body) in
     record {
-      told = both_say boxed (map typed_stmt) guarded_seen (condition C K e) (block C R c.args.around (where_test C K true e) body) c.in_ok-test.test c.in_ok-body.body c.guarded_by.result c.args.faults.now c.condition.new.faults c.block.new.faults c.in_ok-test.ensures (subst P c.in_ok-learn.ensures c.in_ok-body.ensures.told) c.guarded_by.ensures;
+      told = both_say boxed (map typed_stmt) guarded_seen (condition C K e) (block C R c.args.inside.around (where_test C K true e) body) c.in_ok-test.test c.in_ok-body.body c.guarded_by.result c.args.faults.now c.condition.new.faults c.block.new.faults c.in_ok-test.ensures (subst P c.in_ok-learn.ensures c.in_ok-body.ensures.told) c.guarded_by.ensures;
       known = c.in_ok-body.ensures.known ∙ ap (λ k. block_after C k body) c.in_ok-learn.ensures;
     }
 
 pub conditional-returns : goal.conditional-returns
 conditional-returns t c =
     let C = context c.args.scope.now in
-    let R = return_sort c.args.returns in
+    let R = return_sort c.args.inside.returns in
     let W0 : Way = setting_out (known_at c.args.place.now) in
     let arms = arms_of (map arm_tree c.args.arms.now) in
     let W : Way = arms_after C W0 arms in
     let other = body_tree c.args.other.now in
     let made = c.in_ok-arms.field-0 in
     let E : Option (List ℕ) = option_map (λ v. v.items) made.ends in
-    let P : Way → Type 0 = λ w. Tells (map typed_stmt) c.in_ok-last.last c.branches.new.faults c.block.new.faults (block C R c.args.around w.at other) in
+    let P : Way → Type 0 = λ w. Tells (map typed_stmt) c.in_ok-last.last c.branches.new.faults c.block.new.faults (block C R c.args.inside.around w.at other) in
     record {
-      told = pair_says (λ p. acts.If (acts.arms_of p.0) (suite_of p.1)) (map typed_arm) (map typed_stmt) boxed_act (branches C R c.args.around W0 arms) (block C R c.args.around W.at other) made.arms c.in_ok-last.last c.branched.result c.args.faults.now c.branches.new.faults c.block.new.faults c.in_ok-arms.ensures.told (subst P c.in_ok-arms.ensures.known c.in_ok-last.ensures.told) c.branched.ensures;
+      told = pair_says (λ p. acts.If (acts.arms_of p.0) (suite_of p.1)) (map typed_arm) (map typed_stmt) boxed_act (branches C R c.args.inside.around W0 arms) (block C R c.args.inside.around W.at other) made.arms c.in_ok-last.last c.branched.result c.args.faults.now c.branches.new.faults c.block.new.faults c.in_ok-arms.ensures.told (subst P c.in_ok-arms.ensures.known c.in_ok-last.ensures.told) c.branched.ensures;
       known = always c.branched.result (known_at c.leave_branches.new.place ≡ meeting W.ends (is_closed other) (block_after C W.at other))
           (known_behind_else C W (known_at c.branches.new.place) (known_at c.block.new.place) (known_at c.leave_branches.new.place) E other c.in_ok-arms.ensures.known c.in_ok-last.ensures.known c.in_ok-leave_branches.ensures);
     }
@@ -408,7 +408,7 @@ conditional-returns t c =
 pub while_loop-returns : goal.while_loop-returns
 while_loop-returns t c =
     let C = context c.args.scope.now in
-    let R = return_sort c.args.returns in
+    let R = return_sort c.args.inside.returns in
     let e = expr_tree c.args.e.now in
     let body = body_tree c.args.body.now in
     let entered = entering C (known_at c.args.place.now) (stmt_tree c.args.s.now) in
@@ -416,9 +416,9 @@ while_loop-returns t c =
     let outside = c.in_ok-outside.outside.items in
     let names = left_while C entered e body in
     let behind = block_after C (where_test C entered true e) body in
-    let P : Known → Type 0 = λ k. Tells guarded_seen c.in_ok-one.one c.args.faults.now c.guarded.new.faults (guarded C R (around_loop c.args.around) k e body) in
+    let P : Known → Type 0 = λ k. Tells guarded_seen c.in_ok-one.one c.args.faults.now c.guarded.new.faults (guarded C R (around_loop c.args.inside.around) k e body) in
     record {
-      told = made_says (λ p. acts.While p.0 (suite_of p.1)) guarded_seen boxed_act (guarded C R (around_loop c.args.around) entered e body) c.in_ok-one.one c.repeated.result c.args.faults.now c.guarded.new.faults (subst P c.in_ok-outside.ensures.known c.in_ok-one.ensures.told) c.repeated.ensures;
+      told = made_says (λ p. acts.While p.0 (suite_of p.1)) guarded_seen boxed_act (guarded C R (around_loop c.args.inside.around) entered e body) c.in_ok-one.one c.repeated.result c.args.faults.now c.guarded.new.faults (subst P c.in_ok-outside.ensures.known c.in_ok-one.ensures.told) c.repeated.ensures;
       known = always c.repeated.result (with_names end outside ≡ behind_loop names behind)
           (known_behind_loop outside names end behind c.in_ok-outside.ensures.outside (c.in_ok-one.ensures.known ∙ ap (λ k. block_after C (where_test C k true e) body) c.in_ok-outside.ensures.known));
     }
@@ -426,21 +426,21 @@ while_loop-returns t c =
 pub for_loop-returns : goal.for_loop-returns
 for_loop-returns t c =
     let C = context c.args.scope.now in
-    let R = return_sort c.args.returns in
+    let R = return_sort c.args.inside.returns in
     let K = known_at c.args.place.now in
     let s = c.args.s.now in
-    let target = expr_tree c.args.target.now in
-    let e = expr_tree c.args.e.now in
-    let body = body_tree c.args.body.now in
+    let target = expr_tree c.args.parts.target.now in
+    let e = expr_tree c.args.parts.over.now in
+    let body = body_tree c.args.parts.body.now in
     let begun = c.in_ok-head.field-0 in
     let inside = in_for C K (stmt_tree s) s.span target e in
     let end = known_at c.block.new.place in
     let outside = begun.outside.items in
     let names = (entering C K (stmt_tree s)).names in
     let behind = block_after C inside body in
-    let P : Known → Type 0 = λ k. Tells (map typed_stmt) c.in_ok-body.body c.begin_for.new.faults c.block.new.faults (block C R (around_loop c.args.around) k body) in
+    let P : Known → Type 0 = λ k. Tells (map typed_stmt) c.in_ok-body.body c.begin_for.new.faults c.block.new.faults (block C R (around_loop c.args.inside.around) k body) in
     record {
-      told = pair_says (λ p. loop_of p.0.0 p.0.1 (suite_of p.1)) boxed_head (map typed_stmt) boxed_act (for_head C K (stmt_tree s) s.span target e) (block C R (around_loop c.args.around) inside body) begun.head c.in_ok-body.body c.looped.result c.args.faults.now c.begin_for.new.faults c.block.new.faults c.in_ok-head.ensures.told (subst P c.in_ok-head.ensures.known c.in_ok-body.ensures.told) c.looped.ensures;
+      told = pair_says (λ p. loop_of p.0.0 p.0.1 (suite_of p.1)) boxed_head (map typed_stmt) boxed_act (for_head C K (stmt_tree s) s.span target e) (block C R (around_loop c.args.inside.around) inside body) begun.head c.in_ok-body.body c.looped.result c.args.faults.now c.begin_for.new.faults c.block.new.faults c.in_ok-head.ensures.told (subst P c.in_ok-head.ensures.known c.in_ok-body.ensures.told) c.looped.ensures;
       known = always c.looped.result (with_names end outside ≡ behind_loop names behind)
           (known_behind_loop outside names end behind c.in_ok-head.ensures.outside (c.in_ok-body.ensures.known ∙ ap (λ k. block_after C k body) c.in_ok-head.ensures.known));
     }
@@ -448,13 +448,13 @@ for_loop-returns t c =
 pub try_statement-returns : goal.try_statement-returns
 try_statement-returns t c =
     let C = context c.args.scope.now in
-    let R = return_sort c.args.returns in
-    let A = c.args.around in
+    let R = return_sort c.args.inside.returns in
+    let A = c.args.inside.around in
     let K = known_at c.args.place.now in
     let N = outside_try C K (stmt_tree c.args.s.now) in
-    let body = body_tree c.args.body.now in
-    let H = handlers_of (map handler_tree c.args.handlers.now) in
-    let L = maybe_suite (option_map body_tree c.args.last.now) in
+    let body = body_tree c.args.parts.body.now in
+    let H = handlers_of (map handler_tree c.args.parts.handlers.now) in
+    let L = maybe_suite (option_map body_tree c.args.parts.last.now) in
     let names = c.as_slice-names.result.now in
     let same : names ≡ N = c.as_slice-names.ensures.value ∙ c.in_ok-outside.ensures.names in
     let K1 = known_at c.block.new.place in
@@ -479,34 +479,36 @@ try_statement-returns t c =
 pub clause-returns : goal.clause-returns
 clause-returns t c =
     let C = context c.args.scope.now in
-    let R = return_sort c.args.returns in
+    let R = return_sort c.args.inside.returns in
     let K = known_at c.args.place.now in
-    let A = around_clause c.args.around in
+    let A = around_clause c.args.inside.around in
     let last = c.args.last in
     let h = c.args.handler.now in
     let x = handler_tree h in
-    let body = body_tree c.args.body.now in
+    let body = body_tree c.as_slice-body.result.now in
+    let same : body ≡ x.body = ap body_tree c.as_slice-body.ensures ∙ sym (ap (λ (y : HandlerTree). y.body) (handler_tree_at h)) in
     let T : HandlerTree → Type 0 = λ y. Tells boxed_handler_head c.in_ok-head.head c.args.faults.now c.begin_handler.new.faults (handler_head C K y.span y.class y.name last) in
     let E : HandlerTree → Type 0 = λ y. known_at c.begin_handler.new.place ≡ in_handler C K y.span y.class y.name last in
     let told = subst T (sym (handler_tree_at h)) c.in_ok-head.ensures.told in
     let known = subst E (sym (handler_tree_at h)) c.in_ok-head.ensures.known in
     let P : Known → Type 0 = λ k. Tells (map typed_stmt) c.in_ok-body.body c.begin_handler.new.faults c.block.new.faults (block C R A k body) in
+    let Q : Suite → Type 0 = λ l. Tells (map typed_stmt) c.in_ok-body.body c.begin_handler.new.faults c.block.new.faults (block C R A (in_handler C K x.span x.class x.name last) l) in
     record {
-      told = both_say boxed_handler_head (map typed_stmt) clause_seen (handler_head C K x.span x.class x.name last) (block C R A (in_handler C K x.span x.class x.name last) body) c.in_ok-head.head c.in_ok-body.body c.clause_by.result c.args.faults.now c.begin_handler.new.faults c.block.new.faults told (subst P known c.in_ok-body.ensures.told) c.clause_by.ensures;
-      known = c.in_ok-body.ensures.known ∙ ap (λ k. block_after C k body) known;
+      told = both_say boxed_handler_head (map typed_stmt) clause_seen (handler_head C K x.span x.class x.name last) (block C R A (in_handler C K x.span x.class x.name last) x.body) c.in_ok-head.head c.in_ok-body.body c.clause_by.result c.args.faults.now c.begin_handler.new.faults c.block.new.faults told (subst Q same (subst P known c.in_ok-body.ensures.told)) c.clause_by.ensures;
+      known = c.in_ok-body.ensures.known ∙ ap (λ k. block_after C k body) known ∙ ap (block_after C (in_handler C K x.span x.class x.name last)) same;
     }
 
 pub clauses-loop-i-init : goal.clauses-loop-i-init
 clauses-loop-i-init t c =
-    let whole = clauses (context c.args.scope.now) (return_sort c.args.returns) c.args.around c.args.names.now (known_at c.args.place.now) (handlers_of (map handler_tree c.args.handlers.now)) in
+    let whole = clauses (context c.args.scope.now) (return_sort c.args.inside.returns) c.args.inside.around c.args.names.now (known_at c.args.place.now) (handlers_of (map handler_tree c.args.handlers.now)) in
     let P : List THandler → Type 0 = λ l. Remains (Some (map typed_handler l)) c.args.faults.now c.args.faults.now whole whole in
     record { row = subst P (sym c.new.ensures) (row_starts (Some []) c.args.faults.now whole refl); known = refl }
 
 pub clauses-loop-i-preserved : goal.clauses-loop-i-preserved
 clauses-loop-i-preserved t c =
     let C = context c.args.scope.now in
-    let R = return_sort c.args.returns in
-    let A = c.args.around in
+    let R = return_sort c.args.inside.returns in
+    let A = c.args.inside.around in
     let N = c.args.names.now in
     let K = known_at c.loop-i.place in
     let K0 = known_at c.begin_with.new.place in
@@ -514,18 +516,17 @@ clauses-loop-i-preserved t c =
     let xs = c.args.handlers.now in
     let i = c.loop-i.i in
     let h = c.index-handlers-i.result in
-    let b = c.as_slice-body.result.now in
     let there : i < length xs = search (rules, c.loop-i-test.true) in
     record {
-      row = clauses_row C N xs i h there c.index-handlers-i.is b c.as_slice-body.ensures (nat_eq (i + 1) (length xs)) refl K K0 K1 c.in_ok-begin_with.ensures c.in_ok-one.ensures.known R A (option_map (map typed_handler) c.loop-i.found) (option_map (map typed_handler) c.in_ok-found.found) (option_map clause_seen c.in_ok-one.one) c.args.faults.now c.loop-i.faults c.clause.new.faults (clauses C R A N (known_at c.args.place.now) (handlers_of (map handler_tree xs))) c.in_ok-found.ensures c.in_ok-one.ensures.told.0 c.in_ok-one.ensures.told.1 c.loop-i.invariant.row;
-      known = clauses_known C N xs i h there c.index-handlers-i.is b c.as_slice-body.ensures (nat_eq (i + 1) (length xs)) refl K K0 K1 c.in_ok-begin_with.ensures c.in_ok-one.ensures.known (known_at c.args.place.now) c.loop-i.invariant.known;
+      row = clauses_row C N xs i h there c.index-handlers-i.is (nat_eq (i + 1) (length xs)) refl K K0 K1 c.in_ok-begin_with.ensures c.in_ok-one.ensures.known R A (option_map (map typed_handler) c.loop-i.found) (option_map (map typed_handler) c.in_ok-found.found) (option_map clause_seen c.in_ok-one.one) c.args.faults.now c.loop-i.faults c.clause.new.faults (clauses C R A N (known_at c.args.place.now) (handlers_of (map handler_tree xs))) c.in_ok-found.ensures c.in_ok-one.ensures.told.0 c.in_ok-one.ensures.told.1 c.loop-i.invariant.row;
+      known = clauses_known C N xs i h there c.index-handlers-i.is (nat_eq (i + 1) (length xs)) refl K K0 K1 c.in_ok-begin_with.ensures c.in_ok-one.ensures.known (known_at c.args.place.now) c.loop-i.invariant.known;
     }
 
 pub clauses-returns : goal.clauses-returns
 clauses-returns t c =
     let C = context c.args.scope.now in
-    let R = return_sort c.args.returns in
-    let A = c.args.around in
+    let R = return_sort c.args.inside.returns in
+    let A = c.args.inside.around in
     let N = c.args.names.now in
     let K0 = known_at c.args.place.now in
     let K = known_at c.loop-i.place in
