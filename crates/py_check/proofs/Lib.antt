@@ -3,4 +3,9 @@ pub mod WalkLemmas
 pub mod WholeLemmas
 pub mod BodyLemmas
 pub mod Kept
-pub mod UnfixedLemmas
+pub mod Bound
+pub mod Sights
+pub mod NameRows
+pub mod Roles
+pub mod Fixed
+pub mod Bindings

@@ -1,4 +1,4 @@
 pub mod Module
 pub mod Outcome
 pub mod Parts
-pub mod Unfixed
+pub mod Fixed

@@ -138,7 +138,7 @@ module _ (c : Context) (names : List (List ℕ)) (sorts : List VarSort) (f : Hea
 
 -- ---- all bodies, by the numbers of functions
 
--- where the module's variables have these types: what a body gives to one that has none yet it gives for itself alone
+-- where the module's variables have these types: all bodies begin with them
 module _ (e : Environment) (sorts : List VarSort) where
   abbrev pub bodies_said : List Headed → List Diag
   bodies_said fs = flat_map (λ f. (body (context_in e f.inside) e.variables sorts f).said) fs

@@ -11,9 +11,8 @@ ghost use Rattle.py_check_places.specs.Views.{known_at};
 ghost use Rattle.py_check_definitions.specs.Views.{headed_of, headed_parts};
 ghost use Rattle.py_check.specs.Module as spec;
 ghost use Rattle.py_check.specs.Parts as views;
-ghost use Rattle.py_check.specs.Unfixed as fixing;
+ghost use Rattle.py_check.specs.Fixed.{AreFixed};
 
-use crate::unfixed::{unfixed_numbers, without_types};
 use indexmap::IndexSet;
 use py_check_context::{Context, VarType};
 use py_check_definitions::{
@@ -21,15 +20,15 @@ use py_check_definitions::{
 };
 use py_check_names::{names_in, own_names};
 use py_check_places::Place;
-use py_check_statements::{Around, block};
+use py_check_statements::{Around, Inside, block};
 use py_check_values::Returns;
 use py_syntax_diagnostics::Diag;
 use py_typed::{TFunc, TStmt, Ty};
 use std::alloc::Global;
 use value_core::{Many, Memory, Name};
 
-/// The functions of a module with their bodies, in their order, where its variables have these types. A type that a body gives to
-/// a variable that has none yet is known in that body alone.
+/// The functions of a module with their bodies, in their order, where its variables have these types. They keep them: each of the
+/// variables has one, or has none for good.
 pub(crate) fn typed_functions(
     alloc: Global,
     environment: &Environment<'_>,
@@ -37,58 +36,15 @@ pub(crate) fn typed_functions(
     place: &mut Place,
     faults: &mut Many<Diag>,
 ) -> Result<Many<TFunc>, Memory>
-    ensures typed { IfOk result (λ fs. map typed_func fs ≡ spec.typed_functions (views.environment_of environment.now) (known_at place.old).types.globals (map headed_of functions.now)) }
-    ensures told { IfOk result (λ fs. faults.new ≡ faults.old ++ spec.bodies_said (views.environment_of environment.now) (known_at place.old).types.globals (map headed_of functions.now)) }
-    ensures known { IfOk result (λ fs. (known_at place.new).types.globals ≡ (known_at place.old).types.globals) }
-{
-    let numbers = unfixed_numbers(alloc, &place.types.globals)?;
-    functions_in(
-        alloc,
-        environment,
-        functions,
-        numbers.as_slice(),
-        place,
-        faults,
-    )
-}
-
-/// The same where the variables of these numbers have no type yet.
-fn functions_in(
-    alloc: Global,
-    environment: &Environment<'_>,
-    functions: &[Function<'_>],
-    unfixed: &[usize],
-    place: &mut Place,
-    faults: &mut Many<Diag>,
-) -> Result<Many<TFunc>, Memory>
-    requires { unfixed.now ≡ fixing.unfixed_from 0 (known_at place.old).types.globals }
+    requires { AreFixed (known_at place.old).types.globals }
     ensures typed { IfOk result (λ fs. map typed_func fs ≡ spec.typed_functions (views.environment_of environment.now) (known_at place.old).types.globals (map headed_of functions.now)) }
     ensures told { IfOk result (λ fs. faults.new ≡ faults.old ++ spec.bodies_said (views.environment_of environment.now) (known_at place.old).types.globals (map headed_of functions.now)) }
     ensures known { IfOk result (λ fs. (known_at place.new).types.globals ≡ (known_at place.old).types.globals) }
 {
     let mut typed = Many::new(alloc);
     for f in functions {
-        typed.push(function_alone(alloc, environment, f, unfixed, place, faults)?)?;
+        typed.push(typed_function(alloc, environment, f, place, faults)?)?;
     }
-    Ok(typed)
-}
-
-/// A function with its body, behind which the variables of the module have the types that they had before.
-fn function_alone(
-    alloc: Global,
-    environment: &Environment<'_>,
-    f: &Function<'_>,
-    unfixed: &[usize],
-    place: &mut Place,
-    faults: &mut Many<Diag>,
-) -> Result<TFunc, Memory>
-    requires { unfixed.now ≡ fixing.unfixed_from 0 (known_at place.old).types.globals }
-    ensures typed { IfOk result (λ t. typed_func t ≡ spec.typed_function (spec.context_in (views.environment_of environment.now) f.now.inside.now) environment.now.known.now.variables.keys (known_at place.old).types.globals (headed_of f.now)) }
-    ensures told { IfOk result (λ t. faults.new ≡ faults.old ++ (spec.body (spec.context_in (views.environment_of environment.now) f.now.inside.now) environment.now.known.now.variables.keys (known_at place.old).types.globals (headed_of f.now)).said) }
-    ensures known { IfOk result (λ t. (known_at place.new).types.globals ≡ (known_at place.old).types.globals) }
-{
-    let typed = typed_function(alloc, environment, f, place, faults)?;
-    without_types(unfixed, &mut place.types.globals);
     Ok(typed)
 }
 
@@ -153,18 +109,15 @@ fn body_in(
     ensures known { IfOk result (λ t. known_at place.new ≡ spec.body_after (context scope.now) variables.now.keys (known_at place.old).types.globals (headed_parts f.now)) }
 {
     begin(alloc, scope, variables, own, f, place)?;
-    block(
-        alloc,
-        scope,
-        f.tree.body.as_slice(),
-        returns_of(&f.header.ret),
-        Around {
+    let inside = Inside {
+        returns: returns_of(&f.header.ret),
+        around: Around {
             looping: false,
             handling: false,
         },
-        place,
-        faults,
-    )
+    };
+    let body = f.tree.body.as_slice();
+    block(alloc, scope, body, inside, place, faults)
 }
 
 /// Where a function begins, its parameters are bound, and so are the module's variables, which keep their types.

@@ -9,7 +9,6 @@ mod bodies;
 mod checking;
 mod found;
 mod modules;
-mod unfixed;
 mod walk;
 
 pub use checking::{CheckError, check};

@@ -2,9 +2,11 @@
 ghost use Rattle.std.specs.Prelude.{◌≡◌, ◌++◌, map, IfOk};
 ghost use Rattle.std.specs.Option.{option_map};
 ghost use Rattle.py_syntax.specs.Statements.{body_tree};
+ghost use Rattle.py_binder.specs.Scope.{module_scope};
 ghost use Rattle.py_typed.specs.Classes.{signature};
 ghost use Rattle.py_typed.specs.Statements.{typed_func, typed_module, typed_stmt};
 ghost use Rattle.py_check_context.specs.Context.{context, var_sort};
+ghost use Rattle.py_check_names.specs.Meanings as meanings;
 ghost use Rattle.py_check_signatures.specs.Headers as headers;
 ghost use Rattle.py_check_places.specs.Views.{known_at};
 ghost use Rattle.py_check_definitions.specs.Views.{headed_of};
@@ -74,6 +76,8 @@ fn typed_parts(
     body: &[Stmt],
     faults: &mut Many<Diag>,
 ) -> Result<Checked, Memory>
+    requires bound { scopes.now.top ≡ module_scope (body_tree body.now) }
+    requires names { known.now.variables.keys ≡ meanings.variables scopes.now.top }
     ensures typed { IfOk result (λ c. typed_module c ≡ spec.typed_parts (views.environment_by known.now (map headed_of functions.now)) scopes.now.top (map headed_of functions.now) (body_tree body.now)) }
     ensures told { IfOk result (λ c. faults.new ≡ faults.old ++ views.statements_along (views.environment_by known.now (map headed_of functions.now)) scopes.now.top scopes.now.funcs (map headed_of functions.now) (body_tree body.now)) }
 {
@@ -96,6 +100,8 @@ fn typed_in(
     body: &[Stmt],
     faults: &mut Many<Diag>,
 ) -> Result<Checked, Memory>
+    requires bound { scopes.now.top ≡ module_scope (body_tree body.now) }
+    requires names { environment.now.known.now.variables.keys ≡ meanings.variables scopes.now.top }
     ensures typed { IfOk result (λ c. typed_module c ≡ spec.typed_parts (views.environment_of environment.now) scopes.now.top (map headed_of functions.now) (body_tree body.now)) }
     ensures told { IfOk result (λ c. faults.new ≡ faults.old ++ views.statements_along (views.environment_of environment.now) scopes.now.top scopes.now.funcs (map headed_of functions.now) (body_tree body.now)) }
 {

@@ -19,7 +19,7 @@ use py_check_context::Context;
 use py_check_definitions::add_definitions;
 use py_check_names::definitions_in;
 use py_check_places::Place;
-use py_check_statements::{Around, block};
+use py_check_statements::{Around, Inside, block};
 use py_check_values::Returns;
 use py_syntax::Stmt;
 use py_syntax_diagnostics::Diag;
@@ -90,18 +90,14 @@ fn statement(
     ensures told { IfOk result (λ t. Tells (map typed_stmt) t faults.old faults.new (bodies.block (context scope.now) outside bodies.nothing_around (known_at place.old) (stmt_then (stmt_tree s.now) no_stmts))) }
     ensures known { IfOk result (λ t. known_at place.new ≡ bodies.after (context scope.now) (known_at place.old) (stmt_tree s.now)) }
 {
-    block(
-        alloc,
-        scope,
-        from_ref(s),
-        Returns::Outside,
-        Around {
+    let inside = Inside {
+        returns: Returns::Outside,
+        around: Around {
             looping: false,
             handling: false,
         },
-        place,
-        faults,
-    )
+    };
+    block(alloc, scope, from_ref(s), inside, place, faults)
 }
 
 /// Those that were typed before, and all that is typed behind them.

@@ -95,8 +95,12 @@ fn add_definition(
 {
     match &s.kind {
         StmtKind::Def(f) => {
-            let fresh = is_new(earlier, &f.name);
-            add_first(alloc, scope, place, s.span, fresh, insides, f, faults)
+            let defined = Defined {
+                span: s.span,
+                fresh: is_new(earlier, &f.name),
+                tree: f,
+            };
+            add_first(alloc, scope, place, defined, insides, faults)
         }
         StmtKind::Class(c) => add_class(alloc, scope, place, s.span, c, faults),
         StmtKind::Import(_, _) => outside_import(alloc, s.span, faults),
@@ -110,41 +114,46 @@ fn add_definition(
     }
 }
 
+/// A function that is defined at a place of the text, and whether its name is new there.
+struct Defined<'a> {
+    span: Span,
+    fresh: bool,
+    tree: &'a Func,
+}
+
+/// Adds what is said of a function, whose names are the first of these, if there are any.
 fn add_first(
     alloc: Global,
     scope: &Context<'_>,
     place: &Place,
-    span: Span,
-    fresh: bool,
+    defined: Defined<'_>,
     insides: &[Scope],
-    f: &Func,
     faults: &mut Many<Diag>,
 ) -> Result<(), Memory>
-    ensures { IfOk result (λ done. faults.new ≡ faults.old ++ views.first_said (context scope.now) (known_at place.now) span fresh insides.now (func_tree f.now)) }
+    ensures { IfOk result (λ done. faults.new ≡ faults.old ++ views.first_said (context scope.now) (known_at place.now) defined.entry.span defined.entry.fresh insides.now (func_tree defined.entry.tree.now)) }
 {
     match insides {
         [] => Ok(()),
-        [inside, ..] => add_function(alloc, scope, place, span, fresh, inside, f, faults),
+        [inside, ..] => add_function(alloc, scope, place, defined, inside, faults),
     }
 }
 
-/// Adds what is said of a function of these names, whose own name is new or not: first of its decorators and annotations.
+/// Adds what is said of a function of these names: first of its decorators and annotations.
 fn add_function(
     alloc: Global,
     scope: &Context<'_>,
     place: &Place,
-    span: Span,
-    fresh: bool,
+    defined: Defined<'_>,
     inside: &Scope,
-    f: &Func,
     faults: &mut Many<Diag>,
 ) -> Result<(), Memory>
-    ensures { IfOk result (λ done. faults.new ≡ faults.old ++ spec.function_said (context scope.now) (known_at place.now) span fresh inside.now (func_tree f.now)) }
+    ensures { IfOk result (λ done. faults.new ≡ faults.old ++ spec.function_said (context scope.now) (known_at place.now) defined.entry.span defined.entry.fresh inside.now (func_tree defined.entry.tree.now)) }
 {
-    let marked = add_marks(alloc, scope, place, f, faults)?;
-    let header = header_of(alloc, scope, f, faults)?;
+    let Defined { span, fresh, tree } = defined;
+    let marked = add_marks(alloc, scope, place, tree, faults)?;
+    let header = header_of(alloc, scope, tree, faults)?;
     let own = own_count(inside);
-    add_def_fault(alloc, span, fresh, own, marked, f, &header, faults)
+    add_def_fault(alloc, span, fresh, own, marked, tree, &header, faults)
 }
 
 /// Adds what is said in the decorators of a function, and answers whether each has a type.

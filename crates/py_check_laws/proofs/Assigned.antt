@@ -1,11 +1,10 @@
 -- What is known of targets and of a value's type where a value is bound to them.
-use Rattle.std.proofs.Common.{◌≡◌, ℕ, suc, Bool, true, false, List, [], ◌∷◌, length, map, Option, Some, None, Result, Ok, Err, refl, ap, sym, ◌∙◌, if◌then◌else◌, nat_eq, eqb-true}
+use Rattle.std.proofs.Common.{◌≡◌, ℕ, suc, Bool, true, false, List, [], ◌∷◌, length, Option, Some, None, Result, Ok, Err, refl, ap, sym, ◌∙◌, if◌then◌else◌, nat_eq, eqb-true}
 use Rattle.std.proofs.lemmas.Option.{same_Some}
 use Rattle.std.specs.Option.{option_map}
 use Rattle.py_syntax.specs.declared.token.Span.{Span}
 use Rattle.py_syntax.specs.declared.expression.BinOp.{BinOp}
-use Rattle.py_syntax.specs.Expressions as tree
-use Rattle.py_syntax.specs.Expressions.{ExprTree, at}
+use Rattle.py_syntax.specs.Expressions.{ExprTree}
 use Rattle.py_typed.specs.Sorts as sort
 use Rattle.py_typed.specs.Sorts.{Sort, Sorts, listed_sorts}
 use Rattle.py_typed.specs.Classes.{ClassEntry}
@@ -20,7 +19,7 @@ use Rattle.py_check_coercions.specs.Rows.{first_of}
 use Rattle.py_check_operators.specs.Operators.{arithmetic}
 use Rattle.py_check_values.specs.Aims.{Aim}
 use Rattle.py_check_values.specs.Assignments.{binding_fault, as_bound, assignment, first_barred, first_unwritten, items_for, items_fault, unpacking_fault}
-use Rattle.py_check_places.specs.Places.{Known, bind_name, bind_names}
+use Rattle.py_check_places.specs.Places.{Known, bind_names}
 use Rattle.py_check_places.specs.Shapes.{is_row, is_flat, leaves, target_names, some_parts, parts_for}
 use Rattle.py_check_targets.specs.Targets.{is_placed, targets_of, are_placed, parts_fault, several_fault, one_assigned, value_assigned, act_of, assigned, annotation_fault, given_after, given, target_of, written_back, of_operation, updated, next_part, more_parts, single_aim, beyond, aims}
 use Rattle.py_check_places.specs.Shapes.{bind_target}
@@ -30,25 +29,8 @@ use Rattle.py_check_laws.proofs.Given.{ok_same, if_then, unless_ok, mapped_none,
 
 -- ---- targets
 
--- what is no tuple and no list is one target
-pub leaves_one : (e : ExprTree) → is_row e ≡ false → leaves e ≡ e ∷ []
-leaves_one (at (tree.TupleOf es) span) h = absurd (cc)
-leaves_one (at (tree.ListOf es) span) h = absurd (cc)
-leaves_one (at _ span) h = refl
-
-pub name_no_row : (e : ExprTree) (x : List ℕ) → name_in e ≡ Some x → is_row e ≡ false
-name_no_row (at (tree.TupleOf es) span) x h = absurd (cc)
-name_no_row (at (tree.ListOf es) span) x h = absurd (cc)
-name_no_row (at _ span) x h = refl
-
 module _ (C : Context) where
-  -- one target is bound to the whole value, and several to its parts
-  pub single_bound : (ok : Bool) (k : Known) (target : ExprTree) (t : Option Sort) → is_row target ≡ false → bind_target C ok k target t ≡ bind_name C ok k (name_in target) t
-  single_bound ok k target None h = ap (λ (l : List ExprTree). bind_names C ok k (map name_in l) []) (leaves_one target h)
-  single_bound ok k target (Some t) h =
-      ap (λ (l : List ExprTree). bind_names C ok k (map name_in l) (parts_for (is_row target) (length l) t)) (leaves_one target h)
-      ∙ ap (λ (b : Bool). bind_names C ok k (name_in target ∷ []) (parts_for b 1 t)) h
-
+  -- several targets are bound to the parts of a value
   pub row_bound : (ok : Bool) (k : Known) (target : ExprTree) (t : Sort) (ts : List Sort) → is_row target ≡ true → items_for t (length (leaves target)) ≡ Some ts → bind_target C ok k target (Some t) ≡ bind_names C ok k (target_names target) ts
   row_bound ok k target t ts h e =
       ap (λ (b : Bool). bind_names C ok k (target_names target) (parts_for b (length (leaves target)) t)) h

@@ -43,13 +43,14 @@ use Rattle.py_check_exceptions.specs.Handlers.{name_target, handler_head, in_han
 use Rattle.py_check_statements.specs.Bodies.{is_definition, around_loop, around_clause, is_last, clause_of, present, try_of, condition, outside_try, after, block_after, arms_after, handlers_after, statement, node_statement, block, branches, clauses, maybe_block}
 use Rattle.py_check_statements.specs.declared.bodies.Around.{Around}
 use Rattle.py_check_laws.specs.Narrowing.{is_own, is_own_name, is_bare_stmt, is_bare_act, is_bare_suite, are_bare_arms, are_bare_handlers, is_bare_last}
+use Rattle.py_check.proofs.Bound.{named, leaf_bindings, target_leaves}
 use Rattle.py_check_laws.proofs.Given.{made_given, both_given, rule_given, row_given}
 use Rattle.py_check_laws.proofs.Assigned.{assigned_is, given_is, updated_is}
 use Rattle.py_check_laws.proofs.Names.{within_itself}
 use Rattle.py_check_laws.proofs.Looked.{looked_at}
 use Rattle.py_check_laws.proofs.Aims.{AimAt, AimsOf}
 use Rattle.py_check_laws.proofs.Exceptions.{NameAt, head_given}
-use Rattle.py_check_laws.proofs.Shapes.{named, leaf_bindings, target_leaves, loop_binds, definition_shape, no_part_given, locals_two, read_aim_at, one_target}
+use Rattle.py_check_laws.proofs.Shapes.{loop_binds, definition_shape, no_part_given, locals_two, read_aim_at, one_target}
 use Rattle.py_check_laws.proofs.Loops.{head_parts, head_looked}
 use Rattle.py_check_laws.proofs.Values.{of_three}
 

@@ -37,8 +37,9 @@ use Rattle.py_check_laws.specs.Variables.{sort_in}
 use Rattle.py_check_laws.proofs.Looked.{LookedAt, looked_at, is_chosen}
 use Rattle.py_check_laws.specs.WellTyped.{are_targets, IsScope}
 use Rattle.py_check_laws.proofs.Given.{some_is, both_given, rule_given}
+use Rattle.py_check.proofs.Bound.{leaves_one, single_bound}
 use Rattle.py_check.proofs.Kept.{Follows, follows_itself, follows_name, follows_target, is_open}
-use Rattle.py_check_laws.proofs.Assigned.{leaves_one, single_bound, row_bound, items_are, BoundTo, as_value, assigned_is}
+use Rattle.py_check_laws.proofs.Assigned.{row_bound, items_are, BoundTo, as_value, assigned_is}
 use Rattle.py_check_laws.proofs.Whole.{bound_same}
 use Rattle.py_check_laws.proofs.Names.{within_kept}
 use Rattle.py_check_laws.proofs.Aims.{AimAt, AimsOf, aim_held, aim_first, first_name, held_aimed, first_aimed, aimed_bound}

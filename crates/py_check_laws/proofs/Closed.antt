@@ -1,5 +1,5 @@
 -- Variables behind their first bindings: each has a type, or none for good, so that an annotation further down is no first one.
-use Rattle.std.proofs.Common.{◌≡◌, ℕ, Bool, true, false, cond, List, [], ◌∷◌, ◌++◌, length, map, nat_lt, Option, Some, None, refl, ap, sym, ◌∙◌, subst, ltb-true}
+use Rattle.std.proofs.Common.{◌≡◌, ℕ, Bool, true, false, cond, List, [], ◌∷◌, ◌++◌, length, map, nat_lt, Option, Some, None, refl, ap, sym, ◌∙◌, subst}
 use Rattle.std.proofs.lemmas.Slice.Eq.{bytes_eq-Decides}
 use Rattle.std.specs.Str.{bytes_eq}
 use Rattle.std.specs.List.{flat_map}
@@ -7,23 +7,16 @@ use Rattle.py_syntax.specs.Expressions.{ExprTree}
 use Rattle.py_typed.specs.Sorts.{Sort}
 use Rattle.py_check_context.specs.declared.scope.Meaning.{Meaning}
 use Rattle.py_check_context.specs.declared.scope.Meaning.TheVariants as meaning
-use Rattle.py_check_context.specs.Context.{Context, VarSort, VarSorts, var_at}
+use Rattle.py_check_context.specs.Context.{Context, VarSorts}
 use Rattle.py_check_flow.specs.Bindings.{Binding, name_in, target_bindings}
-use Rattle.py_check_places.specs.Places.{Known, is_unset, fix, first_type, bind_variable, bind_name, bind_names}
+use Rattle.py_check_places.specs.Places.{Known, bind_name, bind_names}
 use Rattle.py_check_places.specs.Shapes.{is_row, leaves, parts_of}
 use Rattle.py_check_places.specs.Shapes.{bind_target}
 use Rattle.py_check_definitions.specs.Starts.{first_mark}
-use Rattle.py_check_laws.specs.Variables.{is_there}
+use Rattle.py_check.specs.Fixed.{is_there}
 use Rattle.py_check_laws.specs.WellTyped.{IsScope}
-use Rattle.py_check.proofs.Kept.{fix_set, fix_first, Follows, follows_name, follows_names, is_open}
-use Rattle.py_check_laws.proofs.Assigned.{name_no_row, single_bound}
-use Rattle.py_check_laws.proofs.Shapes.{named, leaf_bindings, target_leaves}
-
--- a binding keeps what is no longer open
-pub open_follows : (V W : VarSorts) (m : Meaning) → Follows V W → is_open V m ≡ false → is_open W m ≡ false
-open_follows V W (meaning.Local i) f h = ap is_unset (f.locals.stays i h) ∙ h
-open_follows V W (meaning.Global i) f h = ap is_unset (f.globals.stays i h) ∙ h
-open_follows V W _ f h = refl
+use Rattle.py_check.proofs.Bound.{name_no_row, single_bound, named, leaf_bindings, target_leaves, open_follows, closed_variable}
+use Rattle.py_check.proofs.Kept.{Follows, follows_name, follows_names, is_open}
 
 pub scope_there : (C : Context) (V : VarSorts) → IsScope C V → (x : List ℕ) → is_there V (C.meaning x) ≡ true
 scope_there C V s x = by (C.meaning x) refl
@@ -39,23 +32,6 @@ scope_on C V W f s = record {
   globals_there = λ x i q. ap (λ n. nat_lt i n) f.globals.size ∙ s.globals_there x i q;
   differ = s.differ;
 }
-
-pub type_set : (ok : Bool) (t : Option Sort) → is_unset (first_type ok t) ≡ false
-type_set true (Some t) = refl
-type_set true None = refl
-type_set false t = refl
-
-closed_fix : (types : List VarSort) (i : ℕ) (v : VarSort) → nat_lt i (length types) ≡ true → is_unset v ≡ false → is_unset (var_at (fix types i v) i) ≡ false
-closed_fix types i v h q = by (is_unset (var_at types i)) refl
-  where
-    by : (b : Bool) → is_unset (var_at types i) ≡ b → is_unset (var_at (fix types i v) i) ≡ false
-    by true e = ap is_unset (fix_first types i v (ltb-true i (length types) h) e) ∙ q
-    by false e = ap (λ l. is_unset (var_at l i)) (fix_set types i v e) ∙ e
-
-pub closed_variable : (ok : Bool) (k : Known) (m : Meaning) (t : Option Sort) → is_there k.types m ≡ true → is_open (bind_variable ok k m t).types m ≡ false
-closed_variable ok k (meaning.Local i) t h = closed_fix k.types.locals i (first_type ok t) h (type_set ok t)
-closed_variable ok k (meaning.Global i) t h = closed_fix k.types.globals i (first_type ok t) h (type_set ok t)
-closed_variable ok k _ t h = refl
 
 module _ (C : Context) where
   -- ---- bindings that are made

@@ -40,9 +40,8 @@ use Rattle.py_check_laws.specs.WellTyped.{is_suite_written, is_filled}
 use Rattle.py_check_laws.specs.Modules.{has_type, all_have_types, are_own_typed, is_module_written, body_stands, are_names_written}
 use Rattle.py_check_laws.proofs.Given.{some_of}
 use Rattle.py_check.proofs.Kept.{follows_block}
-use Rattle.py_check_laws.proofs.NameRows.{sights_differ, differ_filter}
+use Rattle.py_check.proofs.NameRows.{sights_differ, differ_filter, scope_names}
 use Rattle.py_check_laws.proofs.Shapes.{shape_block}
-use Rattle.py_check_laws.proofs.Meant.{scope_names}
 use Rattle.py_check_laws.proofs.Signed.{signed, IsSigned, AllSigned}
 use Rattle.py_check_laws.proofs.Inner.{suite_none}
 use Rattle.py_check_laws.proofs.Modules as whole

@@ -41,13 +41,13 @@ use Rattle.py_check_expressions_laws.proofs.Loud.{none_before, none_behind}
 use Rattle.py_check_laws.specs.WellTyped.{is_suite_written, IsScope, IsResult}
 use Rattle.py_check_laws.specs.Modules.{has_type, is_module_written, body_stands, statements_stand}
 use Rattle.py_check_laws.proofs.Given.{some_of}
+use Rattle.py_check.proofs.Bindings.{there}
 use Rattle.py_check.proofs.Kept.{follows_itself, follows_block, is_open}
 use Rattle.py_check_laws.proofs.Closed.{IsMarked}
 use Rattle.py_check_laws.proofs.Settled.{Valued, AreDeclared, declared_before, Setting, settled_block}
 use Rattle.py_check_laws.proofs.Stand.{stands_in}
 use Rattle.py_check_laws.proofs.Whole.{quiet_got, loud_block}
 use Rattle.py_check_laws.proofs.Meant.{is_heard, Fine, function_fine, local_place, global_place}
-use Rattle.py_check_laws.proofs.Owned.{there}
 use Rattle.py_check_laws.proofs.Signed.{HasTypes, AllSigned, voiced, heard_typed}
 use Rattle.py_check_laws.proofs.Marked.{mark_valued, result_valued}
 use Rattle.py_check_laws.proofs.Inner.{suite_none}

@@ -25,10 +25,9 @@ use Rattle.py_check_definitions.proofs.HeldLemmas.{functions_defined}
 use Rattle.py_check_expressions_laws.proofs.Types.{clash}
 use Rattle.py_check_expressions_laws.proofs.Known.{known_left, known_right}
 use Rattle.py_check_expressions_laws.proofs.Loud.{none_before, none_behind}
-use Rattle.py_check_laws.proofs.NameRows.{same_text, text_is_itself, sights_differ, differ_filter}
-use Rattle.py_check_laws.proofs.Sights.{roles_given, suite_gives}
-use Rattle.py_check_laws.proofs.Meant.{is_right, scope_names, given_no_variable}
-use Rattle.py_check_laws.proofs.Owned.{filtered}
+use Rattle.py_check.proofs.NameRows.{same_text, text_is_itself, sights_differ, differ_filter, scope_names, filtered}
+use Rattle.py_check.proofs.Sights.{roles_given, suite_gives}
+use Rattle.py_check_laws.proofs.Meant.{is_right, given_no_variable}
 use Rattle.py_check_laws.proofs.KnownParts.{AreKnown, annotation_reads}
 use Rattle.py_check_laws.proofs.Plain.{plain_said, all_plain_said}
 use Rattle.py_check_laws.proofs.Signed.{fresh_function}

@@ -16,7 +16,7 @@ use Rattle.py_check_context.specs.declared.scope.Meaning.{Meaning}
 use Rattle.py_check_annotations.specs.Names.{is_unknown, unknown_there, any_unknown}
 use Rattle.py_check_expressions_laws.proofs.Known.{neither_of}
 use Rattle.py_check_expressions_laws.proofs.Loud.{none_before, none_behind}
-use Rattle.py_check_laws.proofs.NameRows.{text_is_itself}
+use Rattle.py_check.proofs.NameRows.{text_is_itself}
 
 -- the faults of names that are looked up
 abbrev pub read_there : Roles → Use → Span → List Diag

@@ -23,12 +23,13 @@ use Rattle.py_check_statements.specs.Bodies.{after, block_after}
 use Rattle.py_check_definitions.specs.Definitions.{headed_functions}
 use Rattle.py_check_definitions.specs.Starts.{given_sort, first_mark, by_mark, start_sort}
 use Rattle.py_check.specs.Module.{context_in, module_start, global_sorts, environment}
+use Rattle.py_check.proofs.Bound.{name_no_row, single_bound, type_set}
 use Rattle.py_check.proofs.Kept.{Follows, fix_first, follows_block, is_open}
-use Rattle.py_check_laws.specs.Variables.{sort_in, is_there, is_bound_in, joined}
+use Rattle.py_check_laws.specs.Variables.{sort_in, is_bound_in, joined}
+use Rattle.py_check.specs.Fixed.{is_there}
 use Rattle.py_check_laws.specs.WellTyped.{IsScope}
-use Rattle.py_check_laws.proofs.Assigned.{name_no_row, single_bound}
-use Rattle.py_check_laws.proofs.Closed.{scope_on, scope_there, type_set}
-use Rattle.py_check_laws.proofs.Fixed.{set_block}
+use Rattle.py_check_laws.proofs.Closed.{scope_on, scope_there}
+use Rattle.py_check.proofs.Fixed.{set_block}
 use Rattle.py_check_laws.proofs.Others.{other_block}
 use Rattle.py_check_laws.proofs.Varied.{mapped_at}
 use Rattle.py_check_laws.proofs.Described.{given_set}

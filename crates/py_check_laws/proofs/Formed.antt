@@ -46,8 +46,7 @@ use Rattle.py_check_expressions_laws.proofs.Loud.{none_before}
 use Rattle.py_check_laws.specs.WellTyped.{is_filled}
 use Rattle.py_check_laws.specs.Modules.{has_type, all_have_types}
 use Rattle.py_check_laws.proofs.Given.{row_given}
-use Rattle.py_check_laws.proofs.NameRows.{at_place, same_text, text_is_itself, filter_two, filter_all, sights_front, of_kind}
-use Rattle.py_check_laws.proofs.Meant.{scope_names}
+use Rattle.py_check.proofs.NameRows.{at_place, same_text, text_is_itself, filter_two, filter_all, sights_front, of_kind, scope_names}
 use Rattle.py_check_laws.proofs.Differ.{Fresh, one_more}
 use Rattle.py_check_laws.proofs.Signed.{IsSound}
 

@@ -37,13 +37,14 @@ use Rattle.py_check_expressions_laws.specs.WellTyped as law
 use Rattle.py_check_expressions_laws.specs.WellTyped.{Describes, Within}
 use Rattle.py_check_expressions_laws.proofs.Stands.{coerced_stands}
 use Rattle.py_check_expressions_laws.proofs.Types.{result_of_value}
+use Rattle.py_check.proofs.Bound.{leaves_one, single_bound, name_no_row}
 use Rattle.py_check.proofs.Kept.{follows_itself, follows_name, follows_target}
 use Rattle.py_check_laws.specs.Narrowing.{is_own, is_own_name}
 use Rattle.py_check_laws.specs.Variables.{sort_in}
 use Rattle.py_check_laws.specs.WellTyped.{are_targets, IsScope}
 use Rattle.py_check_laws.proofs.Given.{some_is, both_given, rule_given, unless_ok}
 use Rattle.py_check_laws.proofs.Looked.{LookedAt, looked_at, is_chosen}
-use Rattle.py_check_laws.proofs.Assigned.{leaves_one, single_bound, row_bound, name_no_row, items_are, BoundTo, as_value, assigned_is, given_is, updated_is}
+use Rattle.py_check_laws.proofs.Assigned.{row_bound, items_are, BoundTo, as_value, assigned_is, given_is, updated_is}
 use Rattle.py_check_laws.proofs.Whole.{bound_same}
 use Rattle.py_check_laws.proofs.Names.{within_itself, within_less}
 use Rattle.py_check_laws.proofs.Aims.{AimAt, aim_held, aim_first, first_name, held_aimed, first_aimed}

@@ -27,12 +27,13 @@ use Rattle.py_check_loops.specs.Loops.{Course, course}
 use Rattle.py_check_loops.specs.Heads.{some_items, for_head, in_for}
 use Rattle.py_check_expressions_laws.specs.WellTyped as law
 use Rattle.py_check_expressions_laws.specs.WellTyped.{Describes, Within}
+use Rattle.py_check.proofs.Bound.{leaves_one, single_bound}
 use Rattle.py_check.proofs.Kept.{Follows, follows_itself, is_open}
 use Rattle.py_check_laws.specs.Variables.{sort_in}
 use Rattle.py_check_laws.specs.WellTyped.{IsScope}
 use Rattle.py_check_laws.proofs.Given.{some_is}
 use Rattle.py_check_laws.proofs.Looked.{LookedAt}
-use Rattle.py_check_laws.proofs.Assigned.{leaves_one, single_bound, row_bound, items_are, BoundTo}
+use Rattle.py_check_laws.proofs.Assigned.{row_bound, items_are, BoundTo}
 use Rattle.py_check_laws.proofs.Whole.{bound_same}
 use Rattle.py_check_laws.proofs.Names.{within_itself, within_less}
 use Rattle.py_check_laws.proofs.Aims.{AimAt, aim_held, aim_first, first_name, held_aimed, first_aimed}

@@ -36,8 +36,9 @@ use Rattle.py_check_laws.specs.Variables.{sort_in}
 use Rattle.py_check_laws.proofs.Looked.{LookedAt, looked_behind}
 use Rattle.py_check_laws.specs.WellTyped.{IsScope}
 use Rattle.py_check_laws.proofs.Given.{some_is, made_given, both_given, rule_given}
+use Rattle.py_check.proofs.Bound.{leaves_one, single_bound}
 use Rattle.py_check.proofs.Kept.{Follows, follows_itself, is_open}
-use Rattle.py_check_laws.proofs.Assigned.{leaves_one, single_bound, row_bound, items_are, BoundTo, Headed, head_is}
+use Rattle.py_check_laws.proofs.Assigned.{row_bound, items_are, BoundTo, Headed, head_is}
 use Rattle.py_check_laws.proofs.Whole.{bound_same}
 use Rattle.py_check_laws.proofs.Names.{within_kept}
 use Rattle.py_check_laws.proofs.Aims.{AimAt, AimsOf, Held, held_local, held_global, held_item, aim_held, aim_first, first_name, Aimed, aimed_local, aimed_global, aimed_item, held_aimed, first_aimed, aimed_bound}

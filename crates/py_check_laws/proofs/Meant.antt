@@ -1,5 +1,5 @@
 -- What names mean in a module and in a function of it, where nothing is wrong with definitions and imports.
-use Rattle.std.proofs.Common.{◌≡◌, ℕ, suc, ◌+◌, ◌<◌, Bool, true, false, ◌&&◌, ◌||◌, cond, List, [], ◌∷◌, ◌++◌, length, map, filter, not, slice_get, nat_lt, Option, Some, None, refl, ap, sym, ◌∙◌, subst, if◌then◌else◌, unwrap_or, length-append, lt-ltb, arith, ◌⊎◌, inl, inr}
+use Rattle.std.proofs.Common.{◌≡◌, ℕ, suc, ◌+◌, ◌<◌, Bool, true, false, ◌&&◌, ◌||◌, cond, List, [], ◌∷◌, ◌++◌, length, map, not, slice_get, nat_lt, Option, Some, None, refl, ap, sym, ◌∙◌, subst, if◌then◌else◌, unwrap_or, length-append, lt-ltb, arith, ◌⊎◌, inl, inr}
 use Rattle.std.proofs.lemmas.Bool.{or_left, or_right, or_cases}
 use Rattle.std.proofs.lemmas.Option.{same_Some}
 use Rattle.std.proofs.lemmas.List.Folds.{list_any-append}
@@ -25,10 +25,10 @@ use Rattle.py_check_names.specs.Builtins.{plain_meanings, named_builtins, except
 use Rattle.py_check_names.specs.Outline.{may_import, may_import_all, imported_as, said_by, said_from, held_by, suite_definitions}
 use Rattle.py_check_names.specs.Meanings.{is_own, names_of, variables, own_names, number, by_role, meaning_in, said_in}
 use Rattle.py_typed.proofs.FitLemmas.{and_left, and_right}
-use Rattle.py_check_laws.proofs.Sights.{roles_given, suite_gives}
-use Rattle.py_check_laws.proofs.Roles as known
-use Rattle.py_check_laws.proofs.Roles.{found_all}
-use Rattle.py_check_laws.proofs.NameRows.{filter_keeps, sights_have, sights_differ, kind_names, place_of}
+use Rattle.py_check.proofs.Sights.{roles_given, suite_gives}
+use Rattle.py_check.proofs.Roles as known
+use Rattle.py_check.proofs.Roles.{found_all}
+use Rattle.py_check.proofs.NameRows.{filter_keeps, sights_have, scope_names, place_of}
 
 -- ---- kinds of meanings
 
@@ -252,12 +252,8 @@ bound_seen (a ∷ sights) x h =
     by (inr q) next = or_right (contains (seen_there a.does) x) (contains (all_there seen_there sights) x) (next q)
 
 module _ (kind : Role → Bool) (roles : Roles) (seen : List (List ℕ)) where
-  -- the names of a kind in a scope
-  pub scope_names : names_of kind (scope_of roles seen).names ≡ filter (λ n. kind (roles n)) (first_sights seen)
-  scope_names = kind_names kind roles (first_sights seen) (sights_differ seen)
-
   pub among_kind : (x : List ℕ) → contains (first_sights seen) x ≡ true → kind (roles x) ≡ true → contains (names_of kind (scope_of roles seen).names) x ≡ true
-  among_kind x h k = ap (λ l. contains l x) scope_names ∙ filter_keeps (λ n. kind (roles n)) (first_sights seen) x k ∙ h
+  among_kind x h k = ap (λ l. contains l x) (scope_names kind roles seen) ∙ filter_keeps (λ n. kind (roles n)) (first_sights seen) x k ∙ h
 
 module _ (m : Suite) (n : ℕ) (right : list_all is_right (suite_definitions m) ≡ true) (count : length (flat_map held_by (suite_definitions m)) ≡ n) where
   module_pairs : Pairs n (all_there said_there (module_sights m)) (said_from 0 (suite_definitions m))

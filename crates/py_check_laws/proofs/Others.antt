@@ -29,10 +29,9 @@ use Rattle.py_check_statements.specs.Bodies.{is_last, outside_try, after, node_a
 use Rattle.py_check_expressions_laws.proofs.Types.{clash}
 use Rattle.py_check_laws.specs.Variables.{sort_in}
 use Rattle.py_check_laws.specs.WellTyped.{IsScope}
+use Rattle.py_check.proofs.Bound.{name_no_row, single_bound, named, leaf_bindings, target_leaves}
 use Rattle.py_check.proofs.Kept.{fix_set, fix_open}
-use Rattle.py_check_laws.proofs.Assigned.{name_no_row, single_bound}
-use Rattle.py_check_laws.proofs.NameRows.{text_is_itself}
-use Rattle.py_check_laws.proofs.Shapes.{named, leaf_bindings, target_leaves}
+use Rattle.py_check.proofs.NameRows.{text_is_itself}
 
 -- ---- one variable
 

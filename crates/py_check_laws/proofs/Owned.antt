@@ -1,5 +1,5 @@
 -- The variables of a scope: what they mean, and that each of them is a parameter or is bound.
-use Rattle.std.proofs.Common.{◌≡◌, ℕ, zero, suc, ◌<◌, Bool, true, false, ◌&&◌, ◌||◌, cond, List, [], ◌∷◌, length, map, filter, slice_get, Option, Some, refl, ap, sym, ◌∙◌, subst, if◌then◌else◌, lt-ltb, arith, ◌⊎◌, inl, inr}
+use Rattle.std.proofs.Common.{◌≡◌, ℕ, ◌<◌, Bool, true, false, ◌&&◌, ◌||◌, cond, List, [], ◌∷◌, length, map, filter, slice_get, Option, Some, refl, ap, sym, ◌∙◌, subst, if◌then◌else◌, lt-ltb, ◌⊎◌, inl, inr}
 use Rattle.std.proofs.lemmas.Option.{same_Some, slice_get_within}
 use Rattle.std.specs.List.{zip}
 use Rattle.std.specs.Map.{lookup}
@@ -19,22 +19,8 @@ use Rattle.py_check_calls.specs.Callees as callee
 use Rattle.py_check_names.specs.Meanings.{is_own, own_names, number, by_role, meaning_in}
 use Rattle.py_check_expressions_laws.proofs.Types.{clash}
 use Rattle.py_check_laws.specs.WellTyped.{IsScope}
-use Rattle.py_check_laws.proofs.NameRows.{filter_keeps, filter_drops, sights_differ, differ_filter, number_at, at_place}
-use Rattle.py_check_laws.proofs.Meant.{Fine, scope_names, seen_means, local_place, global_place}
-
--- ---- rows
-
-pub there : {A : Type 0} (l : List A) (i : ℕ) → i < length l → (x : A) × (slice_get l i ≡ Some x)
-there [] i h = absurd (omega arith)
-there (x ∷ l) zero h = (x, refl)
-there (x ∷ l) (suc i) h = there l i (omega arith)
-
-pub filtered : (p : List ℕ → Bool) (ys : List (List ℕ)) (x : List ℕ) → contains (filter p ys) x ≡ true → (p x ≡ true) × (contains ys x ≡ true)
-filtered p ys x h = by (p x) refl
-  where
-    by : (b : Bool) → p x ≡ b → (p x ≡ true) × (contains ys x ≡ true)
-    by true q = (q, sym (filter_keeps p ys x q) ∙ h)
-    by false q = clash (contains (filter p ys) x) h (filter_drops p ys x q)
+use Rattle.py_check.proofs.NameRows.{filtered, sights_differ, differ_filter, scope_names, number_at, at_place}
+use Rattle.py_check_laws.proofs.Meant.{Fine, seen_means, local_place, global_place}
 
 -- ---- names of a function's own
 
@@ -62,10 +48,6 @@ param_found (p ∷ ps) {A = A} g x h = by (bytes_eq x p.0) h (param_found ps g x
         → (t : A) × (cond b (Some (g p)) (lookup (bytes_eq x) (zip (map (λ p. p.0) ps) (map g ps))) ≡ Some t)
     by true q next = (g p, refl)
     by false q next = next q
-
-pub global_by : (outer own : List (List ℕ)) (said : List ℕ → Option Meaning) (x : List ℕ) (r : Role) → is_variable r ≡ true → by_role said outer own x r ≡ meaning.Global (number outer x)
-global_by outer own said x role.GlobalVar h = refl
-global_by outer own said x _ h = absurd (cc)
 
 pub filter_none : (p : List ℕ → Bool) → ((x : List ℕ) → p x ≡ false) → (ys : List (List ℕ)) → filter p ys ≡ []
 filter_none p h [] = refl

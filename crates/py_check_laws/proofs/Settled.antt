@@ -47,13 +47,14 @@ use Rattle.py_check_expressions_laws.proofs.Inside.{either}
 use Rattle.py_check_laws.proofs.Looked.{LookedAt, looked_at, looked_behind, is_chosen}
 use Rattle.py_check_laws.specs.WellTyped.{is_filled, maybe_written, are_targets, is_stmt_written, is_act_written, is_suite_written, are_arms_written, has_clause, are_handlers_written, is_last_written, IsScope}
 use Rattle.py_check_laws.proofs.Given.{some_is, made_given, both_given, rule_given, row_given}
+use Rattle.py_check.proofs.Bound.{single_bound, name_no_row, closed_variable}
 use Rattle.py_check.proofs.Kept.{fix_cases, Follows, follows_on, follows_name, follows_target, follows_stmt, follows_block, follows_arms, follows_clauses, follows_last, is_open, bind_set}
-use Rattle.py_check_laws.proofs.Assigned.{single_bound, row_bound, name_no_row, items_are, RowBound, BoundTo, assigned_is, head_is}
+use Rattle.py_check_laws.proofs.Assigned.{row_bound, items_are, RowBound, BoundTo, assigned_is, head_is}
 use Rattle.py_check_laws.proofs.Whole.{definition_after, bound_same}
 use Rattle.py_check_laws.proofs.Aims.{AimAt, AimsOf}
 use Rattle.py_check_laws.proofs.Shapes.{definition_shape, no_part_given}
 use Rattle.py_check_laws.proofs.Values.{scene, values_listed, stands_type, parts_type, chosen_stands}
-use Rattle.py_check_laws.proofs.Closed.{closed_variable, scope_there, scope_on, AllClosed, closed_both, closed_on, target_closed, name_closed, IsMarked, marked_front, marked_behind}
+use Rattle.py_check_laws.proofs.Closed.{scope_there, scope_on, AllClosed, closed_both, closed_on, target_closed, name_closed, IsMarked, marked_front, marked_behind}
 use Rattle.py_check_laws.proofs.Courses.{course_stands, item_type}
 
 -- ---- variables

@@ -8,20 +8,20 @@ use Rattle.value_core.specs.declared.exception.ExcClass.{ExcClass}
 use Rattle.py_syntax.specs.declared.token.Span.{Span}
 use Rattle.py_syntax.specs.declared.expression.BinOp.{BinOp}
 use Rattle.py_syntax.specs.Expressions as tree
-use Rattle.py_syntax.specs.Expressions.{ExprTree, ExprNode, at, ExprTrees, no_exprs, expr_then}
+use Rattle.py_syntax.specs.Expressions.{ExprTree, at}
 use Rattle.py_syntax.specs.Statements as node
 use Rattle.py_syntax.specs.Statements.{StmtTree, StmtNode, Suite, no_stmts, stmt_then, Arms, no_arms, arm_then, Handlers, no_handlers, handler_then, MaybeSuite, no_suite, some_suite}
 use Rattle.py_typed.specs.Sorts as sort
 use Rattle.py_typed.specs.Sorts.{Sort}
 use Rattle.py_typed.specs.Expressions.{TypedExpr, type_of}
 use Rattle.py_typed.specs.Statements as act
-use Rattle.py_typed.specs.Statements.{TypedTarget, LocalTarget, GlobalTarget, ItemTarget, TypedStmt, TypedAct, TypedSuite, HandlerParts, on_line, suite_of, arms_of}
+use Rattle.py_typed.specs.Statements.{TypedTarget, TypedStmt, TypedAct, TypedSuite, HandlerParts, on_line, suite_of, arms_of}
 use Rattle.py_typed.specs.Narrowing as typed
 use Rattle.py_typed.specs.Narrowing.{is_in, bound_by, bound_by_all, bound_by_name, is_true_literal}
 use Rattle.py_check_context.specs.declared.scope.Meaning.{Meaning}
 use Rattle.py_check_context.specs.declared.scope.Meaning.TheVariants as meaning
 use Rattle.py_check_context.specs.Context.{Context, free, test}
-use Rattle.py_check_flow.specs.Bindings.{Binding, bound, target_bindings, node_bindings, targets_bindings, name_in, marked, caught, stmt_bindings, act_bindings, suite_bindings, arms_bindings, handlers_bindings, last_bindings}
+use Rattle.py_check_flow.specs.Bindings.{Binding, bound, target_bindings, name_in, marked, caught, stmt_bindings, act_bindings, suite_bindings, arms_bindings, handlers_bindings, last_bindings}
 use Rattle.py_check_flow.specs.Closed as flow
 use Rattle.py_check_flow.specs.Closed.{is_true}
 use Rattle.py_check_messages.specs.Seen.{Seen, both, behind, rule, made}
@@ -33,11 +33,11 @@ use Rattle.py_check_coercions.specs.Values.{truth}
 use Rattle.py_check_coercions.specs.Several.{with_part}
 use Rattle.py_check_values.specs.Returns.{ReturnSort, bare_return, value_return}
 use Rattle.py_check_places.specs.Places.{Known, with_names, is_bound, locals_among, where_test, entering, Way, setting_out, behind_arm}
-use Rattle.py_check_places.specs.Shapes.{is_row, is_item, is_flat, leaves, node_leaves, row_leaves}
+use Rattle.py_check_places.specs.Shapes.{is_row, is_item, is_flat, leaves}
 use Rattle.py_check_values.specs.Aims.{Aim, held, first, barred, unwritten, misplaced}
 use Rattle.py_check_calls.specs.Exceptions.{exception_made}
 use Rattle.py_check_targets.specs.Targets.{target_of, targets_of, is_placed, name_aim, seen_aim, read_aim, assigned, declared, given, updated, annotation_fault, typed_at, target_aims, next_part, more_parts, beyond, aims_behind, bound_aims}
-use Rattle.py_check_assignments.specs.Assignments.{value_for, assigns, declares, annotated_value, gives_value, annotates_other, annotates, updates_one, updates_row, updates}
+use Rattle.py_check_assignments.specs.Assignments.{value_for, assigns, annotated_value, annotates, updates_one, updates_row, updates}
 use Rattle.py_check_loops.specs.Loops.{Course, numbers, value, course, head, loop_over, loop_of}
 use Rattle.py_check_loops.specs.Heads.{for_head, in_for, some_items}
 use Rattle.py_check_exceptions.specs.Raises.{raises, asserts}
@@ -46,39 +46,16 @@ use Rattle.py_check_statements.specs.Bodies.{is_definition, around_loop, around_
 use Rattle.py_check_statements.specs.declared.bodies.Around.{Around}
 use Rattle.py_check_expressions_laws.specs.WellTyped.{Within}
 use Rattle.py_check_expressions_laws.proofs.Inside.{within_none, within_append, in_left}
+use Rattle.py_check.proofs.Bound.{leaves_one, named, leaf_bindings, target_leaves}
 use Rattle.py_check_laws.proofs.Deleted.{deleted_item}
 use Rattle.std.specs.Option.{option_map}
 use Rattle.py_check_laws.proofs.Looked.{looked_at, looked_behind}
 use Rattle.py_check_laws.proofs.Given.{made_given, both_given, rule_given, row_given, unless_ok}
-use Rattle.py_check_laws.proofs.Assigned.{leaves_one, assigned_is, given_is, updated_is, head_is}
+use Rattle.py_check_laws.proofs.Assigned.{assigned_is, given_is, updated_is, head_is}
 use Rattle.py_check_laws.proofs.Names.{within_itself}
 use Rattle.py_check_laws.proofs.Aims.{AimAt, AimsOf, Held, held_local, held_global, held_item, aim_held, First, first_local, first_global, aim_first}
 use Rattle.py_check_laws.proofs.Exceptions.{Raised, raised_on, raised_class, raised_value, raise_given, assert_given, NameAt, head_given}
 use Rattle.py_check_laws.proofs.Literals.{heads, truth_literal}
-
--- ---- the names of targets
-
-abbrev pub named : Option (List ℕ) → List Binding
-named None = []
-named (Some x) = bound x None
-
-abbrev pub leaf_bindings : ExprTree → List Binding
-leaf_bindings e = named (name_in e)
-
--- a target binds what its single targets do
-mutual
-  pub target_leaves : (e : ExprTree) → target_bindings e ≡ flat_map leaf_bindings (leaves e)
-  target_leaves (at n span) = of_node span n
-
-  of_node : (span : Span) (n : ExprNode) → node_bindings n ≡ flat_map leaf_bindings (node_leaves span n)
-  of_node span (tree.TupleOf es) = of_row es
-  of_node span (tree.ListOf es) = of_row es
-  of_node span (tree.Name x) = refl
-  of_node span _ = refl
-
-  of_row : (es : ExprTrees) → targets_bindings es ≡ flat_map leaf_bindings (row_leaves es)
-  of_row no_exprs = refl
-  of_row (expr_then a more) = ap₂ (λ (x y : List Binding). x ++ y) (target_leaves a) (of_row more) ∙ sym (flat_map-append leaf_bindings (leaves a) (row_leaves more))
 
 -- ---- loops
 

@@ -183,4 +183,4 @@ module _ (C : Context) where
     statement_layer around k span (node.Assert e text) = inl (assert_layer k span e text)
     statement_layer around k span (node.Try _ _ _) = inl (inr (λ place. refl))
     statement_layer around k span (node.Del e) = inl (rule_layer span (λ place. deletion (is_item e)) (typed_at C k free e) (quiet_typing C k.types free k.names e))
-    statement_layer around k span _ = inl (inl (no_exception ∷ [], refl))
+    statement_layer around k span _ = inl (inl ([], refl))

@@ -34,15 +34,17 @@ use Rattle.py_check_expressions_laws.specs.WellTyped as law
 use Rattle.py_check_expressions_laws.specs.WellTyped.{Describes, Within}
 use Rattle.py_check_expressions_laws.proofs.Types.{clash}
 use Rattle.py_check_expressions_laws.proofs.Stands.{parts_of_stands}
-use Rattle.py_check_laws.specs.Variables.{sort_in, is_there}
+use Rattle.py_check_laws.specs.Variables.{sort_in}
+use Rattle.py_check.specs.Fixed.{is_there}
 use Rattle.py_check_laws.proofs.Looked.{Fair}
 use Rattle.py_check_laws.specs.WellTyped.{IsScope}
+use Rattle.py_check.proofs.Bound.{open_follows}
 use Rattle.py_check.proofs.Kept.{fix_set, fix_open, fix_first, Follows, follows_on, follows_name, follows_names, is_open, bind_set}
 use Rattle.py_check_laws.proofs.Assigned.{first_none}
 use Rattle.py_check_laws.proofs.Names.{within_kept}
 use Rattle.py_check_laws.proofs.Aims.{AimsOf, Held, held_local, held_global, held_item, aim_held, First, first_local, first_global, aim_first, first_name, Aimed, held_aimed, first_aimed, aimed_bound, aimed_behind}
 use Rattle.py_check_laws.proofs.Values.{scene, declared_there, part_fits, item_at_place}
-use Rattle.py_check_laws.proofs.Closed.{scope_there, scope_on, open_follows}
+use Rattle.py_check_laws.proofs.Closed.{scope_there, scope_on}
 
 -- ---- names
 

@@ -50,8 +50,9 @@ use Rattle.py_check_expressions_laws.proofs.Rows.{parts_taken, sought_of_asked}
 use Rattle.py_check_expressions_laws.proofs.Sound.{sound_typing}
 use Rattle.py_check_laws.specs.WellTyped.{maybe_written, IsScope, IsResult}
 use Rattle.py_check_laws.proofs.Given.{done, ok_same, some_is, judged_given, both_given, rule_given, made_given, part_given, unless_ok}
+use Rattle.py_check.proofs.Bound.{name_no_row, single_bound}
 use Rattle.py_check.proofs.Kept.{follows_target, is_open}
-use Rattle.py_check_laws.proofs.Assigned.{name_no_row, single_bound, given_is, updated_is}
+use Rattle.py_check_laws.proofs.Assigned.{given_is, updated_is}
 use Rattle.py_check_laws.proofs.Whole.{read_set, bound_same}
 use Rattle.py_check_laws.proofs.Names.{within_less}
 use Rattle.py_check_laws.proofs.Aims.{AimAt, Held, held_local, held_global, held_item, aim_held, aim_first, first_name, held_aimed, aimed_bound}

@@ -29,13 +29,14 @@ use Rattle.py_check_expressions_laws.specs.Laws as law
 use Rattle.py_check_expressions_laws.proofs.Loud.{none_before, none_behind}
 use Rattle.py_check_laws.specs.WellTyped.{IsScope}
 use Rattle.py_check_laws.specs.Modules.{has_type, all_have_types, are_own_typed, are_variables_typed}
+use Rattle.py_check.proofs.NameRows.{scope_names}
 use Rattle.py_check.proofs.Kept.{Kept, Follows, follows_block, is_open}
-use Rattle.py_check_laws.proofs.Sights.{suite_binds}
+use Rattle.py_check.proofs.Sights.{suite_binds}
 use Rattle.py_check_laws.proofs.Closed.{scope_there}
-use Rattle.py_check_laws.proofs.Fixed.{set_block}
-use Rattle.py_check_laws.proofs.Owned.{there, filter_none, param_or_bound, param_found, own_means, scope_is}
-use Rattle.py_check_laws.proofs.Bindings.{names_same, module_fixes}
-use Rattle.py_check_laws.proofs.Meant.{Fine, function_fine, scope_names, module_own}
+use Rattle.py_check.proofs.Fixed.{set_block}
+use Rattle.py_check_laws.proofs.Owned.{filter_none, param_or_bound, param_found, own_means, scope_is}
+use Rattle.py_check.proofs.Bindings.{names_same, module_fixes, there}
+use Rattle.py_check_laws.proofs.Meant.{Fine, function_fine, module_own}
 use Rattle.py_check_laws.proofs.Signed.{HasTypes, AllSigned}
 use Rattle.py_check_laws.proofs.KnownParts.{AreKnown}
 use Rattle.py_check_laws.proofs.Whole.{quiet_block}
@@ -183,7 +184,7 @@ module _ (m : Suite) (nothing : said m ≡ []) where
   top_size = (follows_block here first m).globals.size ∙ length-map e.variables (start_sort (module_meaning m) (suite_bindings m))
 
   pub global_has : (i : ℕ) → i < length e.variables → has_type (var_at last.types.globals i) ≡ true
-  global_has i h = let x = there e.variables i h in has_by (var_at last.types.globals i) (module_fixes m i x.0 x.1) (top_typed i)
+  global_has i h = let x = there e.variables i h in has_by (var_at last.types.globals i) (module_fixes (environment m) m refl i x.0 x.1) (top_typed i)
 
   -- EACH VARIABLE has a type
   pub variables_typed : are_variables_typed m ≡ true

@@ -57,8 +57,9 @@ use Rattle.py_check_expressions_laws.proofs.Loud.{IsLoud, loud_is, loud_fails, n
 use Rattle.py_check_laws.proofs.Looked.{looked_at, looked_behind}
 use Rattle.py_check_laws.specs.Statements.{is_judged}
 use Rattle.py_check_laws.proofs.Given.{some_is, rule_given, both_given, made_given}
+use Rattle.py_check.proofs.Bound.{single_bound, name_no_row}
 use Rattle.py_check.proofs.Kept.{fix_cases, is_open, bind_set}
-use Rattle.py_check_laws.proofs.Assigned.{single_bound, row_bound, name_no_row, items_are, BoundTo, assigned_is, head_is}
+use Rattle.py_check_laws.proofs.Assigned.{row_bound, items_are, BoundTo, assigned_is, head_is}
 use Rattle.py_check_expressions_laws.proofs.Known.{known_left, known_right, known_name}
 use Rattle.py_check_laws.proofs.KnownParts.{AreKnown, target_read, leaves_read}
 use Rattle.py_check_laws.proofs.Annotated.{loud_if, loud_annotation}
@@ -93,6 +94,10 @@ loud_both_then s t l next = record { says = λ e f. both_say s t l (next (none_b
 
 loud_then : {A : Type 0} (one : Seen A) (rest : Seen (List A)) → IsLoud one → (one.said ≡ [] → IsLoud rest) → IsLoud (row_then one rest)
 loud_then one rest l next = loud_made (λ p. p.0 ∷ p.1) (both one rest) (loud_both_then one rest l next)
+
+loud_unless : {A : Type 0} (b : Bool) (s t : Seen A) → IsLoud s → (b ≡ false → IsLoud t) → IsLoud (if b then s else t)
+loud_unless true s t l m = l
+loud_unless false s t l m = m refl
 
 loud_seen : (o : Option Aim) → (o ≡ None → ⊥) → IsLoud (seen_aim o)
 loud_seen o n = record { says = λ e f. n e }
@@ -455,39 +460,39 @@ module _ (C : Context) where
           (loud_behind (typed_at C k (return_wanted r) e) (λ p. with_part p (value_return C.classes span r)) (loud_value k all (return_wanted r) e u) (λ v. loud_value_return span v r judged))
 
       mutual
-        loud_stmt : (around : Around) (k : Known) → AllTyped k.types → (s : StmtTree) → AreKnown C.meaning (stmt_sights home s) → IsLoud (statement C r around k s)
-        loud_stmt around k all (node.at n span) u = loud_made (λ a. on_line a span.line) (node_statement C r around k span n) (loud_node around k all span n u)
+        loud_stmt : (around : Around) (k : Known) → AllTyped k.types → (s : StmtTree) → is_definition s ≡ false → AreKnown C.meaning (stmt_sights home s) → IsLoud (statement C r around k s)
+        loud_stmt around k all (node.at n span) d u = loud_made (λ a. on_line a span.line) (node_statement C r around k span n) (loud_node around k all span n d u)
 
-        loud_node : (around : Around) (k : Known) → AllTyped k.types → (span : Span) (n : StmtNode) → AreKnown C.meaning (stmt_node_sights home n span) → IsLoud (node_statement C r around k span n)
-        loud_node around k all span (node.Do e) u = loud_made act.Do (typed_at C k _ e) (loud_value k all _ e u)
-        loud_node around k all span (node.Assign target e) u = loud_assigns k all span target e u
-        loud_node around k all span (node.Annot target mark e) u = loud_annotates k all span (name_in target) target mark e u
-        loud_node around k all span (node.Aug target op e) u = loud_updates k all span target op e u
-        loud_node around k all span (node.Del e) u = loud_rule span (deletion (is_item e)) (typed_at C k free e) (loud_value k all free e u)
-        loud_node around k all span (node.Return e) u = loud_returns k all span e u
-        loud_node around k all span node.Pass u = loud_is act.Pass
-        loud_node around k all span (node.Global names) u = loud_is act.Pass
-        loud_node around k all span node.Break u = loud_in_loop r C around.looping span _ act.Break
-        loud_node around k all span node.Continue u = loud_in_loop r C around.looping span _ act.Continue
-        loud_node around k all span (node.If arms other) u =
+        loud_node : (around : Around) (k : Known) → AllTyped k.types → (span : Span) (n : StmtNode) → is_definition (node.at n span) ≡ false → AreKnown C.meaning (stmt_node_sights home n span) → IsLoud (node_statement C r around k span n)
+        loud_node around k all span (node.Do e) d u = loud_made act.Do (typed_at C k _ e) (loud_value k all _ e u)
+        loud_node around k all span (node.Assign target e) d u = loud_assigns k all span target e u
+        loud_node around k all span (node.Annot target mark e) d u = loud_annotates k all span (name_in target) target mark e u
+        loud_node around k all span (node.Aug target op e) d u = loud_updates k all span target op e u
+        loud_node around k all span (node.Del e) d u = loud_rule span (deletion (is_item e)) (typed_at C k free e) (loud_value k all free e u)
+        loud_node around k all span (node.Return e) d u = loud_returns k all span e u
+        loud_node around k all span node.Pass d u = loud_is act.Pass
+        loud_node around k all span (node.Global names) d u = loud_is act.Pass
+        loud_node around k all span node.Break d u = loud_in_loop r C around.looping span _ act.Break
+        loud_node around k all span node.Continue d u = loud_in_loop r C around.looping span _ act.Continue
+        loud_node around k all span (node.If arms other) d u =
             let w = arms_after C (setting_out k) arms in
             let s = branches C r around (setting_out k) arms in
             let t = block C r around w.at other in
             loud_made (λ p. act.If (arms_of p.0) (suite_of p.1)) (both s t) (loud_both_then s t (loud_arms around (setting_out k) all arms (front (arms_sights home arms) (suite_sights home other) u)) (λ q. loud_block around w.at (quiet_arms around (setting_out k) all arms (front (arms_sights home arms) (suite_sights home other) u) q) other (back (arms_sights home arms) (suite_sights home other) u)))
-        loud_node around k all span (node.While e body) u =
+        loud_node around k all span (node.While e body) d u =
             let l = entering C k (node.at (node.While e body) span) in
             let s = condition C l e in
             let t = block C r (around_loop around) (where_test C l true e) body in
             loud_made (λ p. act.While p.0 (suite_of p.1)) (both s t) (loud_both s t (loud_condition l all e (front (reads Value e) (suite_sights home body) u)) (loud_block (around_loop around) (where_test C l true e) all body (back (reads Value e) (suite_sights home body) u)))
-        loud_node around k all span (node.For target e body) u =
+        loud_node around k all span (node.For target e body) d u =
             let here = node.at (node.For target e body) span in
             let s = for_head C k span target e in
             let l = in_for C k here span target e in
             let t = block C r (around_loop around) l body in
             loud_made (λ p. loop_of p.0.0 p.0.1 (suite_of p.1)) (both s t) (loud_both_then s t (loud_head k all span target e (front (target_sights target) (reads Value e ++ suite_sights home body) u) (front (reads Value e) (suite_sights home body) (back (target_sights target) (reads Value e ++ suite_sights home body) u))) (λ q. loud_block (around_loop around) l (quiet_head k all here span target e (front (target_sights target) (reads Value e ++ suite_sights home body) u) (front (reads Value e) (suite_sights home body) (back (target_sights target) (reads Value e ++ suite_sights home body) u)) q) body (back (reads Value e) (suite_sights home body) (back (target_sights target) (reads Value e ++ suite_sights home body) u))))
-        loud_node around k all span (node.Raise e) u = loud_raises around.handling k all span e u
-        loud_node around k all span (node.Assert e text) u = loud_asserts k all span e text u
-        loud_node around k all span (node.Try body handlers last) u =
+        loud_node around k all span (node.Raise e) d u = loud_raises around.handling k all span e u
+        loud_node around k all span (node.Assert e text) d u = loud_asserts k all span e text u
+        loud_node around k all span (node.Try body handlers last) d u =
             let later = handlers_sights home handlers ++ maybe_suite_sights home last in
             let ub = front (suite_sights home body) later u in
             let uh = front (handlers_sights home handlers) (maybe_suite_sights home last) (back (suite_sights home body) later u) in
@@ -501,14 +506,14 @@ module _ (C : Context) where
             loud_made try_of (both (both b cs) l)
             (loud_both_then (both b cs) l (loud_both_then b cs (loud_block around k all body ub) (λ q. loud_clauses around outer first (quiet_block around k all body ub q) handlers uh))
             (λ q. loud_last around outer handled (quiet_clauses around outer first (quiet_block around k all body ub (none_before b.said cs.said q)) handlers uh (none_behind b.said cs.said q)) last ul))
-        loud_node around k all span _ u = loud_fails span _
+        loud_node around k all span _ d u = absurd (cc)
 
         pub loud_block : (around : Around) (k : Known) → AllTyped k.types → (body : Suite) → AreKnown C.meaning (suite_sights home body) → IsLoud (block C r around k body)
         loud_block around k all no_stmts u = loud_is []
         loud_block around k all (stmt_then s more) u =
             let one = statement C r around k s in
             let rest = block C r around (after C k s) more in
-            loud_if (is_definition s) (block C r around k more) (row_then one rest) (loud_block around k all more (back (stmt_sights home s) (suite_sights home more) u)) (loud_then one rest (loud_stmt around k all s (front (stmt_sights home s) (suite_sights home more) u)) (λ q. loud_block around (after C k s) (quiet_stmt around k all s (front (stmt_sights home s) (suite_sights home more) u) q) more (back (stmt_sights home s) (suite_sights home more) u)))
+            loud_unless (is_definition s) (block C r around k more) (row_then one rest) (loud_block around k all more (back (stmt_sights home s) (suite_sights home more) u)) (λ d. loud_then one rest (loud_stmt around k all s d (front (stmt_sights home s) (suite_sights home more) u)) (λ q. loud_block around (after C k s) (quiet_stmt around k all s (front (stmt_sights home s) (suite_sights home more) u) q) more (back (stmt_sights home s) (suite_sights home more) u)))
 
         loud_arms : (around : Around) (w : Way) → AllTyped w.at.types → (arms : Arms) → AreKnown C.meaning (arms_sights home arms) → IsLoud (branches C r around w arms)
         loud_arms around w all no_arms u = loud_is []

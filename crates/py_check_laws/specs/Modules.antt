@@ -58,12 +58,6 @@ are_variables_typed m =
 abbrev pub QuietModuleTypesVariables : Type 0
 QuietModuleTypesVariables = (m : Suite) → diagnostics m ≡ [] → are_variables_typed m ≡ true
 
--- where nothing is said of a module, the body of a function changes the type of no variable of the module
-abbrev pub QuietBodiesFixNothing : Type 0
-QuietBodiesFixNothing =
-    (m : Suite) → diagnostics m ≡ [] → (f : Headed)
-    → (body_after (context_in (environment m) f.inside) (environment m).variables (global_sorts (environment m) (module_scope m) (headed_functions m) m) f).types.globals ≡ global_sorts (environment m) (module_scope m) (headed_functions m) m
-
 -- ---- what is typed is well typed
 
 -- statements that a text can write, in the module and in its functions

@@ -3,7 +3,7 @@
 --
 -- A statement that does not bind a name leaves its variable as it is; one that binds it gives it a type, or none for good; and what it
 -- has then it keeps. So what is behind a text is what the first of its bindings gives.
-use Rattle.std.specs.Prelude.{◌≡◌, ℕ, nat_lt, Bool, true, false, List, length, slice_get, Some, is_some}
+use Rattle.std.specs.Prelude.{◌≡◌, ℕ, Bool, true, false, List, slice_get, Some, is_some}
 use Rattle.std.specs.Option.{option_map}
 use Rattle.py_syntax.specs.declared.token.Span.{Span}
 use Rattle.py_syntax.specs.Expressions.{ExprTree}
@@ -21,9 +21,10 @@ use Rattle.py_check_calls.specs.Callees.{is_variable}
 use Rattle.py_check_places.specs.Places.{Known, first_type, is_unset}
 use Rattle.py_check_assignments.specs.Assignments.{value_for, assigns}
 use Rattle.py_check_statements.specs.Bodies.{block_after}
-use Rattle.py_check_definitions.specs.Definitions.{headed_functions}
+use Rattle.py_check_definitions.specs.Definitions.{Headed, headed_functions}
 use Rattle.py_check_definitions.specs.Starts.{given_sort, first_mark}
-use Rattle.py_check.specs.Module.{global_sorts, environment}
+use Rattle.py_check.specs.Module.{context_in, body_after, global_sorts, environment}
+use Rattle.py_check.specs.Fixed.{is_there}
 use Rattle.py_check_laws.specs.WellTyped.{IsScope}
 
 -- the type of a variable so far
@@ -31,12 +32,6 @@ abbrev pub sort_in : VarSorts → Meaning → VarSort
 sort_in V (meaning.Local i) = var_at V.locals i
 sort_in V (meaning.Global i) = var_at V.globals i
 sort_in V m = unset
-
--- it is one of these
-abbrev pub is_there : VarSorts → Meaning → Bool
-is_there V (meaning.Local i) = nat_lt i (length V.locals)
-is_there V (meaning.Global i) = nat_lt i (length V.globals)
-is_there V m = true
 
 -- statements that bind a name
 abbrev pub is_bound_in : Suite → List ℕ → Bool
@@ -81,6 +76,12 @@ abbrev pub ModuleFixesTypes : Type 0
 ModuleFixesTypes =
     (m : Suite) (i : ℕ) (x : List ℕ) → slice_get (variables (module_scope m)) i ≡ Some x
     → is_unset (var_at (global_sorts (environment m) (module_scope m) (headed_functions m) m) i) ≡ false
+
+-- the body of a function changes none of their types
+abbrev pub BodiesFixNothing : Type 0
+BodiesFixNothing =
+    (m : Suite) (f : Headed)
+    → (body_after (context_in (environment m) f.inside) (environment m).variables (global_sorts (environment m) (module_scope m) (headed_functions m) m) f).types.globals ≡ global_sorts (environment m) (module_scope m) (headed_functions m) m
 
 -- one whose first binding is annotated has the type of that annotation, if it has one
 abbrev pub AnnotationsGiveTypes : Type 0

@@ -1,9 +1,9 @@
 //! The laws. The calls do nothing.
 ghost use Rattle.py_check_laws.specs.Entries.{StatementOwnOrOfParts};
-ghost use Rattle.py_check_laws.specs.Modules.{QuietBodiesFixNothing, QuietModuleIsTyped, QuietModuleIsWellTyped, QuietModuleNamesDiffer, QuietModuleStands, QuietModuleTypesVariables};
+ghost use Rattle.py_check_laws.specs.Modules.{QuietModuleIsTyped, QuietModuleIsWellTyped, QuietModuleNamesDiffer, QuietModuleStands, QuietModuleTypesVariables};
 ghost use Rattle.py_check_laws.specs.Narrowing.{ForBodyKnowsNoMore, TestKnowsNoMore, TypedBlockKnowsNoMore, WhileBodyKnowsNoMore};
 ghost use Rattle.py_check_laws.specs.Statements.{QuietBlockIsTyped, TypedBlockIsWellTyped};
-ghost use Rattle.py_check_laws.specs.Variables.{AnnotationsGiveTypes, BindingsGiveTypes, FirstAssignmentsGiveTypes, ModuleFixesTypes, OnlyBindingsGiveTypes, TypesStay};
+ghost use Rattle.py_check_laws.specs.Variables.{AnnotationsGiveTypes, BindingsGiveTypes, BodiesFixNothing, FirstAssignmentsGiveTypes, ModuleFixesTypes, OnlyBindingsGiveTypes, TypesStay};
 
 /// Where no name in reach is without a type and each name in a block is known, a block of which nothing is said is typed whole, and no
 /// name is without a type behind it.
@@ -70,6 +70,11 @@ pub fn statements_of_a_module_fix_types()
     ensures { ModuleFixesTypes }
 {}
 
+/// The body of a function changes the type of no variable of its module.
+pub fn bodies_fix_no_types()
+    ensures { BodiesFixNothing }
+{}
+
 /// A variable of a module whose first binding is annotated has the type of that annotation.
 pub fn annotations_give_types()
     ensures { AnnotationsGiveTypes }
@@ -83,11 +88,6 @@ pub fn what_is_not_typed_in_a_module_has_said_why()
 /// In a module of which nothing is said each variable has a type, of the module and of its functions.
 pub fn variables_of_a_quiet_module_have_types()
     ensures { QuietModuleTypesVariables }
-{}
-
-/// In a module of which nothing is said the body of a function changes the type of no variable of the module.
-pub fn bodies_of_a_quiet_module_fix_no_types()
-    ensures { QuietBodiesFixNothing }
 {}
 
 /// In a module of which nothing is said the module's own statements and the bodies of its functions are well typed.

@@ -1,4 +1,4 @@
-use Rattle.std.proofs.Common.{◌≡◌, ◌∙◌, ◌++◌, List, map, Option, IfOk, ap, ap₂, subst, subst₂}
+use Rattle.std.proofs.Common.{◌≡◌, ◌∙◌, ◌++◌, List, map, Option, IfOk, ap, ap₂, sym, subst, subst₂}
 use Rattle.std.proofs.lemmas.List.{append_assoc}
 use Rattle.py_syntax.specs.Statements.{body_tree}
 use Rattle.py_syntax_diagnostics.specs.declared.diagnostic.Diag.{Diag}
@@ -9,7 +9,13 @@ use Rattle.py_check_statements.proofs.BodyLemmas.{always}
 use Rattle.py_check_definitions.specs.Views.{headed_of}
 use Rattle.py_check.specs.Module.{module_by, context_in, own_statements, fixed_sorts, bodies_said, typed_functions}
 use Rattle.py_check.specs.Parts.{environment_of, own_along, statements_along}
+use Rattle.py_check.specs.Fixed.{AreFixed}
+use Rattle.py_check.proofs.Bindings.{module_fixed}
 use Rattle.py_check.proofs.modules.typed_in.Goals as goal
+
+pub typed_functions-requires : goal.typed_functions-requires
+typed_functions-requires c =
+    subst AreFixed (sym c.in_ok-own.ensures.known) (module_fixed (environment_of c.args.environment.now) c.args.scopes.now.top (body_tree c.args.body.now) c.requires.names c.requires.bound)
 
 pub returns : goal.returns
 returns c =

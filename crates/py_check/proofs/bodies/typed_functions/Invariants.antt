@@ -4,7 +4,7 @@ use Rattle.py_check_places.specs.Views.{known_at}
 use Rattle.py_check_definitions.specs.Views.{headed_of}
 use Rattle.py_check.specs.Module.{typed_functions, bodies_said}
 use Rattle.py_check.specs.Parts.{environment_of}
-use Rattle.py_check.proofs.bodies.functions_in.Given as goal
+use Rattle.py_check.proofs.bodies.typed_functions.Given as goal
 
 abbrev pub invariant-loop-f : goal.invariant-loop-f
 invariant-loop-f l =

@@ -24,12 +24,10 @@ use Rattle.py_check_loops.specs.Loops.{course}
 use Rattle.py_check_loops.specs.Heads.{some_items, for_head, in_for}
 use Rattle.py_check_exceptions.specs.Handlers.{handler_head, in_handler}
 use Rattle.py_check_statements.specs.Bodies.{after, node_after, block_after, arms_after, handlers_after, last_after, outside_try, is_last}
-use Rattle.py_check_laws.specs.Variables.{is_there}
+use Rattle.py_check.specs.Fixed.{is_there}
 use Rattle.py_check.proofs.Kept.{Follows, follows_on, follows_name, follows_names, follows_target, follows_stmt, follows_clauses, follows_last, follows_block, follows_arms, is_open}
-use Rattle.py_check_laws.proofs.Assigned.{name_no_row, single_bound}
-use Rattle.py_check_laws.proofs.Closed.{open_follows, closed_variable}
-use Rattle.py_check_laws.proofs.NameRows.{same_text}
-use Rattle.py_check_laws.proofs.Shapes.{named, leaf_bindings, target_leaves}
+use Rattle.py_check.proofs.NameRows.{same_text}
+use Rattle.py_check.proofs.Bound.{name_no_row, single_bound, named, leaf_bindings, target_leaves, open_follows, closed_variable}
 
 -- ---- statements
 
@@ -117,7 +115,7 @@ module _ (C : Context) (x : List ℕ) where
     set_node k span (node.For target v body) there h =
         let here = node.at (node.For target v body) span in
         let l = in_for C k here span target v in
-        let ok = is_some (for_head C k span target v).got in
+        let ok = is_some (for_head C k here span target v).got in
         let items = some_items (course C k v).got in
         in_order k l (block_after C l body) (target_bindings target) (suite_bindings body) (follows_target C ok (entering C k here) target items) (follows_block C l body) (set_target ok (entering C k here) target items there) (λ t. set_block l body t) there h
     set_node k span (node.Try body handlers last) there h =

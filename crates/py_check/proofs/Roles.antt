@@ -17,8 +17,8 @@ use Rattle.py_check_context.specs.declared.scope.Meaning.TheVariants as meaning
 use Rattle.py_check_names.specs.Outline.{suite_definitions}
 use Rattle.py_check_names.specs.Meanings.{own_names, by_role, meaning_in}
 use Rattle.py_typed.proofs.FitLemmas.{and_left, and_right}
-use Rattle.py_check_laws.proofs.Sights.{roles_given, suite_gives}
-use Rattle.py_check_laws.proofs.NameRows.{same_text}
+use Rattle.py_check.proofs.Sights.{roles_given, suite_gives}
+use Rattle.py_check.proofs.NameRows.{same_text}
 
 -- ---- tables
 
@@ -54,6 +54,11 @@ module _ (said : List ℕ → Option Meaning) (outer : List (List ℕ)) (roles :
 
   pub unseen_means : (x : List ℕ) → contains (first_sights seen) x ≡ false → meaning_in said outer inside x ≡ meaning.Unknown
   unseen_means x h = ap (λ o. unwrap_or o meaning.Unknown) (role_found (first_sights seen) x false h)
+
+-- a variable of the module
+pub global_by : (outer own : List (List ℕ)) (said : List ℕ → Option Meaning) (x : List ℕ) (r : Role) → is_variable r ≡ true → by_role said outer own x r ≡ meaning.Global (number outer x)
+global_by outer own said x role.GlobalVar h = refl
+global_by outer own said x _ h = absurd (cc)
 
 -- ---- definitions and imports give no variables
 

@@ -8,9 +8,12 @@ use Rattle.std.specs.Str.{bytes_eq}
 use Rattle.py_typed.specs.WellTyped.{is_called_in, all_differ}
 use Rattle.py_typed.proofs.FitLemmas.{and_left, and_right}
 use Rattle.py_binder.specs.declared.scope.Role.{Role}
-use Rattle.py_binder.specs.Scope.{contains, first_sights}
+use Rattle.py_binder.specs.Scope.{contains, Roles, first_sights, scope_of}
 use Rattle.py_check_names.specs.Meanings.{names_of, number}
-use Rattle.py_check_expressions_laws.proofs.Types.{clash}
+
+clash : {A : Type 0} (b : Bool) → b ≡ true → b ≡ false → A
+clash true p q = absurd (cc)
+clash false p q = absurd (cc)
 
 pub same_text : (x y : List ℕ) → bytes_eq x y ≡ true → x ≡ y
 same_text x y e = (bytes_eq-Decides x y).0 e
@@ -45,6 +48,13 @@ module _ (p : List ℕ → Bool) where
       by true q true r rest = clash (p y) q (ap p (sym (same_text x y r)) ∙ h)
       by true q false r rest = ap (λ b. b || contains (filter p ys) x) r ∙ rest
       by false q c r rest = rest
+
+  pub filtered : (ys : List (List ℕ)) (x : List ℕ) → contains (filter p ys) x ≡ true → (p x ≡ true) × (contains ys x ≡ true)
+  filtered ys x h = by (p x) refl
+    where
+      by : (b : Bool) → p x ≡ b → (p x ≡ true) × (contains ys x ≡ true)
+      by true q = (q, sym (filter_keeps ys x q) ∙ h)
+      by false q = clash (contains (filter p ys) x) h (filter_drops ys x q)
 
   pub filter_less : (ys : List (List ℕ)) (x : List ℕ) → contains ys x ≡ false → contains (filter p ys) x ≡ false
   filter_less [] x h = refl
@@ -137,6 +147,10 @@ module _ (kind : Role → Bool) (role : List ℕ → Role) where
   -- the names of a kind among names that differ
   pub kind_names : (ns : List (List ℕ)) → all_differ ns ≡ true → names_of kind (map with_role ns) ≡ filter is_kind ns
   kind_names ns h = ap first_sights (of_kind ns) ∙ sights_same (filter is_kind ns) (differ_filter is_kind ns h)
+
+-- the names of a kind in a scope
+pub scope_names : (kind : Role → Bool) (roles : Roles) (seen : List (List ℕ)) → names_of kind (scope_of roles seen).names ≡ filter (λ n. kind (roles n)) (first_sights seen)
+scope_names kind roles seen = kind_names kind roles (first_sights seen) (sights_differ seen)
 
 -- ---- places
 
