@@ -16,7 +16,7 @@ use Rattle.py_check_places.specs.Places.{Known, is_unset}
 use Rattle.py_check_statements.specs.Bodies.{block_after}
 use Rattle.py_check_definitions.specs.Definitions.{Headed}
 use Rattle.py_check_definitions.specs.Starts.{start_sort}
-use Rattle.py_check.specs.Module.{Environment, context_in, module_start, fixed_sorts, function_start, body_after}
+use Rattle.py_check.specs.Module.{ModuleContext, context_in, module_start, fixed_sorts, function_start, body_after}
 use Rattle.py_check.specs.Fixed.{AreFixed, is_there}
 use Rattle.py_check.proofs.Kept.{follows_block, is_open}
 use Rattle.py_check.proofs.Sights.{suite_binds, names_of}
@@ -36,7 +36,7 @@ there [] i h = absurd (omega arith)
 there (x ∷ l) zero h = (x, refl)
 there (x ∷ l) (suc i) h = there l i (omega arith)
 
-module _ (e : Environment) (m : Suite) (same : e.variables ≡ variables (module_scope m)) where
+module _ (e : ModuleContext) (m : Suite) (same : e.variables ≡ variables (module_scope m)) where
   abbrev vs : List (List ℕ)
   vs = variables (module_scope m)
 
@@ -87,7 +87,7 @@ module _ (e : Environment) (m : Suite) (same : e.variables ≡ variables (module
   all_fixed i h = let x = there vs i (subst (λ n. i < n) many h) in module_fixes i x.0 x.1
 
 -- in the scope that binding found for it
-pub module_fixed : (e : Environment) (top : Scope) (m : Suite) → e.variables ≡ variables top → top ≡ module_scope m → AreFixed (fixed_sorts (context_in e top) e.variables m)
+pub module_fixed : (e : ModuleContext) (top : Scope) (m : Suite) → e.variables ≡ variables top → top ≡ module_scope m → AreFixed (fixed_sorts (context_in e top) e.variables m)
 module_fixed e top m names bound =
     let P : Scope → Type 0 = λ s. AreFixed (fixed_sorts (context_in e s) e.variables m) in
     subst P (sym bound) (all_fixed e m (names ∙ ap variables bound))

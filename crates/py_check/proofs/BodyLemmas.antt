@@ -8,7 +8,7 @@ use Rattle.py_check_context.specs.Context.{VarSort}
 use Rattle.py_check_definitions.specs.declared.functions.Function.{Function}
 use Rattle.py_check_definitions.specs.Definitions.{Headed}
 use Rattle.py_check_definitions.specs.Views.{headed_of}
-use Rattle.py_check.specs.Module.{Environment, context_in, body, typed_function, bodies_said, typed_functions}
+use Rattle.py_check.specs.Module.{ModuleContext, context_in, body, typed_function, bodies_said, typed_functions}
 
 pub functions_at : (fs : List Function) (i : ℕ) (f : Function) → i < length fs → f ≡ get_or fs i f → map headed_of (drop i fs) ≡ headed_of f ∷ map headed_of (drop (i + 1) fs)
 functions_at fs i f h at =
@@ -20,7 +20,7 @@ map_one : (old : List TFunc) (t : TFunc) → map typed_func (old ++ t ∷ []) �
 map_one [] t = refl
 map_one (u ∷ old) t = ap (λ l. typed_func u ∷ l) (map_one old t)
 
-module _ (e : Environment) (fs : List Function) (i : ℕ) (f : Function) (h : i < length fs) (at : f ≡ get_or fs i f) (g g2 : List VarSort) (same : g2 ≡ g) where
+module _ (e : ModuleContext) (fs : List Function) (i : ℕ) (f : Function) (h : i < length fs) (at : f ≡ get_or fs i f) (g g2 : List VarSort) (same : g2 ≡ g) where
   pub typed_on : (old new : List TFunc) (t : TFunc) (whole : List TypedFunc) → new ≡ old ++ t ∷ [] → typed_func t ≡ typed_function (context_in e (headed_of f).inside) e.variables g2 (headed_of f) → map typed_func old ++ typed_functions e g (map headed_of (drop i fs)) ≡ whole → map typed_func new ++ typed_functions e g (map headed_of (drop (i + 1) fs)) ≡ whole
   typed_on old new t whole put made before =
       let rest = typed_functions e g (map headed_of (drop (i + 1) fs)) in

@@ -26,8 +26,8 @@ use Rattle.py_check.specs.declared.checking.CheckError.{CheckError}
 use Rattle.py_check.specs.declared.checking.CheckError.TheVariants as reason
 use Rattle.py_check_definitions.specs.Definitions.{Headed, headed, headed_functions, inner_definitions_said, or_refused}
 use Rattle.py_check_definitions.specs.Views.{headed_all, meanings_by}
-use Rattle.py_check.specs.Module.{Environment, environment, context_by, context_in, module_start, bodies_said, global_sorts, statements_said, typed_parts, walked, diagnostics, typed}
-use Rattle.py_check.specs.Parts.{environment_by, statements_along}
+use Rattle.py_check.specs.Module.{ModuleContext, module_context, context_by, context_in, module_start, bodies_said, global_sorts, statements_said, typed_parts, walked, diagnostics, typed}
+use Rattle.py_check.specs.Parts.{module_context_by, statements_along}
 use Rattle.py_check.specs.Outcome.{IsBound, Outcome, Decided}
 use Rattle.py_check_definitions.proofs.HeldLemmas.{functions_defined}
 use Rattle.py_check_definitions.proofs.FunctionLemmas.{all_headed}
@@ -36,7 +36,7 @@ use Rattle.py_check.proofs.WalkLemmas.{walk_whole}
 -- ---- contexts
 
 -- where names mean what they mean in a scope
-pub same_context : (meanings : List ℕ → Meaning) (e : Environment) (inside : Scope) → ((name : List ℕ) → meanings name ≡ meaning_in e.said e.variables inside name) → context_by meanings e ≡ context_in e inside
+pub same_context : (meanings : List ℕ → Meaning) (e : ModuleContext) (inside : Scope) → ((name : List ℕ) → meanings name ≡ meaning_in e.said e.variables inside name) → context_by meanings e ≡ context_in e inside
 same_context meanings e inside same = ap (λ m. context_by m e) (fun_ext same)
 
 -- ---- signatures
@@ -45,17 +45,17 @@ signatures_with : (roles : Roles) (meanings : List ℕ → Meaning) (fs : List F
 signatures_with roles meanings [] = refl
 signatures_with roles meanings (f ∷ more) = ap (λ l. signature_of (header meanings f) ∷ l) (signatures_with roles meanings more)
 
-abbrev environment_full : (List ℕ → Option Meaning) → List (List ℕ) → List (Option Signature) → List ClassEntry → Environment
-environment_full said names signatures classes = record { said = said; variables = names; signatures = signatures; classes = classes }
+abbrev module_context_full : (List ℕ → Option Meaning) → List (List ℕ) → List (Option Signature) → List ClassEntry → ModuleContext
+module_context_full said names signatures classes = record { said = said; variables = names; signatures = signatures; classes = classes }
 
-abbrev environment_with : (List ℕ → Option Meaning) → List (List ℕ) → List (Option Signature) → Environment
-environment_with said names signatures = environment_full said names signatures []
+abbrev module_context_with : (List ℕ → Option Meaning) → List (List ℕ) → List (Option Signature) → ModuleContext
+module_context_with said names signatures = module_context_full said names signatures []
 
 -- from the signatures and the classes
-pub environment_at : (k : ModuleNames) (fs : List Headed) (signatures : List (Option Signature)) (classes : List ClassEntry) → signatures ≡ map (λ f. signature_of f.header) fs → classes ≡ [] → environment_full (get bytes_eq k.said) k.variables.keys signatures classes ≡ environment_by k fs
-environment_at k fs signatures classes signed none =
-    ap (λ (l : List (Option Signature)). environment_full (get bytes_eq k.said) k.variables.keys l classes) signed
-    ∙ ap (λ (l : List ClassEntry). environment_full (get bytes_eq k.said) k.variables.keys (map (λ f. signature_of f.header) fs) l) none
+pub module_context_at : (k : ModuleNames) (fs : List Headed) (signatures : List (Option Signature)) (classes : List ClassEntry) → signatures ≡ map (λ f. signature_of f.header) fs → classes ≡ [] → module_context_full (get bytes_eq k.said) k.variables.keys signatures classes ≡ module_context_by k fs
+module_context_at k fs signatures classes signed none =
+    ap (λ (l : List (Option Signature)). module_context_full (get bytes_eq k.said) k.variables.keys l classes) signed
+    ∙ ap (λ (l : List ClassEntry). module_context_full (get bytes_eq k.said) k.variables.keys (map (λ f. signature_of f.header) fs) l) none
 
 -- ---- lists that are told one behind the other
 
@@ -90,36 +90,36 @@ module _ (m : Suite) (s : Scopes) (bound : IsBound m s) (k : ModuleNames) (found
       ∙ all_headed (module_meaning m) (module_role m) (functions m)
 
   -- what all scopes share
-  pub same_environment : (fs : List Headed) → fs ≡ headed_functions m → environment_by k fs ≡ environment m
-  same_environment fs whole =
-      ap (λ (f : List ℕ → Option Meaning). environment_with f k.variables.keys (map (λ g. signature_of g.header) fs)) (fun_ext found)
-      ∙ ap (λ (v : List (List ℕ)). environment_with (said_in m) v (map (λ g. signature_of g.header) fs)) same_names
-      ∙ ap (λ (l : List Headed). environment_with (said_in m) (variables (module_scope m)) (map (λ g. signature_of g.header) l)) whole
-      ∙ ap (environment_with (said_in m) (variables (module_scope m))) (signatures_with (module_role m) (module_meaning m) (functions m))
+  pub same_module_context : (fs : List Headed) → fs ≡ headed_functions m → module_context_by k fs ≡ module_context m
+  same_module_context fs whole =
+      ap (λ (f : List ℕ → Option Meaning). module_context_with f k.variables.keys (map (λ g. signature_of g.header) fs)) (fun_ext found)
+      ∙ ap (λ (v : List (List ℕ)). module_context_with (said_in m) v (map (λ g. signature_of g.header) fs)) same_names
+      ∙ ap (λ (l : List Headed). module_context_with (said_in m) (variables (module_scope m)) (map (λ g. signature_of g.header) l)) whole
+      ∙ ap (module_context_with (said_in m) (variables (module_scope m))) (signatures_with (module_role m) (module_meaning m) (functions m))
 
   -- what is said of statements
-  pub same_statements : (fs : List Headed) → fs ≡ headed_functions m → statements_along (environment_by k fs) s.top s.funcs fs m ≡ statements_said (environment m) (module_scope m) (headed_functions m) m (module_role m)
+  pub same_statements : (fs : List Headed) → fs ≡ headed_functions m → statements_along (module_context_by k fs) s.top s.funcs fs m ≡ statements_said (module_context m) (module_scope m) (headed_functions m) m (module_role m)
   same_statements fs whole =
       let roles = module_role m in
-      let c = context_in (environment m) (module_scope m) in
-      ap (λ (e : Environment). statements_along e s.top s.funcs fs m) (same_environment fs whole)
-      ∙ ap (λ (t : Scope). statements_along (environment m) t s.funcs fs m) bound.top
-      ∙ ap (λ (l : List Headed). statements_along (environment m) (module_scope m) s.funcs l m) whole
-      ∙ ap (λ (l : List Diag). l ++ bodies_said (environment m) (global_sorts (environment m) (module_scope m) (headed_functions m) m) (headed_functions m))
-      (walk_whole roles c (module_start c (environment m).variables m) [] [] (λ q. refl) m [] s.funcs
+      let c = context_in (module_context m) (module_scope m) in
+      ap (λ (e : ModuleContext). statements_along e s.top s.funcs fs m) (same_module_context fs whole)
+      ∙ ap (λ (t : Scope). statements_along (module_context m) t s.funcs fs m) bound.top
+      ∙ ap (λ (l : List Headed). statements_along (module_context m) (module_scope m) s.funcs l m) whole
+      ∙ ap (λ (l : List Diag). l ++ bodies_said (module_context m) (global_sorts (module_context m) (module_scope m) (headed_functions m) m) (headed_functions m))
+      (walk_whole roles c (module_start c (module_context m).variables m) [] [] (λ q. refl) m [] s.funcs
       (bound.funcs ∙ ap (map (function_scope roles)) (functions_defined m) ∙ sym (append-nil (map (function_scope roles) (flat_map held_by (suite_definitions m))))))
 
   -- the typed tree
-  pub same_tree : (fs : List Headed) → fs ≡ headed_functions m → typed_parts (environment_by k fs) s.top fs m ≡ typed m
+  pub same_tree : (fs : List Headed) → fs ≡ headed_functions m → typed_parts (module_context_by k fs) s.top fs m ≡ typed m
   same_tree fs whole =
-      ap (λ (e : Environment). typed_parts e s.top fs m) (same_environment fs whole)
-      ∙ ap (λ (t : Scope). typed_parts (environment m) t fs m) bound.top
-      ∙ ap (λ (l : List Headed). typed_parts (environment m) (module_scope m) l m) whole
+      ap (λ (e : ModuleContext). typed_parts e s.top fs m) (same_module_context fs whole)
+      ∙ ap (λ (t : Scope). typed_parts (module_context m) t fs m) bound.top
+      ∙ ap (λ (l : List Headed). typed_parts (module_context m) (module_scope m) l m) whole
 
   -- ALL THAT IS TOLD
-  pub all_told : (trees : List FuncTree) → trees ≡ functions m → (fs : List Headed) → fs ≡ headed_all (meanings_by k s.top) trees s.funcs → (d0 d1 d2 d3 : List Diag) → d1 ≡ d0 ++ statements_along (environment_by k fs) s.top s.funcs fs m → d2 ≡ d1 ++ flat_map inner_definitions_said trees → d3 ≡ d2 ++ s.faults → d3 ≡ d0 ++ walked m
+  pub all_told : (trees : List FuncTree) → trees ≡ functions m → (fs : List Headed) → fs ≡ headed_all (meanings_by k s.top) trees s.funcs → (d0 d1 d2 d3 : List Diag) → d1 ≡ d0 ++ statements_along (module_context_by k fs) s.top s.funcs fs m → d2 ≡ d1 ++ flat_map inner_definitions_said trees → d3 ≡ d2 ++ s.faults → d3 ≡ d0 ++ walked m
   all_told trees held fs with_headers d0 d1 d2 d3 first second third =
-      three_told d0 d1 d2 d3 _ _ _ (statements_said (environment m) (module_scope m) (headed_functions m) m (module_role m)) (flat_map inner_definitions_said (functions m)) (faults m) first second third
+      three_told d0 d1 d2 d3 _ _ _ (statements_said (module_context m) (module_scope m) (headed_functions m) m (module_role m)) (flat_map inner_definitions_said (functions m)) (faults m) first second third
       (same_statements fs (same_functions trees held fs with_headers)) (ap (flat_map inner_definitions_said) held) bound.faults
 
 -- as many scopes as functions

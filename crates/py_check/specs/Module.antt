@@ -65,17 +65,17 @@ module_by fs names sorts funcs typed = record {
 
 -- what all scopes of a module share: what its definitions say of names, its variables, the signatures of its functions, and its
 -- classes
-pub record Environment : Type 0 where
+pub record ModuleContext : Type 0 where
   pub said : List ℕ → Option Meaning
   pub variables : List (List ℕ)
   pub signatures : List (Option Signature)
   pub classes : List ClassEntry
 
 -- where names mean this, and in a scope
-abbrev pub context_by : (List ℕ → Meaning) → Environment → Context
+abbrev pub context_by : (List ℕ → Meaning) → ModuleContext → Context
 context_by meanings e = record { meaning = meanings; signatures = e.signatures; classes = e.classes }
 
-abbrev pub context_in : Environment → Scope → Context
+abbrev pub context_in : ModuleContext → Scope → Context
 context_in e inside = context_by (meaning_in e.said e.variables inside) e
 
 -- ---- the module's own statements
@@ -139,7 +139,7 @@ module _ (c : Context) (names : List (List ℕ)) (sorts : List VarSort) (f : Hea
 -- ---- all bodies, by the numbers of functions
 
 -- where the module's variables have these types: all bodies begin with them
-module _ (e : Environment) (sorts : List VarSort) where
+module _ (e : ModuleContext) (sorts : List VarSort) where
   abbrev pub bodies_said : List Headed → List Diag
   bodies_said fs = flat_map (λ f. (body (context_in e f.inside) e.variables sorts f).said) fs
 
@@ -149,7 +149,7 @@ module _ (e : Environment) (sorts : List VarSort) where
 -- ---- the whole
 
 -- of these functions and statements, where these names are seen in the module
-module _ (e : Environment) (top : Scope) (fs : List Headed) (m : Suite) where
+module _ (e : ModuleContext) (top : Scope) (fs : List Headed) (m : Suite) where
   -- the types of the module's variables behind its own statements
   abbrev pub global_sorts : List VarSort
   global_sorts = fixed_sorts (context_in e top) e.variables m
@@ -164,14 +164,14 @@ module _ (e : Environment) (top : Scope) (fs : List Headed) (m : Suite) where
       module_by fs e.variables global_sorts (typed_functions e global_sorts fs) (own_statements (context_in e top) e.variables m).got
 
 module _ (m : Suite) where
-  abbrev pub environment : Environment
-  environment = record { said = said_in m; variables = variables (module_scope m); signatures = signatures m; classes = [] }
+  abbrev pub module_context : ModuleContext
+  module_context = record { said = said_in m; variables = variables (module_scope m); signatures = signatures m; classes = [] }
 
   -- all that typing says, in the order of its walk, then what stands in bodies and may not, and then the faults of names, which
   -- binding finds and of which typing says nothing
   abbrev pub walked : List Diag
   walked =
-      statements_said environment (module_scope m) (headed_functions m) m (module_role m) ++ flat_map inner_definitions_said (functions m) ++ faults m
+      statements_said module_context (module_scope m) (headed_functions m) m (module_role m) ++ flat_map inner_definitions_said (functions m) ++ faults m
 
   -- ALL THAT IS SAID
   abbrev pub said : List Diag
@@ -183,4 +183,4 @@ module _ (m : Suite) where
 
   -- THE TYPED MODULE
   abbrev pub typed : TypedModule
-  typed = typed_parts environment (module_scope m) (headed_functions m) m
+  typed = typed_parts module_context (module_scope m) (headed_functions m) m

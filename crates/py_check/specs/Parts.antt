@@ -1,4 +1,4 @@
--- What the program's environments stand for, and what its walk over a module's own statements says.
+-- What the program's module_contexts stand for, and what its walk over a module's own statements says.
 use Rattle.std.specs.Prelude.{ℕ, false, List, [], ◌++◌, map}
 use Rattle.std.specs.Option.{option_map}
 use Rattle.std.specs.Str.{bytes_eq}
@@ -14,13 +14,13 @@ use Rattle.py_check_signatures.specs.Headers.{signature_of}
 use Rattle.py_check_values.specs.Returns.{outside}
 use Rattle.py_check_places.specs.Places.{Known}
 use Rattle.py_check_statements.specs.Bodies.{nothing_around, after, block}
-use Rattle.py_check_definitions.specs.declared.environments.Environment as declared
+use Rattle.py_check_definitions.specs.declared.module_contexts.ModuleContext as declared
 use Rattle.py_check_definitions.specs.Definitions.{Headed}
 use Rattle.py_check_definitions.specs.Views.{said_along, names_behind, scopes_behind}
-use Rattle.py_check.specs.Module.{Environment, context_in, module_start, global_sorts, bodies_said}
+use Rattle.py_check.specs.Module.{ModuleContext, context_in, module_start, global_sorts, bodies_said}
 
-abbrev pub environment_of : declared.Environment → Environment
-environment_of e = record {
+abbrev pub module_context_of : declared.ModuleContext → ModuleContext
+module_context_of e = record {
   said = get bytes_eq e.known.now.said;
   variables = e.known.now.variables.keys;
   signatures = map (option_map signature) e.signatures.now;
@@ -28,8 +28,8 @@ environment_of e = record {
 }
 
 -- from what is known of names and from the functions: no class has a type yet
-abbrev pub environment_by : ModuleNames → List Headed → Environment
-environment_by k fs = record {
+abbrev pub module_context_by : ModuleNames → List Headed → ModuleContext
+module_context_by k fs = record {
   said = get bytes_eq k.said;
   variables = k.variables.keys;
   signatures = map (λ f. signature_of f.header) fs;
@@ -49,5 +49,5 @@ abbrev pub own_along : Context → List (List ℕ) → List Scope → Suite → 
 own_along c names insides m = walk_along c (module_start c names m) [] insides m
 
 -- and then of the bodies of functions
-abbrev pub statements_along : Environment → Scope → List Scope → List Headed → Suite → List Diag
+abbrev pub statements_along : ModuleContext → Scope → List Scope → List Headed → Suite → List Diag
 statements_along e top insides fs m = own_along (context_in e top) e.variables insides m ++ bodies_said e (global_sorts e top fs m) fs

@@ -16,7 +16,7 @@ ghost use Rattle.py_check.specs.Fixed.{AreFixed};
 use indexmap::IndexSet;
 use py_check_context::{Context, VarType};
 use py_check_definitions::{
-    Environment, Function, numbers_of, own_types, param_numbers, type_or_none, typed_variables,
+    ModuleContext, Function, numbers_of, own_types, param_numbers, type_or_none, typed_variables,
 };
 use py_check_names::{names_in, own_names};
 use py_check_places::Place;
@@ -31,19 +31,19 @@ use value_core::{Many, Memory, Name};
 /// variables has one, or has none for good.
 pub(crate) fn typed_functions(
     alloc: Global,
-    environment: &Environment<'_>,
+    module_context: &ModuleContext<'_>,
     functions: &[Function<'_>],
     place: &mut Place,
     faults: &mut Many<Diag>,
 ) -> Result<Many<TFunc>, Memory>
     requires { AreFixed (known_at place.old).types.globals }
-    ensures typed { IfOk result (λ fs. map typed_func fs ≡ spec.typed_functions (views.environment_of environment.now) (known_at place.old).types.globals (map headed_of functions.now)) }
-    ensures told { IfOk result (λ fs. faults.new ≡ faults.old ++ spec.bodies_said (views.environment_of environment.now) (known_at place.old).types.globals (map headed_of functions.now)) }
+    ensures typed { IfOk result (λ fs. map typed_func fs ≡ spec.typed_functions (views.module_context_of module_context.now) (known_at place.old).types.globals (map headed_of functions.now)) }
+    ensures told { IfOk result (λ fs. faults.new ≡ faults.old ++ spec.bodies_said (views.module_context_of module_context.now) (known_at place.old).types.globals (map headed_of functions.now)) }
     ensures known { IfOk result (λ fs. (known_at place.new).types.globals ≡ (known_at place.old).types.globals) }
 {
     let mut typed = Many::new(alloc);
     for f in functions {
-        typed.push(typed_function(alloc, environment, f, place, faults)?)?;
+        typed.push(typed_function(alloc, module_context, f, place, faults)?)?;
     }
     Ok(typed)
 }
@@ -51,25 +51,25 @@ pub(crate) fn typed_functions(
 /// A function with its body.
 fn typed_function(
     alloc: Global,
-    environment: &Environment<'_>,
+    module_context: &ModuleContext<'_>,
     f: &Function<'_>,
     place: &mut Place,
     faults: &mut Many<Diag>,
 ) -> Result<TFunc, Memory>
-    ensures typed { IfOk result (λ t. typed_func t ≡ spec.typed_function (spec.context_in (views.environment_of environment.now) f.now.inside.now) environment.now.known.now.variables.keys (known_at place.old).types.globals (headed_of f.now)) }
-    ensures told { IfOk result (λ t. faults.new ≡ faults.old ++ (spec.body (spec.context_in (views.environment_of environment.now) f.now.inside.now) environment.now.known.now.variables.keys (known_at place.old).types.globals (headed_of f.now)).said) }
-    ensures known { IfOk result (λ t. (known_at place.new).types.globals ≡ (spec.body_after (spec.context_in (views.environment_of environment.now) f.now.inside.now) environment.now.known.now.variables.keys (known_at place.old).types.globals (headed_of f.now)).types.globals) }
+    ensures typed { IfOk result (λ t. typed_func t ≡ spec.typed_function (spec.context_in (views.module_context_of module_context.now) f.now.inside.now) module_context.now.known.now.variables.keys (known_at place.old).types.globals (headed_of f.now)) }
+    ensures told { IfOk result (λ t. faults.new ≡ faults.old ++ (spec.body (spec.context_in (views.module_context_of module_context.now) f.now.inside.now) module_context.now.known.now.variables.keys (known_at place.old).types.globals (headed_of f.now)).said) }
+    ensures known { IfOk result (λ t. (known_at place.new).types.globals ≡ (spec.body_after (spec.context_in (views.module_context_of module_context.now) f.now.inside.now) module_context.now.known.now.variables.keys (known_at place.old).types.globals (headed_of f.now)).types.globals) }
 {
-    let names = names_in(alloc, environment.known, f.inside)?;
+    let names = names_in(alloc, module_context.known, f.inside)?;
     let scope = Context {
         names: &names,
-        sigs: environment.signatures,
-        classes: environment.classes,
+        sigs: module_context.signatures,
+        classes: module_context.classes,
     };
     function_in(
         alloc,
         &scope,
-        &environment.known.variables,
+        &module_context.known.variables,
         f,
         place,
         faults,

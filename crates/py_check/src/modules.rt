@@ -21,7 +21,7 @@ use indexmap::IndexSet;
 use py_binder::{Scope, Scopes};
 use py_check_context::{VarType, Variables};
 use py_check_definitions::{
-    Environment, Function, add_inner_faults, definitions_of, headed_functions, no_classes,
+    ModuleContext, Function, add_inner_faults, definitions_of, headed_functions, no_classes,
     signatures_of, start_types, typed_variables,
 };
 use py_check_names::{ModuleNames, names_in};
@@ -78,39 +78,39 @@ fn typed_parts(
 ) -> Result<Checked, Memory>
     requires bound { scopes.now.top ≡ module_scope (body_tree body.now) }
     requires names { known.now.variables.keys ≡ meanings.variables scopes.now.top }
-    ensures typed { IfOk result (λ c. typed_module c ≡ spec.typed_parts (views.environment_by known.now (map headed_of functions.now)) scopes.now.top (map headed_of functions.now) (body_tree body.now)) }
-    ensures told { IfOk result (λ c. faults.new ≡ faults.old ++ views.statements_along (views.environment_by known.now (map headed_of functions.now)) scopes.now.top scopes.now.funcs (map headed_of functions.now) (body_tree body.now)) }
+    ensures typed { IfOk result (λ c. typed_module c ≡ spec.typed_parts (views.module_context_by known.now (map headed_of functions.now)) scopes.now.top (map headed_of functions.now) (body_tree body.now)) }
+    ensures told { IfOk result (λ c. faults.new ≡ faults.old ++ views.statements_along (views.module_context_by known.now (map headed_of functions.now)) scopes.now.top scopes.now.funcs (map headed_of functions.now) (body_tree body.now)) }
 {
     let signatures = signatures_of(alloc, functions)?;
     let classes = no_classes(alloc);
-    let environment = Environment {
+    let module_context = ModuleContext {
         known,
         signatures: signatures.as_slice(),
         classes: &classes,
     };
-    typed_in(alloc, &environment, functions, scopes, body, faults)
+    typed_in(alloc, &module_context, functions, scopes, body, faults)
 }
 
-/// The same in its environment: the module's own statements first, then the bodies of functions.
+/// The same in its module_context: the module's own statements first, then the bodies of functions.
 fn typed_in(
     alloc: Global,
-    environment: &Environment<'_>,
+    module_context: &ModuleContext<'_>,
     functions: &[Function<'_>],
     scopes: &Scopes,
     body: &[Stmt],
     faults: &mut Many<Diag>,
 ) -> Result<Checked, Memory>
     requires bound { scopes.now.top ≡ module_scope (body_tree body.now) }
-    requires names { environment.now.known.now.variables.keys ≡ meanings.variables scopes.now.top }
-    ensures typed { IfOk result (λ c. typed_module c ≡ spec.typed_parts (views.environment_of environment.now) scopes.now.top (map headed_of functions.now) (body_tree body.now)) }
-    ensures told { IfOk result (λ c. faults.new ≡ faults.old ++ views.statements_along (views.environment_of environment.now) scopes.now.top scopes.now.funcs (map headed_of functions.now) (body_tree body.now)) }
+    requires names { module_context.now.known.now.variables.keys ≡ meanings.variables scopes.now.top }
+    ensures typed { IfOk result (λ c. typed_module c ≡ spec.typed_parts (views.module_context_of module_context.now) scopes.now.top (map headed_of functions.now) (body_tree body.now)) }
+    ensures told { IfOk result (λ c. faults.new ≡ faults.old ++ views.statements_along (views.module_context_of module_context.now) scopes.now.top scopes.now.funcs (map headed_of functions.now) (body_tree body.now)) }
 {
-    let own = own_statements(alloc, environment, scopes, body, faults)?;
+    let own = own_statements(alloc, module_context, scopes, body, faults)?;
     let Own { typed, mut place } = own;
-    let funcs = typed_functions(alloc, environment, functions, &mut place, faults)?;
+    let funcs = typed_functions(alloc, module_context, functions, &mut place, faults)?;
     with_functions(
         alloc,
-        &environment.known.variables,
+        &module_context.known.variables,
         functions,
         &place.types.globals,
         typed,
@@ -121,25 +121,25 @@ fn typed_in(
 /// A module's own statements, which fix the types of its variables, with the definitions among them.
 fn own_statements(
     alloc: Global,
-    environment: &Environment<'_>,
+    module_context: &ModuleContext<'_>,
     scopes: &Scopes,
     body: &[Stmt],
     faults: &mut Many<Diag>,
 ) -> Result<Own, Memory>
-    ensures typed { IfOk result (λ o. option_map (map typed_stmt) o.typed ≡ (spec.own_statements (spec.context_in (views.environment_of environment.now) scopes.now.top) environment.now.known.now.variables.keys (body_tree body.now)).got) }
-    ensures told { IfOk result (λ o. faults.new ≡ faults.old ++ views.own_along (spec.context_in (views.environment_of environment.now) scopes.now.top) environment.now.known.now.variables.keys scopes.now.funcs (body_tree body.now)) }
-    ensures known { IfOk result (λ o. (known_at o.place).types.globals ≡ spec.fixed_sorts (spec.context_in (views.environment_of environment.now) scopes.now.top) environment.now.known.now.variables.keys (body_tree body.now)) }
+    ensures typed { IfOk result (λ o. option_map (map typed_stmt) o.typed ≡ (spec.own_statements (spec.context_in (views.module_context_of module_context.now) scopes.now.top) module_context.now.known.now.variables.keys (body_tree body.now)).got) }
+    ensures told { IfOk result (λ o. faults.new ≡ faults.old ++ views.own_along (spec.context_in (views.module_context_of module_context.now) scopes.now.top) module_context.now.known.now.variables.keys scopes.now.funcs (body_tree body.now)) }
+    ensures known { IfOk result (λ o. (known_at o.place).types.globals ≡ spec.fixed_sorts (spec.context_in (views.module_context_of module_context.now) scopes.now.top) module_context.now.known.now.variables.keys (body_tree body.now)) }
 {
-    let names = names_in(alloc, environment.known, &scopes.top)?;
+    let names = names_in(alloc, module_context.known, &scopes.top)?;
     let scope = py_check_context::Context {
         names: &names,
-        sigs: environment.signatures,
-        classes: environment.classes,
+        sigs: module_context.signatures,
+        classes: module_context.classes,
     };
     statements_in(
         alloc,
         &scope,
-        &environment.known.variables,
+        &module_context.known.variables,
         scopes.funcs.as_slice(),
         body,
         faults,

@@ -115,6 +115,7 @@ fn add_definition(
 }
 
 /// A function that is defined at a place of the text, and whether its name is new there.
+#[derive(Clone, Copy)]
 struct Defined<'a> {
     span: Span,
     fresh: bool,

@@ -8,16 +8,16 @@
 
 mod decorators;
 mod definitions;
-mod environments;
 mod functions;
+mod module_contexts;
 mod outlines;
 mod refused;
 mod starts;
 mod variables;
 
 pub use definitions::{add_definitions, add_inner_faults};
-pub use environments::{Environment, no_classes};
 pub use functions::{Function, functions_of, signatures_of};
+pub use module_contexts::{ModuleContext, no_classes};
 pub use outlines::{Outlined, definitions_of, headed_functions};
 pub use refused::add_refusals;
 pub use starts::{own_types, start_types};

@@ -33,7 +33,7 @@ use Rattle.py_check_statements.specs.Bodies.{nothing_around}
 use Rattle.py_check_definitions.specs.Definitions.{Headed, headed, inner_definitions_said, headed_functions}
 use Rattle.py_check_definitions.specs.Starts.{given_sort, start_sort, own_sort}
 use Rattle.py_check_definitions.specs.Variables.{typed_variables}
-use Rattle.py_check.specs.Module.{Environment, context_in, plain_signature, statements_of, return_of, function_start, body, body_after, typed_function, bodies_said, typed_functions, global_sorts, environment, said, diagnostics, typed}
+use Rattle.py_check.specs.Module.{ModuleContext, context_in, plain_signature, statements_of, return_of, function_start, body, body_after, typed_function, bodies_said, typed_functions, global_sorts, module_context, said, diagnostics, typed}
 use Rattle.py_check_expressions_laws.specs.Laws as law
 use Rattle.py_check_expressions_laws.proofs.Loud.{none_before, none_behind}
 use Rattle.py_check_laws.specs.WellTyped.{is_suite_written, is_filled}
@@ -85,8 +85,8 @@ of_three true true true h = (refl, refl, refl)
 of_three _ _ _ h = absurd (cc)
 
 module _ (is_identifier : List ℕ → Bool) (m : Suite) (nothing : said m ≡ []) where
-  abbrev e : Environment
-  e = environment m
+  abbrev e : ModuleContext
+  e = module_context m
 
   abbrev roles : Roles
   roles = module_role m

@@ -34,7 +34,7 @@ use Rattle.py_check_statements.specs.Bodies.{nothing_around, block_after}
 use Rattle.py_check_definitions.specs.Definitions.{Headed, headed, inner_definitions_said, headed_functions, signatures}
 use Rattle.py_check_definitions.specs.Starts.{given_sort, first_mark, by_mark, start_sort, or_param, param_sort, own_sort}
 use Rattle.py_check_definitions.specs.Variables.{sort_or_none, variables_from, typed_variables}
-use Rattle.py_check.specs.Module.{Environment, context_in, plain_signature, statements_of, return_of, module_start, own_statements, function_start, body, body_after, typed_function, bodies_said, typed_functions, global_sorts, environment, said, diagnostics, typed}
+use Rattle.py_check.specs.Module.{ModuleContext, context_in, plain_signature, statements_of, return_of, module_start, own_statements, function_start, body, body_after, typed_function, bodies_said, typed_functions, global_sorts, module_context, said, diagnostics, typed}
 use Rattle.py_check_expressions_laws.specs.Laws as law
 use Rattle.py_check_expressions_laws.specs.WellTyped.{Describes, IsSigned}
 use Rattle.py_check_expressions_laws.proofs.Loud.{none_before, none_behind}
@@ -160,7 +160,7 @@ module _ (roles : Roles) (meanings : List ℕ → Meaning) where
       one_on : (i n : ℕ) → i < n → suc i < suc n
       one_on i n h = omega arith
 
-  function_there : (e : Environment) (sorts : List VarSort) (fs : List FuncTree) (i : ℕ) → i < length fs → is_function (slice_get (typed_functions e sorts (map (headed roles meanings) fs)) i) ≡ true
+  function_there : (e : ModuleContext) (sorts : List VarSort) (fs : List FuncTree) (i : ℕ) → i < length fs → is_function (slice_get (typed_functions e sorts (map (headed roles meanings) fs)) i) ≡ true
   function_there e sorts [] i h = absurd (omega arith)
   function_there e sorts (f ∷ fs) zero h = refl
   function_there e sorts (f ∷ fs) (suc i) h = function_there e sorts fs i (omega arith)
@@ -180,8 +180,8 @@ no_init false = refl
 -- ---- the whole
 
 module _ (m : Suite) (nothing : said m ≡ []) where
-  abbrev e : Environment
-  e = environment m
+  abbrev e : ModuleContext
+  e = module_context m
 
   abbrev roles : Roles
   roles = module_role m

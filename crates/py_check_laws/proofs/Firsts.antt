@@ -22,7 +22,7 @@ use Rattle.py_check_assignments.specs.Assignments.{value_for, assigns}
 use Rattle.py_check_statements.specs.Bodies.{after, block_after}
 use Rattle.py_check_definitions.specs.Definitions.{headed_functions}
 use Rattle.py_check_definitions.specs.Starts.{given_sort, first_mark, by_mark, start_sort}
-use Rattle.py_check.specs.Module.{context_in, module_start, global_sorts, environment}
+use Rattle.py_check.specs.Module.{context_in, module_start, global_sorts, module_context}
 use Rattle.py_check.proofs.Bound.{name_no_row, single_bound, type_set}
 use Rattle.py_check.proofs.Kept.{Follows, fix_first, follows_block, is_open}
 use Rattle.py_check_laws.specs.Variables.{sort_in, is_bound_in, joined}
@@ -78,9 +78,9 @@ assignments_give c k body more span target e x scope v free absent n =
     ∙ types_stay c end more x (ap is_unset given ∙ type_set ok t)
     ∙ given
 
-pub annotations_give : (m : Suite) (i : ℕ) (x : List ℕ) (mark : ExprTree) → slice_get (variables (module_scope m)) i ≡ Some x → first_mark (suite_bindings m) x ≡ Some (Some mark) → var_at (global_sorts (environment m) (module_scope m) (headed_functions m) m) i ≡ given_sort (annotation (module_meaning m) mark).got
+pub annotations_give : (m : Suite) (i : ℕ) (x : List ℕ) (mark : ExprTree) → slice_get (variables (module_scope m)) i ≡ Some x → first_mark (suite_bindings m) x ≡ Some (Some mark) → var_at (global_sorts (module_context m) (module_scope m) (headed_functions m) m) i ≡ given_sort (annotation (module_meaning m) mark).got
 annotations_give m i x mark at first =
-    let e = environment m in
+    let e = module_context m in
     let c = context_in e (module_scope m) in
     let start = module_start c e.variables m in
     let given : var_at start.types.globals i ≡ given_sort (annotation (module_meaning m) mark).got =

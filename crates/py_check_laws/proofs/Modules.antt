@@ -29,7 +29,7 @@ use Rattle.py_check_places.specs.Places.{Known}
 use Rattle.py_check_statements.specs.Bodies.{nothing_around}
 use Rattle.py_check_definitions.specs.Definitions.{Headed, headed, inner_definitions_said, refusal, headed_functions, signatures}
 use Rattle.py_check_definitions.specs.Starts.{given_sort, start_sort, or_param, param_sort, own_sort}
-use Rattle.py_check.specs.Module.{Environment, context_in, module_start, own_statements, walk_said, return_of, function_start, body, body_after, bodies_said, global_sorts, environment, walked, said, diagnostics}
+use Rattle.py_check.specs.Module.{ModuleContext, context_in, module_start, own_statements, walk_said, return_of, function_start, body, body_after, bodies_said, global_sorts, module_context, walked, said, diagnostics}
 use Rattle.py_check_definitions.proofs.HeldLemmas.{functions_defined}
 use Rattle.py_check_expressions_laws.specs.Laws as law
 use Rattle.py_check_expressions_laws.specs.Laws.{is_voiceless}
@@ -100,7 +100,7 @@ three a b c d p q r s = cc
 abbrev pub Voiced : Context → Type 0
 Voiced C = (x : List ℕ) → is_voiceless C.signatures (C.meaning x) ≡ false
 
-module _ (e : Environment) (sorts : List VarSort) (f : Headed) where
+module _ (e : ModuleContext) (sorts : List VarSort) (f : Headed) where
   abbrev C : Context
   C = context_in e f.inside
 
@@ -123,7 +123,7 @@ module _ (e : Environment) (sorts : List VarSort) (f : Headed) where
       let after = quiet_block C names (return_of f.header.ret) j InFunction nothing_around start typed f.tree.body known h in
       record { typed = some_is (body C e.variables sorts f).got g.0 g.1; locals = after.locals }
 
-module _ (e : Environment) (roles : Roles) (meanings : List ℕ → Meaning) (all : (x : List ℕ) → is_untyped (meanings x) ≡ false) (names : (f : FuncTree) → Voiced (context_in e (headed roles meanings f).inside)) (inner : (f : FuncTree) (x : List ℕ) → is_untyped ((context_in e (headed roles meanings f).inside).meaning x) ≡ false) (known : (f : FuncTree) → function_faults roles f ≡ [] → AreKnown (context_in e (headed roles meanings f).inside).meaning (body_sights f)) where
+module _ (e : ModuleContext) (roles : Roles) (meanings : List ℕ → Meaning) (all : (x : List ℕ) → is_untyped (meanings x) ≡ false) (names : (f : FuncTree) → Voiced (context_in e (headed roles meanings f).inside)) (inner : (f : FuncTree) (x : List ℕ) → is_untyped ((context_in e (headed roles meanings f).inside).meaning x) ≡ false) (known : (f : FuncTree) → function_faults roles f ≡ [] → AreKnown (context_in e (headed roles meanings f).inside).meaning (body_sights f)) where
   bodies_typed : (sorts : List VarSort) → ((i : ℕ) → law.is_untyped (var_at sorts i) ≡ false) → (fs : List FuncTree) → AllSigned meanings all roles fs → bodies_said e sorts (map (headed roles meanings) fs) ≡ [] → are_typed e sorts (map (headed roles meanings) fs) ≡ true
   bodies_typed sorts before [] a h = refl
   bodies_typed sorts before (f ∷ fs) a h =
@@ -137,8 +137,8 @@ module _ (e : Environment) (roles : Roles) (meanings : List ℕ → Meaning) (al
 -- ---- the whole
 
 module _ (m : Suite) (nothing : said m ≡ []) where
-  abbrev e : Environment
-  e = environment m
+  abbrev e : ModuleContext
+  e = module_context m
 
   abbrev meant : List ℕ → Meaning
   meant = module_meaning m

@@ -24,7 +24,7 @@ use Rattle.py_check_statements.specs.Bodies.{nothing_around, block_after}
 use Rattle.py_check_values.specs.Returns as ret
 use Rattle.py_check_definitions.specs.Definitions.{Headed, headed, headed_functions, signatures}
 use Rattle.py_check_definitions.specs.Starts.{given_sort, start_sort, or_param, own_sort}
-use Rattle.py_check.specs.Module.{Environment, context_in, function_start, module_start, body, body_after, bodies_said, environment, said, diagnostics}
+use Rattle.py_check.specs.Module.{ModuleContext, context_in, function_start, module_start, body, body_after, bodies_said, module_context, said, diagnostics}
 use Rattle.py_check_expressions_laws.specs.Laws as law
 use Rattle.py_check_expressions_laws.proofs.Loud.{none_before, none_behind}
 use Rattle.py_check_laws.specs.WellTyped.{IsScope}
@@ -80,7 +80,7 @@ kept_has xs ys k i h = ap has_type (k.stays i (set_by (var_at xs i) h)) ∙ h
 
 -- ---- functions
 
-module _ (e : Environment) (roles : Roles) (meanings : List ℕ → Meaning) (all : (x : List ℕ) → is_untyped (meanings x) ≡ false) (names : (f : FuncTree) → Voiced (context_in e (headed roles meanings f).inside)) (inner : (f : FuncTree) (x : List ℕ) → is_untyped ((context_in e (headed roles meanings f).inside).meaning x) ≡ false)
+module _ (e : ModuleContext) (roles : Roles) (meanings : List ℕ → Meaning) (all : (x : List ℕ) → is_untyped (meanings x) ≡ false) (names : (f : FuncTree) → Voiced (context_in e (headed roles meanings f).inside)) (inner : (f : FuncTree) (x : List ℕ) → is_untyped ((context_in e (headed roles meanings f).inside).meaning x) ≡ false)
     (known : (f : FuncTree) → function_faults roles f ≡ [] → AreKnown (context_in e (headed roles meanings f).inside).meaning (body_sights f)) (n : ℕ) (fine : Fine e.said e.variables n roles) (others : (x : List ℕ) → is_own (roles x) ≡ false) where
   module _ (f : FuncTree) (sorts : List VarSort) where
     abbrev hd : Headed
@@ -150,8 +150,8 @@ module _ (e : Environment) (roles : Roles) (meanings : List ℕ → Meaning) (al
 -- ---- the whole
 
 module _ (m : Suite) (nothing : said m ≡ []) where
-  abbrev e : Environment
-  e = environment m
+  abbrev e : ModuleContext
+  e = module_context m
 
   abbrev roles : Roles
   roles = module_role m
@@ -184,7 +184,7 @@ module _ (m : Suite) (nothing : said m ≡ []) where
   top_size = (follows_block here first m).globals.size ∙ length-map e.variables (start_sort (module_meaning m) (suite_bindings m))
 
   pub global_has : (i : ℕ) → i < length e.variables → has_type (var_at last.types.globals i) ≡ true
-  global_has i h = let x = there e.variables i h in has_by (var_at last.types.globals i) (module_fixes (environment m) m refl i x.0 x.1) (top_typed i)
+  global_has i h = let x = there e.variables i h in has_by (var_at last.types.globals i) (module_fixes (module_context m) m refl i x.0 x.1) (top_typed i)
 
   -- EACH VARIABLE has a type
   pub variables_typed : are_variables_typed m ≡ true

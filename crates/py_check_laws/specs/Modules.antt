@@ -11,11 +11,11 @@ use Rattle.py_check_context.specs.Context.{VarSort, has, var_at}
 use Rattle.py_check_names.specs.Meanings.{variables, own_names}
 use Rattle.py_check_signatures.specs.Headers.{signature_of}
 use Rattle.py_check_definitions.specs.Definitions.{Headed, headed_functions}
-use Rattle.py_check.specs.Module.{Environment, context_in, own_statements, body, body_after, global_sorts, environment, diagnostics, typed}
+use Rattle.py_check.specs.Module.{ModuleContext, context_in, own_statements, body, body_after, global_sorts, module_context, diagnostics, typed}
 use Rattle.py_check_laws.specs.WellTyped.{is_suite_written, is_filled}
 
 -- the signature of each function, what it returns and its body have a typed form
-abbrev pub are_typed : Environment → List VarSort → List Headed → Bool
+abbrev pub are_typed : ModuleContext → List VarSort → List Headed → Bool
 are_typed e sorts [] = true
 are_typed e sorts (f ∷ more) =
     is_some (signature_of f.header) && is_some f.header.ret && is_some (body (context_in e f.inside) e.variables sorts f).got
@@ -24,8 +24,8 @@ are_typed e sorts (f ∷ more) =
 -- and so have the module's own statements
 abbrev pub is_typed_whole : Suite → Bool
 is_typed_whole m =
-    is_some (own_statements (context_in (environment m) (module_scope m)) (environment m).variables m).got
-    && are_typed (environment m) (global_sorts (environment m) (module_scope m) (headed_functions m) m) (headed_functions m)
+    is_some (own_statements (context_in (module_context m) (module_scope m)) (module_context m).variables m).got
+    && are_typed (module_context m) (global_sorts (module_context m) (module_scope m) (headed_functions m) m) (headed_functions m)
 
 -- where nothing is said of a module, no part of its typed tree stands for what has no typed form
 abbrev pub QuietModuleIsTyped : Type 0
@@ -43,7 +43,7 @@ all_have_types types i [] = true
 all_have_types types i (name ∷ more) = has_type (var_at types i) && all_have_types types (suc i) more
 
 -- the variables of functions, behind their bodies
-abbrev pub are_own_typed : Environment → List VarSort → List Headed → Bool
+abbrev pub are_own_typed : ModuleContext → List VarSort → List Headed → Bool
 are_own_typed e sorts [] = true
 are_own_typed e sorts (f ∷ more) =
     all_have_types (body_after (context_in e f.inside) e.variables sorts f).types.locals 0 (own_names f.inside) && are_own_typed e sorts more
@@ -51,8 +51,8 @@ are_own_typed e sorts (f ∷ more) =
 -- and those of the module, behind its own statements
 abbrev pub are_variables_typed : Suite → Bool
 are_variables_typed m =
-    all_have_types (global_sorts (environment m) (module_scope m) (headed_functions m) m) 0 (environment m).variables
-    && are_own_typed (environment m) (global_sorts (environment m) (module_scope m) (headed_functions m) m) (headed_functions m)
+    all_have_types (global_sorts (module_context m) (module_scope m) (headed_functions m) m) 0 (module_context m).variables
+    && are_own_typed (module_context m) (global_sorts (module_context m) (module_scope m) (headed_functions m) m) (headed_functions m)
 
 -- where nothing is said of a module, each of its variables has a type, and each variable of its functions has one
 abbrev pub QuietModuleTypesVariables : Type 0

@@ -23,7 +23,7 @@ use Rattle.py_check_assignments.specs.Assignments.{value_for, assigns}
 use Rattle.py_check_statements.specs.Bodies.{block_after}
 use Rattle.py_check_definitions.specs.Definitions.{Headed, headed_functions}
 use Rattle.py_check_definitions.specs.Starts.{given_sort, first_mark}
-use Rattle.py_check.specs.Module.{context_in, body_after, global_sorts, environment}
+use Rattle.py_check.specs.Module.{context_in, body_after, global_sorts, module_context}
 use Rattle.py_check.specs.Fixed.{is_there}
 use Rattle.py_check_laws.specs.WellTyped.{IsScope}
 
@@ -75,16 +75,16 @@ FirstAssignmentsGiveTypes =
 abbrev pub ModuleFixesTypes : Type 0
 ModuleFixesTypes =
     (m : Suite) (i : ℕ) (x : List ℕ) → slice_get (variables (module_scope m)) i ≡ Some x
-    → is_unset (var_at (global_sorts (environment m) (module_scope m) (headed_functions m) m) i) ≡ false
+    → is_unset (var_at (global_sorts (module_context m) (module_scope m) (headed_functions m) m) i) ≡ false
 
 -- the body of a function changes none of their types
 abbrev pub BodiesFixNothing : Type 0
 BodiesFixNothing =
     (m : Suite) (f : Headed)
-    → (body_after (context_in (environment m) f.inside) (environment m).variables (global_sorts (environment m) (module_scope m) (headed_functions m) m) f).types.globals ≡ global_sorts (environment m) (module_scope m) (headed_functions m) m
+    → (body_after (context_in (module_context m) f.inside) (module_context m).variables (global_sorts (module_context m) (module_scope m) (headed_functions m) m) f).types.globals ≡ global_sorts (module_context m) (module_scope m) (headed_functions m) m
 
 -- one whose first binding is annotated has the type of that annotation, if it has one
 abbrev pub AnnotationsGiveTypes : Type 0
 AnnotationsGiveTypes =
     (m : Suite) (i : ℕ) (x : List ℕ) (mark : ExprTree) → slice_get (variables (module_scope m)) i ≡ Some x → first_mark (suite_bindings m) x ≡ Some (Some mark)
-    → var_at (global_sorts (environment m) (module_scope m) (headed_functions m) m) i ≡ given_sort (annotation (module_meaning m) mark).got
+    → var_at (global_sorts (module_context m) (module_scope m) (headed_functions m) m) i ≡ given_sort (annotation (module_meaning m) mark).got

@@ -2,7 +2,7 @@ use Rattle.std.proofs.Common.{◌∙◌, sym, subst}
 use Rattle.py_check_places.specs.Views.{known_at}
 use Rattle.py_check_definitions.specs.Views.{headed_of}
 use Rattle.py_check.specs.Module.{context_in}
-use Rattle.py_check.specs.Parts.{environment_of}
+use Rattle.py_check.specs.Parts.{module_context_of}
 use Rattle.py_check.specs.Fixed.{AreFixed}
 use Rattle.py_check.proofs.BodyLemmas.{typed_on, said_on}
 use Rattle.py_check.proofs.Bindings.{body_keeps}
@@ -10,7 +10,7 @@ use Rattle.py_check.proofs.bodies.typed_functions.Goals as goal
 
 pub loop-f-preserved : goal.loop-f-preserved
 loop-f-preserved c =
-    let e = environment_of c.args.environment.now in
+    let e = module_context_of c.args.module_context.now in
     let fs = c.args.functions.now in
     let f = c.f-item.result in
     let g = (known_at c.args.place.now).types.globals in

@@ -8,18 +8,18 @@ use Rattle.py_check_places.specs.Views.{known_at}
 use Rattle.py_check_statements.proofs.BodyLemmas.{always}
 use Rattle.py_check_definitions.specs.Views.{headed_of}
 use Rattle.py_check.specs.Module.{module_by, context_in, own_statements, fixed_sorts, bodies_said, typed_functions}
-use Rattle.py_check.specs.Parts.{environment_of, own_along, statements_along}
+use Rattle.py_check.specs.Parts.{module_context_of, own_along, statements_along}
 use Rattle.py_check.specs.Fixed.{AreFixed}
 use Rattle.py_check.proofs.Bindings.{module_fixed}
 use Rattle.py_check.proofs.modules.typed_in.Goals as goal
 
 pub typed_functions-requires : goal.typed_functions-requires
 typed_functions-requires c =
-    subst AreFixed (sym c.in_ok-own.ensures.known) (module_fixed (environment_of c.args.environment.now) c.args.scopes.now.top (body_tree c.args.body.now) c.requires.names c.requires.bound)
+    subst AreFixed (sym c.in_ok-own.ensures.known) (module_fixed (module_context_of c.args.module_context.now) c.args.scopes.now.top (body_tree c.args.body.now) c.requires.names c.requires.bound)
 
 pub returns : goal.returns
 returns c =
-    let e = environment_of c.args.environment.now in
+    let e = module_context_of c.args.module_context.now in
     let top = c.args.scopes.now.top in
     let insides = c.args.scopes.now.funcs in
     let fs = map headed_of c.args.functions.now in

@@ -4,19 +4,19 @@ use Rattle.py_syntax.specs.Statements.{body_tree}
 use Rattle.py_typed.specs.Classes.{signature}
 use Rattle.py_typed.specs.Statements.{typed_module}
 use Rattle.py_check_definitions.specs.Views.{headed_of}
-use Rattle.py_check.specs.Module.{Environment, typed_parts}
+use Rattle.py_check.specs.Module.{ModuleContext, typed_parts}
 use Rattle.py_check.specs.Parts.{statements_along}
-use Rattle.py_check.proofs.WholeLemmas.{environment_at}
+use Rattle.py_check.proofs.WholeLemmas.{module_context_at}
 use Rattle.py_check.proofs.modules.typed_parts.Goals as goal
 
 pub returns-clause-typed : goal.returns-clause-typed
 returns-clause-typed c =
     let fs = map headed_of c.args.functions.now in
-    let P : Environment → Type 0 = λ e. IfOk c.typed_in.result (λ t. typed_module t ≡ typed_parts e c.args.scopes.now.top fs (body_tree c.args.body.now)) in
-    subst P (environment_at c.args.known.now fs _ _ (ap (map (option_map signature)) c.as_slice.ensures.value ∙ c.in_ok-signatures.ensures) c.no_classes-classes.ensures) c.typed_in.ensures.typed
+    let P : ModuleContext → Type 0 = λ e. IfOk c.typed_in.result (λ t. typed_module t ≡ typed_parts e c.args.scopes.now.top fs (body_tree c.args.body.now)) in
+    subst P (module_context_at c.args.known.now fs _ _ (ap (map (option_map signature)) c.as_slice.ensures.value ∙ c.in_ok-signatures.ensures) c.no_classes-classes.ensures) c.typed_in.ensures.typed
 
 pub returns-clause-told : goal.returns-clause-told
 returns-clause-told c =
     let fs = map headed_of c.args.functions.now in
-    let P : Environment → Type 0 = λ e. IfOk c.typed_in.result (λ t. c.typed_in.new.faults ≡ c.args.faults.now ++ statements_along e c.args.scopes.now.top c.args.scopes.now.funcs fs (body_tree c.args.body.now)) in
-    subst P (environment_at c.args.known.now fs _ _ (ap (map (option_map signature)) c.as_slice.ensures.value ∙ c.in_ok-signatures.ensures) c.no_classes-classes.ensures) c.typed_in.ensures.told
+    let P : ModuleContext → Type 0 = λ e. IfOk c.typed_in.result (λ t. c.typed_in.new.faults ≡ c.args.faults.now ++ statements_along e c.args.scopes.now.top c.args.scopes.now.funcs fs (body_tree c.args.body.now)) in
+    subst P (module_context_at c.args.known.now fs _ _ (ap (map (option_map signature)) c.as_slice.ensures.value ∙ c.in_ok-signatures.ensures) c.no_classes-classes.ensures) c.typed_in.ensures.told

@@ -9,7 +9,7 @@ use value_core::Many;
 
 /// What is known of names in a module, the signatures of its functions by their numbers, where they have one, and its classes.
 #[derive(Drop)]
-pub struct Environment<'a> {
+pub struct ModuleContext<'a> {
     pub known: &'a ModuleNames,
     pub signatures: &'a [Option<Sig>],
     pub classes: &'a Classes,
