@@ -21,18 +21,19 @@ use Rattle.py_check_assignments.specs.Assignments.{assigns, binds, annotates, bi
 abbrev p : Span
 p = record { line = 1; col = 1 }
 
--- in a function f(x: Optional[int], w: tuple[int, str], l: list[int], v: tuple[Optional[int], int]) with two more names of its own,
--- of which z is of no type for good
+-- in a function f(x: Optional[int], w: tuple[int, str], l: list[int], v: tuple[Optional[int], int], u: tuple[int, list[int]]) with two
+-- more names of its own, of which z is of no type for good
 abbrev names : List (List ℕ × Meaning)
 names =
     (codes "x", meaning.Local 0) ∷ (codes "w", meaning.Local 1) ∷ (codes "y", meaning.Local 2) ∷ (codes "z", meaning.Local 3)
-    ∷ (codes "l", meaning.Local 4) ∷ (codes "v", meaning.Local 5) ∷ (codes "int", meaning.Builtin builtin.Int) ∷ []
+    ∷ (codes "l", meaning.Local 4) ∷ (codes "v", meaning.Local 5) ∷ (codes "u", meaning.Local 6) ∷ (codes "int", meaning.Builtin builtin.Int) ∷ []
 
 -- the types of its names, with this one of y
 abbrev types_with : VarSort → List VarSort
 types_with y =
     has (sort.Optional sort.Int) ∷ has (sort.TupleOf (sort_then sort.Int (sort_then sort.Str no_sorts))) ∷ y ∷ untyped
-    ∷ has (sort.ListOf sort.Int) ∷ has (sort.TupleOf (sort_then (sort.Optional sort.Int) (sort_then sort.Int no_sorts))) ∷ []
+    ∷ has (sort.ListOf sort.Int) ∷ has (sort.TupleOf (sort_then (sort.Optional sort.Int) (sort_then sort.Int no_sorts)))
+    ∷ has (sort.TupleOf (sort_then sort.Int (sort_then (sort.ListOf sort.Int) no_sorts))) ∷ []
 
 abbrev c : Context
 c = record {
@@ -47,7 +48,7 @@ start = record {
     locals = types_with unset;
     globals = [];
   };
-  locals_bound = 0 ∷ 1 ∷ 4 ∷ 5 ∷ [];
+  locals_bound = 0 ∷ 1 ∷ 4 ∷ 5 ∷ 6 ∷ [];
   globals_bound = [];
   names = 0 ∷ [];
 }
@@ -85,6 +86,20 @@ known_behind = refl
 -- `x, l[x] = v`: there it may be None
 unknown_behind : says (pair (name (codes "x")) (at (tree.Index (name (codes "l")) (name (codes "x"))) p)) (name (codes "v")) ≡ diag p (invalid_index [] (sort.Optional sort.Int) (sort.ListOf sort.Int) sort.Int) ∷ []
 unknown_behind = refl
+
+abbrev only : ExprTree → ExprTree
+only e = at (tree.ListOf (expr_then e no_exprs)) p
+
+abbrev first : ExprTree → ExprTree
+first e = at (tree.Index e (at (tree.Int (pos 0)) p)) p
+
+-- `x, [x][0] = w`: behind the first target x is an int, and so is the item, though it might have been None before
+bound_in_turn : says (pair (name (codes "x")) (first (only (name (codes "x"))))) (name (codes "w")) ≡ diag p (wrong_assignment [] sort.Str sort.Int) ∷ []
+bound_in_turn = refl
+
+-- `x, [[x]][0] = u`: the value has to fit what it was asked for too, which was a list of what may be None
+asked_before : says (pair (name (codes "x")) (first (only (only (name (codes "x")))))) (name (codes "u")) ≡ diag p (wrong_assignment [] (sort.ListOf sort.Int) (sort.ListOf (sort.Optional sort.Int))) ∷ []
+asked_before = refl
 
 -- `1 = 1`
 no_name : says one one ≡ diag p no_target ∷ []

@@ -2,7 +2,7 @@
 use Rattle.std.proofs.Common.{◌≡◌, Bool, true, false, List, [], ◌∷◌, Option, Some, None, Result, Ok, Err, IfOk, refl, ap, sym, ◌∙◌, subst}
 use Rattle.std.proofs.lemmas.List.{append-nil}
 use Rattle.std.specs.Prelude.{if◌then◌else◌}
-use Rattle.std.specs.Option.{option_map}
+use Rattle.std.specs.Option.{option_map, option_zip}
 use Rattle.std.specs.Result.{result_map_both}
 use Rattle.std.specs.declared.boxed.Box.{Box}
 use Rattle.std.specs.declared.alloc.Global.{Global}
@@ -18,7 +18,9 @@ use Rattle.py_typed.specs.Classes.{ClassEntry}
 use Rattle.py_typed.specs.Expressions.{TypedExpr, typed_expr, type_of}
 use Rattle.py_typed.specs.Statements as act
 use Rattle.py_typed.specs.Statements.{TypedTarget, TypedAct}
-use Rattle.py_check_messages.specs.Seen.{Seen, Message, Tells, Finds, fails, judged}
+use Rattle.py_check_messages.specs.Seen.{Seen, Message, Tells, Finds, both, fails, judged, rule, ruled}
+use Rattle.py_check_messages.proofs.RowLemmas.{two_parts}
+use Rattle.py_check_coercions.specs.Boxes.{boxed}
 use Rattle.py_check_messages.specs.Messages.{no_target}
 use Rattle.py_check_operators.specs.Operators.{arithmetic, arithmetic_type}
 use Rattle.py_check_coercions.proofs.PartLemmas.{type_at}
@@ -26,8 +28,23 @@ use Rattle.py_check_operators.proofs.OperatorLemmas.{arithmetic_has_type}
 use Rattle.py_check_values.specs.Assignments.{binding_fault}
 use Rattle.py_check_values.specs.Aims.{Aim}
 use Rattle.py_check_targets.specs.Targets.{is_placed, target_of, written_back, updated_to, of_operation, updated}
-use Rattle.py_check_targets.specs.Views.{boxed_act}
-use Rattle.py_check_assignments.specs.Views.{boxed_sort}
+use Rattle.py_check_targets.specs.Views.{boxed_act, boxed_sort}
+use Rattle.py_check_assignments.specs.declared.updates.Operands.{Operands}
+use Rattle.py_check_assignments.specs.Views.{operands_seen}
+
+-- a part is not typed, so there are no operands
+pub without_operands : (span : Span) (f : TypedExpr × TypedExpr → Result TypedAct Message) (s t : Seen TypedExpr) (a b : Option (Box TExpr Global)) (z : Option Operands) (o0 o1 o2 : List Diag) → Tells boxed a o0 o1 s → Tells boxed b o1 o2 t → option_map operands_seen z ≡ option_zip (option_map boxed a) (option_map boxed b) → z ≡ None → Tells boxed_act None o0 o2 (rule span f (both s t))
+without_operands span f s t a b z o0 o1 o2 ta tb is none =
+    let P : Option (TypedExpr × TypedExpr) → Type 0 = λ o. Tells boxed_act None o2 o2 (ruled span f o) in
+    two_parts span f boxed boxed boxed_act s t a b None o0 o1 o2 o2 ta tb (subst P (ap (option_map operands_seen) (sym none) ∙ is) (refl, sym (append-nil o2)))
+
+-- the operation on both
+pub with_operands : (span : Span) (f : TypedExpr × TypedExpr → Result TypedAct Message) (s t : Seen TypedExpr) (a b : Option (Box TExpr Global)) (z : Option Operands) (p : Operands) (r : Result (Option (Box TStmtKind Global)) Memory) (o0 o1 o2 new : List Diag) → Tells boxed a o0 o1 s → Tells boxed b o1 o2 t → option_map operands_seen z ≡ option_zip (option_map boxed a) (option_map boxed b) → z ≡ Some p
+    → IfOk r (λ x. Tells boxed_act x o2 new (judged span (f (operands_seen p)))) → IfOk r (λ x. Tells boxed_act x o0 new (rule span f (both s t)))
+with_operands span f s t a b z p (Ok x) o0 o1 o2 new ta tb is some h =
+    let P : Option (TypedExpr × TypedExpr) → Type 0 = λ o. Tells boxed_act x o2 new (ruled span f o) in
+    two_parts span f boxed boxed boxed_act s t a b x o0 o1 o2 new ta tb (subst P (ap (option_map operands_seen) (sym some) ∙ is) h)
+with_operands span f s t a b z p (Err m) o0 o1 o2 new ta tb is some h = tt
 
 -- from the type of the value, or what is wrong with the operation
 abbrev of_type : List ClassEntry → Aim → BinOp → TypedExpr → Result Sort Message → Result TypedAct Message

@@ -2,7 +2,7 @@
 -- PEP 526).
 --
 -- All names of a target are bound, whether the whole holds or is refused. A value is asked for the types that its targets have
--- already.
+-- before anything is known of it; then it is bound to what they are, each once the names before it are bound.
 use Rattle.std.specs.Prelude.{ℕ, false, List, Option, Some, None, is_some, if◌then◌else◌}
 use Rattle.std.specs.Option.{option_map}
 use Rattle.py_syntax.specs.declared.token.Span.{Span}
@@ -20,7 +20,7 @@ use Rattle.py_check_annotations.specs.Annotations.{annotation}
 use Rattle.py_check_coercions.specs.Several.{with_part}
 use Rattle.py_check_places.specs.Places.{Known, variable_at, is_bound}
 use Rattle.py_check_places.specs.Shapes.{is_row, is_item, bind_target}
-use Rattle.py_check_targets.specs.Targets.{target_aims, bound_aims, asked_by, assigned, declared, given, updated, name_aim, read_aim, seen_aim, typed_at}
+use Rattle.py_check_targets.specs.Targets.{target_aims, aims_behind, asked_sort, asked_by, assigned, declared, given, updated, name_aim, read_aim, seen_aim, typed_at}
 
 -- what a variable asks of its value
 abbrev pub asked : VarSort → Wanted
@@ -30,13 +30,17 @@ asked v = free
 module _ (c : Context) where
   -- ---- assignments
 
-  -- the value that is assigned
+  -- the type that targets ask for, and the value that is assigned
+  abbrev pub asked_for : Known → ExprTree → Option Sort
+  asked_for k target = asked_sort (is_row target) (target_aims c k target).got
+
   abbrev pub value_for : Known → ExprTree → ExprTree → Seen TypedExpr
   value_for k target e = typed_at c k (asked_by (is_row target) (target_aims c k target).got) e
 
   abbrev pub assigns : Known → Span → ExprTree → ExprTree → Seen TypedAct
   assigns k span target e =
-      rule span (assigned c.classes target) (both (bound_aims c k target (option_map type_of (value_for k target e).got)) (value_for k target e))
+      rule span (assigned c.classes target (asked_for k target))
+      (both (aims_behind c k target (option_map type_of (value_for k target e).got)) (value_for k target e))
 
   abbrev pub binds : Known → Span → ExprTree → ExprTree → Known
   binds k span target e = bind_target c (is_some (assigns k span target e).got) k target (option_map type_of (value_for k target e).got)

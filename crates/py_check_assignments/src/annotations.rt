@@ -105,11 +105,9 @@ fn declares(
 ) -> Result<Option<Box<TStmtKind>>, Memory>
     ensures { IfOk result (λ t. Tells boxed_act t faults.old faults.new (rules_of.declares (context scope.now) (known_at place.now) span x.now (expr_tree mark.now))) }
 {
-    let meaning = meaning_of(scope, x);
-    let aim = named_aim(alloc, place, x, meaning)?;
+    let name = named(alloc, scope, place, x)?;
     let t = annotation(alloc, scope, mark, faults)?;
-    let bound = is_bound(place, meaning);
-    let kind = declared(alloc, span, x, bound, &aim, t.as_ref(), faults);
+    let kind = declared(alloc, span, &name, t.as_ref(), faults);
     drop(t);
     kind
 }
@@ -127,11 +125,40 @@ fn gives_value(
     ensures told { IfOk result (λ a. Tells boxed_act a.kind faults.old faults.new (rules_of.gives_value (context scope.now) (known_at place.now) span x.now (expr_tree mark.now) (expr_tree e.now))) }
     ensures value { IfOk result (λ a. option_map sort a.value ≡ option_map type_of (rules_of.annotated_value (context scope.now) (known_at place.now) x.now (expr_tree e.now)).got) }
 {
-    let aim = named_aim(alloc, place, x, meaning_of(scope, x))?;
+    let name = named(alloc, scope, place, x)?;
     let t = annotation(alloc, scope, mark, faults)?;
-    let assignment = with_value(alloc, scope, place, span, x, aim, t.as_ref(), e, faults);
+    let assignment = with_value(alloc, scope, place, span, name, t.as_ref(), e, faults);
     drop(t);
     assignment
+}
+
+/// A name that is annotated: what it is to an assignment, and whether it was bound before.
+#[derive(Drop)]
+pub(crate) struct AnnotatedName<'a> {
+    pub(crate) name: &'a Name,
+    pub(crate) bound: bool,
+    pub(crate) aim: Option<Box<Aim<'a>>>,
+}
+
+fn named<'a>(
+    alloc: Global,
+    scope: &Context<'_>,
+    place: &Place,
+    x: &'a Name,
+) -> Result<AnnotatedName<'a>, Memory>
+    ensures name { IfOk result (λ named. named.name.now ≡ x.now) }
+    ensures bound { IfOk result (λ named. named.bound ≡ places.is_bound (known_at place.now) ((context scope.now).meaning x.now)) }
+    ensures aim { IfOk result (λ named. option_map boxed_aim named.aim ≡ rule_of.name_aim (known_at place.now) x.now ((context scope.now).meaning x.now)) }
+{
+    let meaning = meaning_of(scope, x);
+    let bound = is_bound(place, meaning);
+    let aim = name_aim(alloc, place, x, meaning)?;
+    let aim = in_box(alloc, aim)?;
+    Ok(AnnotatedName {
+        name: x,
+        bound,
+        aim,
+    })
 }
 
 // The same where the name and its annotation were looked at.
@@ -140,39 +167,24 @@ fn with_value(
     scope: &Context<'_>,
     place: &Place,
     span: Span,
-    x: &Name,
-    aim: Option<Box<Aim<'_>>>,
+    name: AnnotatedName<'_>,
     t: Option<&Ty>,
     e: &Expr,
     faults: &mut Many<Diag>,
 ) -> Result<Assignment, Memory>
-    ensures told { IfOk result (λ a. Tells boxed_act a.kind faults.old faults.new (behind (rules_of.annotated_value (context scope.now) (known_at place.now) x.now (expr_tree e.now)) (λ v. ruled span (rule_of.given (context scope.now).classes x.now (places.is_bound (known_at place.now) ((context scope.now).meaning x.now))) (option_zip (option_zip (option_map boxed_aim aim.entry) (option_map sort (option_copied t.entry))) v)))) }
-    ensures value { IfOk result (λ a. option_map sort a.value ≡ option_map type_of (rules_of.annotated_value (context scope.now) (known_at place.now) x.now (expr_tree e.now)).got) }
+    ensures told { IfOk result (λ a. Tells boxed_act a.kind faults.old faults.new (behind (rules_of.annotated_value (context scope.now) (known_at place.now) name.entry.name.now (expr_tree e.now)) (λ v. ruled span (rule_of.given (context scope.now).classes name.entry.name.now name.entry.bound) (option_zip (option_zip (option_map boxed_aim name.entry.aim) (option_map sort (option_copied t.entry))) v)))) }
+    ensures value { IfOk result (λ a. option_map sort a.value ≡ option_map type_of (rules_of.annotated_value (context scope.now) (known_at place.now) name.entry.name.now (expr_tree e.now)).got) }
 {
-    let meaning = meaning_of(scope, x);
-    let e = typed_at(alloc, scope, place, asked_by(place, meaning), e, faults)?;
+    let want = asked_by(place, meaning_of(scope, name.name));
+    let e = typed_at(alloc, scope, place, want, e, faults)?;
     let value = value_type(alloc, &e)?;
-    let bound = is_bound(place, meaning);
-    match given(alloc, scope.classes, span, x, bound, aim, t, e, faults) {
+    match given(alloc, scope.classes, span, name, t, e, faults) {
         Ok(kind) => Ok(Assignment { kind, value }),
         Err(memory) => {
             drop(value);
             Err(memory)
         }
     }
-}
-
-// A name that is assigned to.
-fn named_aim<'a>(
-    alloc: Global,
-    place: &Place,
-    x: &'a Name,
-    meaning: Meaning,
-) -> Result<Option<Box<Aim<'a>>>, Memory>
-    ensures { IfOk result (λ a. option_map boxed_aim a ≡ rule_of.name_aim (known_at place.now) x.now meaning) }
-{
-    let a = name_aim(alloc, place, x, meaning)?;
-    in_box(alloc, a)
 }
 
 // Whether a name was bound before.
@@ -212,21 +224,19 @@ fn asked(ty: Option<&VarType>) -> Want<'_>
 fn declared(
     alloc: Global,
     span: Span,
-    x: &Name,
-    bound: bool,
-    aim: &Option<Box<Aim<'_>>>,
+    name: &AnnotatedName<'_>,
     t: Option<&Ty>,
     faults: &mut Many<Diag>,
 ) -> Result<Option<Box<TStmtKind>>, Memory>
-    ensures { IfOk result (λ r. Tells boxed_act r faults.old faults.new (ruled span (rule_of.declared x.now bound) (option_zip (option_map boxed_aim aim.now) (option_map sort (option_copied t.entry))))) }
+    ensures { IfOk result (λ r. Tells boxed_act r faults.old faults.new (ruled span (rule_of.declared name.now.name.now name.now.bound) (option_zip (option_map boxed_aim name.now.aim) (option_map sort (option_copied t.entry))))) }
 {
-    let Some(aim) = aim else {
+    let Some(aim) = &name.aim else {
         return Ok(None);
     };
     let Some(_) = t else {
         return Ok(None);
     };
-    if !may_be_annotated(alloc, span, x, bound, aim, faults)? {
+    if !may_be_annotated(alloc, span, name.name, name.bound, aim, faults)? {
         return Ok(None);
     }
     let kind = kept(alloc, TStmtKind::Pass)?;
@@ -238,15 +248,18 @@ fn given(
     alloc: Global,
     classes: &Classes,
     span: Span,
-    x: &Name,
-    bound: bool,
-    aim: Option<Box<Aim<'_>>>,
+    name: AnnotatedName<'_>,
     t: Option<&Ty>,
     e: Option<Box<TExpr>>,
     faults: &mut Many<Diag>,
 ) -> Result<Option<Box<TStmtKind>>, Memory>
-    ensures { IfOk result (λ r. Tells boxed_act r faults.old faults.new (ruled span (rule_of.given (map class_entry classes.now.list) x.now bound) (option_zip (option_zip (option_map boxed_aim aim.entry) (option_map sort (option_copied t.entry))) (option_map boxed e)))) }
+    ensures { IfOk result (λ r. Tells boxed_act r faults.old faults.new (ruled span (rule_of.given (map class_entry classes.now.list) name.entry.name.now name.entry.bound) (option_zip (option_zip (option_map boxed_aim name.entry.aim) (option_map sort (option_copied t.entry))) (option_map boxed e)))) }
 {
+    let AnnotatedName {
+        name: x,
+        bound,
+        aim,
+    } = name;
     let Some(aim) = aim else {
         return Ok(None);
     };

@@ -1,5 +1,5 @@
 //! Assignments.
-ghost use Rattle.std.specs.Prelude.{◌≡◌, [], ◌∷◌, ◌++◌, map, IfOk, MatchOption};
+ghost use Rattle.std.specs.Prelude.{◌≡◌, [], ◌∷◌, ◌++◌, map, None, IfOk, MatchOption};
 ghost use Rattle.std.specs.List.{list_all};
 ghost use Rattle.std.specs.Option.{option_copied, option_map, option_zip};
 ghost use Rattle.py_syntax.specs.Expressions.{expr_tree};
@@ -14,18 +14,19 @@ ghost use Rattle.py_check_messages.specs.Messages as message;
 ghost use Rattle.py_check_coercions.specs.Boxes.{boxed};
 ghost use Rattle.py_check_coercions.specs.Several.{unless};
 ghost use Rattle.py_check_values.specs.Aims.{aim_seen};
-ghost use Rattle.py_check_places.specs.Shapes as shapes;
 ghost use Rattle.py_check_targets.specs.Targets as rule_of;
 ghost use Rattle.py_check_assignments.specs.Assignments as rules_of;
 ghost use Rattle.py_check_places.specs.Views.{known_at};
-ghost use Rattle.py_check_targets.specs.Views.{aims_seen, boxed_act};
-ghost use Rattle.py_check_assignments.specs.Views.{value_seen};
+ghost use Rattle.py_check_targets.specs.Views.{boxed_act, boxed_sort};
+ghost use Rattle.py_check_assignments.specs.Views.{given_seen};
 
 use crate::parts::refused;
 use py_check_context::Context;
 use py_check_messages::no_target;
 use py_check_places::{Place, bind_target, is_flat, is_row};
-use py_check_targets::{binds_several, bound_aims, put_behind, target_aims, value_for, value_type};
+use py_check_targets::{
+    aims_behind, asked_type, put_behind, takes_several, target_aims, value_asked, value_type,
+};
 use py_check_values::{Aim, assigned};
 use py_syntax::{Expr, Span};
 use py_syntax_diagnostics::Diag;
@@ -74,23 +75,31 @@ fn typed_assignment(
     ensures told { IfOk result (λ a. Tells boxed_act a.kind faults.old faults.new (rules_of.assigns (context scope.now) (known_at place.now) span (expr_tree target.now) (expr_tree e.now))) }
     ensures value { IfOk result (λ a. option_map sort a.value ≡ option_map type_of (rules_of.value_for (context scope.now) (known_at place.now) (expr_tree target.now) (expr_tree e.now)).got) }
 {
-    let mut said = Many::new(alloc);
-    let early = target_aims(alloc, scope, place, target, &mut said)?;
-    let mut of_value = Many::new(alloc);
-    let e = value_for(
-        alloc,
-        scope,
-        place,
-        is_row(target),
-        &early,
-        e,
-        &mut of_value,
-    )?;
+    if is_row(target) {
+        several_targets(alloc, scope, place, span, target, e, faults)
+    } else {
+        one_target(alloc, scope, place, span, target, e, faults)
+    }
+}
+
+// To one target. It is looked at once: no name is bound before it.
+fn one_target(
+    alloc: Global,
+    scope: &Context<'_>,
+    place: &Place,
+    span: Span,
+    target: &Expr,
+    e: &Expr,
+    faults: &mut Many<Diag>,
+) -> Result<Assignment, Memory>
+    ensures told { IfOk result (λ a. Tells boxed_act a.kind faults.old faults.new (rule span (rule_of.assigned (context scope.now).classes (expr_tree target.now) None) (both (rule_of.target_aims (context scope.now) (known_at place.now) (expr_tree target.now)) (rules_of.value_for (context scope.now) (known_at place.now) (expr_tree target.now) (expr_tree e.now))))) }
+    ensures value { IfOk result (λ a. option_map sort a.value ≡ option_map type_of (rules_of.value_for (context scope.now) (known_at place.now) (expr_tree target.now) (expr_tree e.now)).got) }
+{
+    let aims = target_aims(alloc, scope, place, target, faults)?;
+    let asked = asked_type(alloc, is_row(target), &aims)?;
+    let e = value_asked(alloc, scope, place, asked.as_deref(), e, faults)?;
     let value = value_type(alloc, &e)?;
-    let t = value.as_ref();
-    match behind_value(
-        alloc, scope, place, span, target, early, said, e, of_value, t, faults,
-    ) {
+    match assigned_to(alloc, scope.classes, span, target, None, aims, e, faults) {
         Ok(kind) => Ok(Assignment { kind, value }),
         Err(memory) => {
             drop(value);
@@ -99,38 +108,101 @@ fn typed_assignment(
     }
 }
 
-// A value, of this type if it has one, that is assigned to targets which were looked at before it.
+// To several targets. They are looked at for what they ask of the value, and again behind it.
+fn several_targets(
+    alloc: Global,
+    scope: &Context<'_>,
+    place: &Place,
+    span: Span,
+    target: &Expr,
+    e: &Expr,
+    faults: &mut Many<Diag>,
+) -> Result<Assignment, Memory>
+    ensures told { IfOk result (λ a. Tells boxed_act a.kind faults.old faults.new (rules_of.assigns (context scope.now) (known_at place.now) span (expr_tree target.now) (expr_tree e.now))) }
+    ensures value { IfOk result (λ a. option_map sort a.value ≡ option_map type_of (rules_of.value_for (context scope.now) (known_at place.now) (expr_tree target.now) (expr_tree e.now)).got) }
+{
+    let given = given_value(alloc, scope, place, target, e)?;
+    let value = value_type(alloc, &given.e)?;
+    let t = value.as_ref();
+    match behind_value(alloc, scope, place, span, target, given, t, faults) {
+        Ok(kind) => Ok(Assignment { kind, value }),
+        Err(memory) => {
+            drop(value);
+            Err(memory)
+        }
+    }
+}
+
+/// A value with what was said of it, and the type that it was asked for, if for any.
+#[derive(Drop)]
+pub(crate) struct Given {
+    pub(crate) asked: Option<Box<Ty>>,
+    pub(crate) e: Option<Box<TExpr>>,
+    pub(crate) said: Many<Diag>,
+}
+
+fn given_value(
+    alloc: Global,
+    scope: &Context<'_>,
+    place: &Place,
+    target: &Expr,
+    e: &Expr,
+) -> Result<Given, Memory>
+    ensures asked { IfOk result (λ given. option_map boxed_sort given.asked ≡ rules_of.asked_for (context scope.now) (known_at place.now) (expr_tree target.now)) }
+    ensures value { IfOk result (λ given. given_seen given ≡ rules_of.value_for (context scope.now) (known_at place.now) (expr_tree target.now) (expr_tree e.now)) }
+{
+    let asked = asked_for(alloc, scope, place, target)?;
+    let mut said = Many::new(alloc);
+    let e = value_asked(alloc, scope, place, asked.as_deref(), e, &mut said)?;
+    Ok(Given { asked, e, said })
+}
+
+// What targets ask for. What is wrong with them is said once the value is there.
+fn asked_for(
+    alloc: Global,
+    scope: &Context<'_>,
+    place: &Place,
+    target: &Expr,
+) -> Result<Option<Box<Ty>>, Memory>
+    ensures { IfOk result (λ t. option_map boxed_sort t ≡ rules_of.asked_for (context scope.now) (known_at place.now) (expr_tree target.now)) }
+{
+    let mut unsaid = Many::new(alloc);
+    let aims = target_aims(alloc, scope, place, target, &mut unsaid)?;
+    asked_type(alloc, is_row(target), &aims)
+}
+
+// A value, of this type if it has one, that is assigned to targets which are looked at behind it.
 fn behind_value(
     alloc: Global,
     scope: &Context<'_>,
     place: &Place,
     span: Span,
     target: &Expr,
-    early: Option<Many<Aim<'_>>>,
-    said: Many<Diag>,
-    e: Option<Box<TExpr>>,
-    of_value: Many<Diag>,
+    given: Given,
     t: Option<&Ty>,
     faults: &mut Many<Diag>,
 ) -> Result<Option<Box<TStmtKind>>, Memory>
-    ensures { IfOk result (λ r. Tells boxed_act r faults.old faults.new (rule span (rule_of.assigned (context scope.now).classes (expr_tree target.now)) (both (rule_of.settled (shapes.is_row (expr_tree target.now)) (aims_seen early.entry said) (rule_of.aims_behind (context scope.now) (known_at place.now) (expr_tree target.now) (option_map sort (option_copied t.entry)))) (value_seen e of_value)))) }
+    ensures { IfOk result (λ r. Tells boxed_act r faults.old faults.new (rule span (rule_of.assigned (context scope.now).classes (expr_tree target.now) (option_map boxed_sort given.asked)) (both (rule_of.aims_behind (context scope.now) (known_at place.now) (expr_tree target.now) (option_map sort (option_copied t.entry))) (given_seen given)))) }
 {
-    let aims = bound_aims(alloc, scope, place, target, early, said, t, faults)?;
-    put_behind(faults, of_value)?;
-    assigned_to(alloc, scope.classes, span, target, aims, e, faults)
+    let Given { asked, e, said } = given;
+    let aims = aims_behind(alloc, scope, place, target, t, faults)?;
+    put_behind(faults, said)?;
+    let asked = asked.as_deref();
+    assigned_to(alloc, scope.classes, span, target, asked, aims, e, faults)
 }
 
-// A value that is assigned to these targets.
+// A value, which was asked for this type if for any, that is assigned to these targets.
 fn assigned_to(
     alloc: Global,
     classes: &Classes,
     span: Span,
     target: &Expr,
+    asked: Option<&Ty>,
     aims: Option<Many<Aim<'_>>>,
     e: Option<Box<TExpr>>,
     faults: &mut Many<Diag>,
 ) -> Result<Option<Box<TStmtKind>>, Memory>
-    ensures { IfOk result (λ t. Tells boxed_act t faults.old faults.new (ruled span (rule_of.assigned (map class_entry classes.now.list) (expr_tree target.now)) (option_zip (option_map (map aim_seen) aims.entry) (option_map boxed e)))) }
+    ensures { IfOk result (λ t. Tells boxed_act t faults.old faults.new (ruled span (rule_of.assigned (map class_entry classes.now.list) (expr_tree target.now) (option_map sort (option_copied asked.entry))) (option_zip (option_map (map aim_seen) aims.entry) (option_map boxed e)))) }
 {
     let Some(aims) = aims else {
         return Ok(None);
@@ -138,7 +210,7 @@ fn assigned_to(
     let Some(e) = e else {
         return Ok(None);
     };
-    takes_value(alloc, classes, span, target, aims, e, faults)
+    takes_value(alloc, classes, span, target, asked, aims, e, faults)
 }
 
 // The same of parts that are typed.
@@ -147,24 +219,19 @@ fn takes_value(
     classes: &Classes,
     span: Span,
     target: &Expr,
+    asked: Option<&Ty>,
     aims: Many<Aim<'_>>,
     e: Box<TExpr>,
     faults: &mut Many<Diag>,
 ) -> Result<Option<Box<TStmtKind>>, Memory>
-    ensures { IfOk result (λ t. Tells boxed_act t faults.old faults.new (judged span (rule_of.assigned (map class_entry classes.now.list) (expr_tree target.now) (map aim_seen aims.entry, boxed e)))) }
+    ensures { IfOk result (λ t. Tells boxed_act t faults.old faults.new (judged span (rule_of.assigned (map class_entry classes.now.list) (expr_tree target.now) (option_map sort (option_copied asked.entry)) (map aim_seen aims.entry, boxed e)))) }
 {
     if !are_placed(is_flat(target), aims.as_slice()) {
         return refused(alloc, span, faults);
     }
-    let e = value_assigned(
-        alloc,
-        classes,
-        span,
-        is_row(target),
-        aims.as_slice(),
-        e,
-        faults,
-    )?;
+    let several = is_row(target);
+    let taken = aims.as_slice();
+    let e = value_assigned(alloc, classes, span, several, asked, taken, e, faults)?;
     let targets = targets_of(alloc, aims)?;
     act_of(alloc, targets, e)
 }
@@ -200,14 +267,15 @@ fn value_assigned(
     classes: &Classes,
     span: Span,
     several: bool,
+    asked: Option<&Ty>,
     aims: &[Aim<'_>],
     e: Box<TExpr>,
     faults: &mut Many<Diag>,
 ) -> Result<Option<Box<TExpr>>, Memory>
-    ensures { IfOk result (λ t. Tells boxed t faults.old faults.new (judged span (rule_of.value_assigned (map class_entry classes.now.list) several (map aim_seen aims.now) (boxed e)))) }
+    ensures { IfOk result (λ t. Tells boxed t faults.old faults.new (judged span (rule_of.value_assigned (map class_entry classes.now.list) several (option_map sort (option_copied asked.entry)) (map aim_seen aims.now) (boxed e)))) }
 {
     if several {
-        unpacked(alloc, classes, span, aims, e, faults)
+        unpacked(alloc, classes, span, asked, aims, e, faults)
     } else {
         one_assigned(alloc, classes, span, aims, e, faults)
     }
@@ -217,13 +285,14 @@ fn unpacked(
     alloc: Global,
     classes: &Classes,
     span: Span,
+    asked: Option<&Ty>,
     aims: &[Aim<'_>],
     e: Box<TExpr>,
     faults: &mut Many<Diag>,
 ) -> Result<Option<Box<TExpr>>, Memory>
-    ensures { IfOk result (λ t. Tells boxed t faults.old faults.new (judged span (unless (rule_of.several_fault (map class_entry classes.now.list) (map aim_seen aims.now) (type_of (boxed e))) (boxed e)))) }
+    ensures { IfOk result (λ t. Tells boxed t faults.old faults.new (judged span (unless (rule_of.taking_fault (map class_entry classes.now.list) (option_map sort (option_copied asked.entry)) (map aim_seen aims.now) (type_of (boxed e))) (boxed e)))) }
 {
-    if !binds_several(alloc, classes, span, aims, &e.ty, faults)? {
+    if !takes_several(alloc, classes, span, asked, aims, &e.ty, faults)? {
         return Ok(None);
     }
     Ok(Some(e))

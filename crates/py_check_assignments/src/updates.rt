@@ -9,7 +9,7 @@ ghost use Rattle.py_typed.specs.Statements as acts;
 ghost use Rattle.py_typed.specs.Statements.{typed_target};
 ghost use Rattle.py_check_context.specs.Context.{context};
 ghost use Rattle.py_check_flow.specs.Bindings as bindings;
-ghost use Rattle.py_check_messages.specs.Seen.{Tells, judged, ruled};
+ghost use Rattle.py_check_messages.specs.Seen.{Tells, judged};
 ghost use Rattle.py_check_coercions.specs.Boxes.{boxed};
 ghost use Rattle.py_check_operators.specs.Operators as operators;
 ghost use Rattle.py_check_places.specs.Shapes as shapes;
@@ -18,8 +18,8 @@ ghost use Rattle.py_check_assignments.specs.Assignments as rules_of;
 ghost use Rattle.py_check_places.specs.Views.{known_at};
 ghost use Rattle.py_check_values.specs.Aims as aims;
 ghost use Rattle.py_check_values.specs.Aims.{aim_seen};
-ghost use Rattle.py_check_targets.specs.Views.{boxed_aim, boxed_act};
-ghost use Rattle.py_check_assignments.specs.Views.{boxed_sort};
+ghost use Rattle.py_check_targets.specs.Views.{boxed_aim, boxed_act, boxed_sort};
+ghost use Rattle.py_check_assignments.specs.Views.{operands_seen};
 
 use crate::assignments::{is_placed, kept, written};
 use crate::parts::{has_aims, refuse_value, refused};
@@ -106,7 +106,25 @@ fn update_one(
 {
     let read = typed_at(alloc, scope, place, Want::Free, target, faults)?;
     let e = typed_at(alloc, scope, place, Want::Free, e, faults)?;
-    operation(alloc, scope, place, span, target, op, read, e, faults)
+    let Some(operands) = typed_operands(read, e) else {
+        return Ok(None);
+    };
+    operation(alloc, scope, place, span, target, op, operands, faults)
+}
+
+/// A target that was read, and the operand.
+#[derive(Drop)]
+pub(crate) struct Operands {
+    pub(crate) read: Box<TExpr>,
+    pub(crate) e: Box<TExpr>,
+}
+
+fn typed_operands(read: Option<Box<TExpr>>, e: Option<Box<TExpr>>) -> Option<Operands>
+    ensures { option_map operands_seen result ≡ option_zip (option_map boxed read) (option_map boxed e) }
+{
+    let read = read?;
+    let e = e?;
+    Some(Operands { read, e })
 }
 
 // The operation on a target that was read, and its operand.
@@ -117,35 +135,12 @@ fn operation(
     span: Span,
     target: &Expr,
     op: BinOp,
-    read: Option<Box<TExpr>>,
-    e: Option<Box<TExpr>>,
+    operands: Operands,
     faults: &mut Many<Diag>,
 ) -> Result<Option<Box<TStmtKind>>, Memory>
-    ensures { IfOk result (λ t. Tells boxed_act t faults.old faults.new (ruled span (targets.updated (context scope.now).classes span op (targets.read_aim (context scope.now) (known_at place.now) (bindings.name_in (expr_tree target.now)) (shapes.is_item (expr_tree target.now)))) (option_zip (option_map boxed read) (option_map boxed e)))) }
+    ensures { IfOk result (λ t. Tells boxed_act t faults.old faults.new (judged span (targets.updated (context scope.now).classes span op (targets.read_aim (context scope.now) (known_at place.now) (bindings.name_in (expr_tree target.now)) (shapes.is_item (expr_tree target.now))) (operands_seen operands)))) }
 {
-    let Some(read) = read else {
-        return Ok(None);
-    };
-    let Some(e) = e else {
-        return Ok(None);
-    };
-    operation_on(alloc, scope, place, span, target, op, read, e, faults)
-}
-
-// The same of parts that are typed.
-fn operation_on(
-    alloc: Global,
-    scope: &Context<'_>,
-    place: &Place,
-    span: Span,
-    target: &Expr,
-    op: BinOp,
-    read: Box<TExpr>,
-    e: Box<TExpr>,
-    faults: &mut Many<Diag>,
-) -> Result<Option<Box<TStmtKind>>, Memory>
-    ensures { IfOk result (λ t. Tells boxed_act t faults.old faults.new (judged span (targets.updated (context scope.now).classes span op (targets.read_aim (context scope.now) (known_at place.now) (bindings.name_in (expr_tree target.now)) (shapes.is_item (expr_tree target.now))) (boxed read, boxed e)))) }
-{
+    let Operands { read, e } = operands;
     let classes = scope.classes;
     let Some(ty) = result_type(alloc, classes, span, op, &read.ty, &e.ty, faults)? else {
         return Ok(None);

@@ -7,8 +7,7 @@ use Rattle.py_check_coercions.specs.Boxes.{boxed}
 use Rattle.py_check_values.specs.Assignments.{binding_fault}
 use Rattle.py_check_values.specs.Aims.{Aim, aim_seen}
 use Rattle.py_check_targets.specs.Targets.{is_placed}
-use Rattle.py_check_targets.specs.Views.{boxed_aim}
-use Rattle.py_check_assignments.specs.Views.{boxed_sort}
+use Rattle.py_check_targets.specs.Views.{boxed_aim, boxed_sort}
 use Rattle.py_check_assignments.proofs.UpdateLemmas.{misplaced_says, unbound_says, bound_says}
 use Rattle.py_check_assignments.proofs.updates.updated_to.Goals as goal
 

@@ -3,8 +3,7 @@ use Rattle.py_typed.specs.Statements.{typed_target}
 use Rattle.py_check_coercions.specs.Boxes.{boxed}
 use Rattle.py_check_values.specs.Aims.{aim_seen}
 use Rattle.py_check_targets.specs.Targets.{target_of}
-use Rattle.py_check_targets.specs.Views.{boxed_aim}
-use Rattle.py_check_assignments.specs.Views.{boxed_sort}
+use Rattle.py_check_targets.specs.Views.{boxed_aim, boxed_sort}
 use Rattle.py_check_assignments.proofs.UpdateLemmas.{augmented_says, no_target_says}
 use Rattle.py_check_assignments.proofs.updates.written_back.Goals as goal
 
