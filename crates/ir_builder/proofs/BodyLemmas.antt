@@ -12,7 +12,7 @@ no_other : (h : Option ℕ) → h ≡ or_other h None
 no_other None = refl
 no_other (Some k) = refl
 
-no_items : {A : Type 0} (l : List A) → length l ≡ 0 → l ≡ []
+pub no_items : {A : Type 0} (l : List A) → length l ≡ 0 → l ≡ []
 no_items [] e = refl
 no_items (x ∷ l) e = absurd (omega arith)
 

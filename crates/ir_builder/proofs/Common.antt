@@ -36,7 +36,7 @@ pub use Rattle.ir_core.specs.declared.code.RType.{RType}
 pub use Rattle.ir_core.specs.declared.code.Reg.{Reg}
 pub use Rattle.py_typed.specs.Fits.{is_nothing}
 pub use Rattle.py_typed.specs.Sorts.{Sort, sort}
-pub use Rattle.py_typed.specs.Statements.{Arms, Assert, Assign, Aug, Break, Continue, Del, ForDict, ForList, ForRange, Pass, Raise, Try, TypedAct, TypedFunc, TypedModule, TypedStmt, TypedSuite, Variable, While, arm_then, no_arms, no_stmts, on_line, stmt_then, typed_func, typed_module, variable}
+pub use Rattle.py_typed.specs.Statements.{Arms, Assert, Assign, Aug, Break, Continue, Del, ForDict, ForList, ForRange, Pass, Raise, Try, TypedAct, TypedFunc, TypedModule, TypedStmt, TypedSuite, Variable, While, arm_then, no_arms, no_stmts, on_line, stmt_then, typed_func, typed_module, typed_suite, variable}
 pub use Rattle.py_typed.specs.declared.checked.TFunc.{TFunc}
 pub use Rattle.source_meaning.specs.SourceRun.{body_of, call_of, enter, raised_as, start, stop_of, stopped, top_of}
 pub use Rattle.source_meaning.specs.State.{Calls, Does, Gives, Outcome, Raises, State, Stops, on_to, spend, spend_from}

@@ -5,9 +5,13 @@ use Rattle.ir_core.specs.declared.code.Lit.TheVariants.{Number}
 use Rattle.ir_core.specs.declared.code.RType.TheVariants as rtype
 use Rattle.ir_core.proofs.BuildingLemmas.{built_is_held}
 use Rattle.ir_builder_statements.specs.Kinds.{GivesResult, IsAround}
+use Rattle.ir_builder_frames.specs.Lines.{OwnLines}
+use Rattle.ir_builder_statements.specs.Lined.{body as body_piece, LinedPieces}
+use Rattle.ir_builder.specs.Lines.{setting_in}
 use Rattle.ir_builder.proofs.ArgumentLemmas.{sort_of, sorts_size, map_length, HaveFlags, function_works}
 use Rattle.ir_builder.proofs.ClosedLemmas.{Avoids, is_end, suite_closed}
 use Rattle.ir_builder.proofs.EdgeLemmas.{no_edges}
+use Rattle.ir_builder.proofs.LinedLemmas.{around_before, function_lined}
 
 -- ---- lists
 
@@ -175,8 +179,8 @@ is_made m vs variables count vars gives t last M b0 b1 b2 h names are size gives
     }
 
 -- a function of the module
-pub function_is : {line : ℕ} (m : TypedModule) (f : TypedFunc) (fits : FunctionSuits m f) (variables : Declared) (count params : ℕ) (vars : Vars) (ret : RType) (last : Literal) (b0 bf b1 b2 : Building) (name : List ℕ) (h0 h : Func) → variables ≡ variable_registers f.locals → count ≡ length f.locals → vars ≡ variables_of params count → ret ≡ rtype_of f.ret → last ≡ end_literal ret → Begins variables b0 → AddsFlags (count - params) b0 bf → Keeps b0 bf → KeepsKinds b0 bf → Pushes bf b1 Turn line → KeepsIf (λ low high. OpFits low Turn) bf b1 → KeepsKindsIf (λ g. OpKinds g bf.regs Turn) bf b1 → Bodied (body_setting m f.locals vars) (Some f.ret) ret last (means_suite (body_setting m f.locals vars) f.body) b1 b2 → CompletesShape b1 b2 → KeepsKindsIf (BodyAround m (Some f.ret) ret last) b1 b2 → length b2.blocks < 2 ^ 64 → names_differ (names_of b2.regs) ≡ true → params ≡ f.params → h0 ≡ record { name = b2.name; params = params; regs = b2.regs; ret = ret; blocks = b2.blocks } → name ≡ f.name → h ≡ record h0 { name = name } → IsFunctionOf m f h
-function_is {line} m f fits variables count params vars ret last b0 bf b1 b2 name h0 h are size vars_are ret_is last_is first flags flags_shaped flags_kinds turn shaped01 kinds01 bodied shape kinds12 few differ params_are is0 name_is is =
+pub function_is : {line : ℕ} (m : TypedModule) (f : TypedFunc) (fits : FunctionSuits m f) (variables : Declared) (count params : ℕ) (vars : Vars) (ret : RType) (last : Literal) (b0 bf b1 b2 : Building) (name : List ℕ) (h0 h : Func) → variables ≡ variable_registers f.locals → count ≡ length f.locals → vars ≡ variables_of params count → ret ≡ rtype_of f.ret → last ≡ end_literal ret → Begins variables b0 → AddsFlags (count - params) b0 bf → Keeps b0 bf → KeepsKinds b0 bf → Pushes bf b1 Turn line → KeepsIf (λ low high. OpFits low Turn) bf b1 → KeepsKindsIf (λ g. OpKinds g bf.regs Turn) bf b1 → OwnLines 0 bf b1 → Bodied (body_setting m f.locals vars) (Some f.ret) ret last (means_suite (body_setting m f.locals vars) f.body) b1 b2 → CompletesShape b1 b2 → KeepsKindsIf (BodyAround m (Some f.ret) ret last) b1 b2 → LinedPieces (body_setting m f.locals vars) 0 (body_piece f.body ∷ []) b1 b2 → length b2.blocks < 2 ^ 64 → names_differ (names_of b2.regs) ≡ true → params ≡ f.params → h0 ≡ record { name = b2.name; params = params; regs = b2.regs; ret = ret; blocks = b2.blocks } → name ≡ f.name → h ≡ record h0 { name = name } → IsFunctionOf m f h
+function_is {line} m f fits variables count params vars ret last b0 bf b1 b2 name h0 h are size vars_are ret_is last_is first flags flags_shaped flags_kinds turn shaped01 kinds01 lined01 bodied shape kinds12 lined12 few differ params_are is0 name_is is =
     let none : length b1.blocks ≡ 0 = turn.blocks ∙ flags.blocks ∙ ap length first.blocks in
     let one : length b1.ops ≡ 1 = turn.ops ∙ ap (λ k. k + 1) flags.ops ∙ ap (λ os. length os + 1) first.ops in
     let h_regs : h.regs ≡ b2.regs = ap (λ (z : Func). z.regs) is ∙ ap (λ (z : Func). z.regs) is0 in
@@ -190,6 +194,8 @@ function_is {line} m f fits variables count params vars ret last b0 bf b1 b2 nam
     let item : held b2 0 0 ≡ Some (Do Turn line) =
     ap (λ k. held b2 k 0) (sym (flags.blocks ∙ ap length first.blocks)) ∙ ap (λ i. held b2 (length bf.blocks) i) (sym (flags.ops ∙ ap length first.ops)) ∙ bodied.extends.items (length bf.blocks) (length bf.ops) (Do Turn line) turn.at in
     let room = begin_room f.locals b0 variables are first count size m vars params bf vars_are flags in
+    let all_vars : vars ≡ variables_of f.params (length f.locals) = vars_are ∙ ap (λ z. variables_of z count) params_are ∙ ap (variables_of f.params) size in
+    let inside : LinedPieces (setting_in m f.params f.locals) 0 (body_piece f.body ∷ []) b1 b2 = subst (λ z. LinedPieces (body_setting m f.locals z) 0 (body_piece f.body ∷ []) b1 b2) all_vars lined12 in
     let have : HaveFlags vars (length f.locals) h.regs = λ j above low. ap (λ ds. type_of_reg ds (record { 0 = flag_of vars j })) h_regs ∙ type_kept bf b2 (flag_of vars j) rtype.Bool (extends_trans bf b1 b2 turn.extends bodied.extends) (room.flagged j above (omega (arith, ap (λ (z : Vars). z.count) vars_are, size))) in
     record {
       name = h_name;
@@ -210,7 +216,8 @@ function_is {line} m f fits variables count params vars ret last b0 bf b1 b2 nam
           let B : RType → ℕ → ℕ → Type 0 = λ r k i. BodyWorks p (body_setting m f.locals vars) (Some f.ret) (end_value r) (means_suite (body_setting m f.locals vars) f.body) fn k i in
           let placed : B (rtype_of f.ret) 0 1 = subst (λ r. B r 0 1) ret_is (subst (λ i. B ret 0 i) one (subst (λ k. B ret k (length b1.ops)) none body)) in
           let no_end : (n : ℕ) (s : State) → (is_nothing f.ret ≡ true) ⊎ Avoids is_end (suite m.classes.classes (call_of m n) m.globals f.locals n f.body s) = λ n s. ⊎_elim (λ e. inl e) (λ closed. inr (suite_closed m.classes.classes (call_of m n) m.globals f.locals n m f.locals (Some f.ret) false f.body fits.body closed s)) fits.ends in
-          function_works p m f fn h vars made.rest fits.parameters no_end (vars_are ∙ ap (λ z. variables_of z count) params_are ∙ ap (variables_of f.params) size) made.regs have placed;
+          function_works p m f fn h vars made.rest fits.parameters no_end all_vars made.regs have placed;
+      lined = function_lined (setting_in m f.params f.locals) f.body b1 b2 h (around_before 0 bf b1 (flags.blocks ∙ ap length first.blocks) (flags.ops ∙ ap length first.ops) lined01) inside h_regs h_blocks bodied.ops;
     }
 
 -- ---- the module's own statements
@@ -221,8 +228,8 @@ own_flow p m Breaks s d h = absurd h
 own_flow p m Continues s d h = absurd h
 own_flow p m (Returns v) s d h = absurd h.1
 
-pub own_is : (m : TypedModule) (variables : Declared) (count params : ℕ) (vars : Vars) (b0 b2 : Building) (h : Func) → variables ≡ [] → count ≡ 0 → vars ≡ variables_of 0 count → Begins variables b0 → Bodied (body_setting m [] vars) None rtype.Bool (Number (pos 1)) (means_suite (body_setting m [] vars) m.top) b0 b2 → CompletesShape b0 b2 → KeepsKindsIf (BodyAround m None rtype.Bool (Number (pos 1))) b0 b2 → length b2.blocks < 2 ^ 64 → names_differ (names_of b2.regs) ≡ true → params ≡ 0 → h ≡ record { name = b2.name; params = params; regs = b2.regs; ret = rtype.Bool; blocks = b2.blocks } → IsOwnOf m h
-own_is m variables count params vars b0 b2 h are size vars_are first bodied shape kinds12 few differ params_are is =
+pub own_is : (m : TypedModule) (variables : Declared) (count params : ℕ) (vars : Vars) (b0 b2 : Building) (h : Func) → variables ≡ [] → count ≡ 0 → vars ≡ variables_of 0 count → Begins variables b0 → Bodied (body_setting m [] vars) None rtype.Bool (Number (pos 1)) (means_suite (body_setting m [] vars) m.top) b0 b2 → CompletesShape b0 b2 → KeepsKindsIf (BodyAround m None rtype.Bool (Number (pos 1))) b0 b2 → LinedPieces (body_setting m [] vars) 0 (body_piece m.top ∷ []) b0 b2 → length b2.blocks < 2 ^ 64 → names_differ (names_of b2.regs) ≡ true → params ≡ 0 → h ≡ record { name = b2.name; params = params; regs = b2.regs; ret = rtype.Bool; blocks = b2.blocks } → IsOwnOf m h
+own_is m variables count params vars b0 b2 h are size vars_are first bodied shape kinds12 lined12 few differ params_are is =
     let none : length b0.blocks ≡ 0 = ap length first.blocks in
     let start : length b0.ops ≡ 0 = ap length first.ops in
     let h_regs : h.regs ≡ b2.regs = ap (λ (z : Func). z.regs) is in
@@ -244,4 +251,5 @@ own_is m variables count params vars b0 b2 h are size vars_are first bodied shap
           let placed : B 0 0 = subst (λ i. B 0 i) start (subst (λ k. B k (length b0.ops)) none body) in
           let match : Matches (body_setting m [] vars) (first_regs h.regs []) s = record { each = λ j v at. let f : None ≡ Some v = at in absurd (cc); globals = types } in
           ends_map p s.turns _ (top_of m n s) (LeavesWith p m None (BoolVal true) []) _ (Departs m fn []) (Escapes fn []) (λ g u d z. own_flow p m g u d z) (λ v u d z. z.1) (placed n calls (first_regs h.regs []) [] s match le);
+      lined = function_lined (setting_in m 0 []) m.top b0 b2 h (around_before 0 b0 b0 none start (λ k i x other at. at)) (subst (λ z. LinedPieces (body_setting m [] z) 0 (body_piece m.top ∷ []) b0 b2) (vars_are ∙ ap (variables_of 0) size) lined12) h_regs h_blocks bodied.ops;
     }

@@ -2,6 +2,7 @@ pub mod ClosedLemmas
 pub mod RegisterLemmas
 pub mod FillLemmas
 pub mod BodyLemmas
+pub mod LinedLemmas
 pub mod EdgeLemmas
 pub mod CallLemmas
 pub mod ArgumentLemmas

@@ -3,7 +3,6 @@ use Rattle.ir_builder.proofs.Common.{◌≡◌, ◌≢◌, ℕ, zero, suc, ◌+�
 use Rattle.std.proofs.lemmas.List.{map_push}
 use Rattle.std.proofs.Math.Seq.{take-suc}
 use Rattle.value_core.specs.Items.{Items}
-use Rattle.source_meaning.specs.SourceRun.{source_run}
 use Rattle.py_typed.specs.declared.checked.Checked.{Checked}
 use Rattle.ir_core.specs.declared.code.RType.TheVariants.{Bool}
 use Rattle.ir_core.specs.Effects.{World}
@@ -12,6 +11,8 @@ use Rattle.ir_core.specs.Runs.{first_world, begins, Calm}
 use Rattle.ir_core.proofs.ModeLemmas.{unstuck_is_plain}
 use Rattle.ir_core.proofs.RunLemmas.{ended_is_calm}
 use Rattle.ir_builder_frames.proofs.KindLemmas.{get_behind}
+use Rattle.source_meaning.specs.SourceRun.{source_run}
+use Rattle.ir_builder.specs.Lines.{HasLines}
 use Rattle.ir_builder.specs.Meaning.{module_stop, DoesAsModule}
 use Rattle.ir_builder.proofs.CallLemmas.{IsThere, calls_work}
 use Rattle.ir_builder.proofs.ArgumentLemmas.{map_length}
@@ -65,6 +66,12 @@ module _ (m : TypedModule) where
   names_same (f ∷ fs) [] all = absurd all
   names_same (f ∷ fs) (h ∷ hs) all = ap (λ x. x ∷ map (λ (z : Func). z.name) hs) all.0.name ∙ ap (λ l. f.name ∷ l) (names_same fs hs all.1)
 
+  as_many : (fs : List TypedFunc) (hs : List Func) → AllBuilt m fs hs → length fs ≡ length hs
+  as_many [] [] all = refl
+  as_many [] (h ∷ hs) all = absurd all
+  as_many (f ∷ fs) [] all = absurd all
+  as_many (f ∷ fs) (h ∷ hs) all = ap suc (as_many fs hs all.1)
+
 last_at : (hs : List Func) (own : Func) → slice_get (hs ++ own ∷ []) (length hs) ≡ Some own
 last_at [] own = refl
 last_at (h ∷ hs) own = last_at hs own
@@ -100,6 +107,12 @@ module _ (m : TypedModule) (p : Program) (b : IsBuiltOf m p) (suits : ModuleSuit
 
   own_at : slice_get p.funcs (length b.functions) ≡ Some b.own
   own_at = ap (λ fs. slice_get fs (length b.functions)) b.are ∙ last_at b.functions b.own
+
+  pub has_lines : HasLines m p
+  has_lines = record {
+    functions = λ n f e. let k = built_at m m.funcs b.functions b.own n f b.each e in record { code = k.0; there = ap (λ fs. slice_get fs n) b.are ∙ k.1; lined = k.2.lined };
+    own = record { code = b.own; there = ap (slice_get p.funcs) (as_many m m.funcs b.functions b.each) ∙ own_at; lined = b.own_built.lined };
+  }
 
   -- behind no operation that may fail stands a test of its result
   edges_at : (fn : ℕ) (o : Option Func) → slice_get p.funcs fn ≡ o → NoEdges p fn

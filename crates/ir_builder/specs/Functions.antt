@@ -19,6 +19,7 @@ use Rattle.ir_builder_frames.specs.Settings.{variable_registers}
 use Rattle.ir_builder_frames.specs.Kinds.{FunctionType, head_of}
 use Rattle.ir_builder_frames.specs.Matching.{HaveKinds, HaveTypes, parameter_sorts, HasHead, CallGives, CallRaises, CallsWork}
 use Rattle.ir_builder_shapes_laws.specs.Built.{IsFunction, IsOwn}
+use Rattle.ir_builder.specs.Lines.{setting_in, LinedFunction}
 
 -- what a function gives at the end of its code. One whose result is not None does not come there
 abbrev pub end_literal : RType → Lit
@@ -43,6 +44,7 @@ pub record IsFunctionOf (m : TypedModule) (f : TypedFunc) (h : Func) : Type 0 wh
   pub head : HasHead h f
   pub built : IsFunction (heads_of m) (variable_registers m.globals) h
   pub works : (p : Program) (fn : ℕ) → slice_get p.funcs fn ≡ Some h → FunctionWorks p m f fn h
+  pub lined : LinedFunction (setting_in m f.params f.locals) f.body h
 
 -- where calls work and the module's variables have their types, the code of a module's own statements does what they mean
 abbrev pub OwnWorks : Program → TypedModule → ℕ → Func → Type 0
@@ -52,6 +54,7 @@ OwnWorks p m fn h =
 pub record IsOwnOf (m : TypedModule) (h : Func) : Type 0 where
   pub built : IsOwn (heads_of m) (variable_registers m.globals) h
   pub works : (p : Program) (fn : ℕ) → slice_get p.funcs fn ≡ Some h → OwnWorks p m fn h
+  pub lined : LinedFunction (setting_in m 0 []) m.top h
 
 -- each function has its code, in order
 abbrev pub AllBuilt : TypedModule → List TypedFunc → List Func → Type 0

@@ -1,5 +1,5 @@
 //! The code of a function's body.
-ghost use Rattle.std.specs.Prelude.{◌≡◌, ◌≤◌, ◌<◌, ◌^◌, map, length, OnOk, false};
+ghost use Rattle.std.specs.Prelude.{◌≡◌, ℕ, ◌≤◌, ◌<◌, ◌^◌, [], ◌∷◌, map, length, OnOk, false};
 ghost use Rattle.std.specs.Option.{option_map, option_copied};
 ghost use Rattle.py_typed.specs.Sorts.{sort};
 ghost use Rattle.py_typed.specs.Statements.{typed_module, typed_suite, variable};
@@ -7,10 +7,13 @@ ghost use Rattle.ir_builder_frames.specs.Settings.{setting};
 ghost use Rattle.ir_builder_frames.specs.Matching.{HasRoom};
 ghost use Rattle.ir_builder_frames.specs.Shaped.{KeepsIf};
 ghost use Rattle.ir_builder_frames.specs.Kinds.{KeepsKinds, KeepsKindsIf};
+ghost use Rattle.ir_builder_frames.specs.Lines.{OwnLines};
 ghost use Rattle.ir_builder_loops_and_jumps.specs.Means.{means_suite};
 ghost use Rattle.ir_builder_statements.specs.Suiting.{SuiteSuits};
+ghost use Rattle.ir_builder_statements.specs.Lined.{body as body_piece, LinedPieces};
 ghost use Rattle.ir_builder.specs.Bodies.{Filled, Bodied, BodyAround, CompletesShape, body_frame};
 
+use ir_builder_expressions::Site;
 use ir_builder_frames::{Emitter, Frame, Vars};
 use ir_builder_statements::emit_block;
 use ir_core::{Last, Lit, RType};
@@ -38,6 +41,7 @@ pub fn emit_body(
     ensures bodied { OnOk result (Bodied (setting checked.now locals.now (body_frame vars)) (option_map sort (option_copied gives.entry)) t last (means_suite (setting checked.now locals.now (body_frame vars)) (typed_suite body.now)) b.old b.new) }
     ensures shaped { OnOk result (CompletesShape b.old b.new) }
     ensures kinds { OnOk result (KeepsKindsIf (BodyAround (typed_module checked.now) (option_map sort (option_copied gives.entry)) t last) b.old b.new) }
+    ensures lined { OnOk result (LinedPieces (setting checked.now locals.now (body_frame vars)) 0 (body_piece (typed_suite body.now) ∷ []) b.old b.new) }
     ensures few { OnOk result (length b.new.blocks < 2 ^ 64) }
 {
     let start = b.here();
@@ -45,10 +49,15 @@ pub fn emit_body(
         locals: vars,
         ret: None,
     };
+    let site = Site {
+        alloc,
+        checked,
+        locals,
+        frame,
+        line: NO_LINE,
+    };
     let mut exits = Vec::new(alloc);
-    emit_block(
-        b, alloc, checked, locals, frame, gives, false, body, &mut exits,
-    )?;
+    emit_block(b, site, gives, false, body, &mut exits)?;
     let r = b.literal(t, last, NO_LINE)?;
     let end = b.close(Last::Return(r))?;
     fill(b, start, end);
@@ -64,6 +73,7 @@ fn fill(b: &mut Emitter, from: usize, to: usize)
     ensures filled { Filled b.old b.new from to to }
     ensures shaped { KeepsIf (λ n m. to ≤ m) b.old b.new }
     ensures kinds { KeepsKinds b.old b.new }
+    ensures lined { (l : ℕ) → OwnLines l b.old b.new }
 {
     for k in from..to {
         if b.is_open(k) {

@@ -6,6 +6,7 @@ ghost use Rattle.ir_core.specs.Shape.{Shape};
 ghost use Rattle.ir_builder_frames.specs.Placing.{NoEdges};
 ghost use Rattle.ir_builder_statements.specs.Modules.{ModuleSuits};
 ghost use Rattle.ir_builder.specs.Functions.{AllBuilt, IsBuiltOf};
+ghost use Rattle.ir_builder.specs.Lines.{HasLines};
 ghost use Rattle.ir_builder.specs.Meaning.{DoesAsModule, globals_of};
 
 use crate::functions::{build_function, build_own};
@@ -15,7 +16,7 @@ use py_typed::Checked;
 use std::alloc::Global;
 use value_core::{Many, Memory};
 
-/// The intermediate code of a module. Behind no operation that may fail stands a test of its result: `error_edges` puts such tests
+/// The intermediate code of a module. Each operation has the line of the expression or of the statement whose own it is. Behind no operation that may fail stands a test of its result: `error_edges` puts such tests
 /// in. Want of memory is the only other answer.
 pub fn build(alloc: Global, checked: &Checked) -> Result<Program, Memory>
     requires { ModuleSuits (typed_module checked.now) }
@@ -23,6 +24,7 @@ pub fn build(alloc: Global, checked: &Checked) -> Result<Program, Memory>
     ensures calm { IfOk result Calm }
     ensures shape { IfOk result Shape }
     ensures edges { IfOk result (λ p. (fn : ℕ) → NoEdges p fn) }
+    ensures lined { IfOk result (HasLines (typed_module checked.now)) }
     ensures globals { IfOk result (λ p. p.globals ≡ globals_of (typed_module checked.now)) }
 {
     build_all(alloc, checked)

@@ -1,15 +1,6 @@
 -- The calls that build a choice.
-use Rattle.std.proofs.Common.{◌≡◌, ◌≢◌, sym, ◌∙◌, ap, ℕ, ◌+◌, ◌<◌, arith, length, Some}
-use Rattle.ir_core.specs.declared.code.RType.{RType}
-use Rattle.ir_core.specs.declared.code.Op.TheVariants.{Move}
-use Rattle.ir_core.specs.declared.code.Last.TheVariants.{Goto, If, Unreachable}
-use Rattle.ir_core.specs.Items.{End}
-use Rattle.ir_core.specs.Building.{Building, with_last, held}
-use Rattle.ir_core.specs.Meaning.{item_at}
-use Rattle.ir_builder_frames.specs.Calling.{Declares, Pushes, Closes, Open}
-use Rattle.ir_builder_frames.proofs.HeldLemmas.{extends_trans, has_less, does_at, type_kept, type_same}
+use Rattle.ir_builder_choices.proofs.Common.{◌≡◌, ◌≢◌, sym, ◌∙◌, ap, ℕ, ◌+◌, ◌<◌, arith, length, Some, RType, Move, Goto, If, Unreachable, End, Building, with_last, held, item_at, Declares, Pushes, Closes, Open, extends_trans, has_less, does_at, type_kept, type_same, Opens, Brings, Meets}
 use Rattle.ir_builder_frames.proofs.PatchLemmas.{patches}
-use Rattle.ir_builder_choices.specs.Choices.{Opens, Brings, Meets}
 
 pub opens_by : (a b c : Building) (target test first : ℕ) (t : RType) → Declares a b target t → test ≡ length b.blocks → Closes b c Unreachable → first ≡ length c.blocks → Opens a c target test first t
 opens_by a b c target test first t d number e here = record {

@@ -1,34 +1,26 @@
 -- A choice does what it means: the value is tested, and the arm that is taken comes to where both meet.
-use Rattle.std.proofs.Common.{◌≡◌, refl, sym, ◌∙◌, ap, subst, ℕ, ◌+◌, ◌<◌, ◌≤◌, arith, le_refl, Bool, true, false, List, length, Option, Some, None}
+use Rattle.ir_builder_choices.proofs.Common.{◌≡◌, refl, sym, ◌∙◌, ap, subst, ℕ, ◌+◌, ◌<◌, ◌≤◌, arith, le_refl, Bool, true, false, List, length, Option, Some, None, RType, Move, Goto, If, Unreachable, Do, End, Building, held, Extends, Waiting, Config, Strict, is_refused, registers_of, item_at, extends_refl, extends_trans, has_less, does_at, type_has, type_kept, type_below, within_part, placed_part, Opens, Brings, Meets}
 use Rattle.std.specs.Prelude.{if◌then◌else◌}
 use Rattle.value_core.specs.Value.{Value, BoolVal}
 use Rattle.py_typed.specs.Sorts.{Sort, Bool as BoolSort}
 use Rattle.source_meaning.specs.State.{State, Outcome, Gives, Raises, Stops, Does, ◌>>=◌, on_to, give}
 use Rattle.source_meaning.specs.Operations.{truth_of}
-use Rattle.ir_core.specs.declared.code.RType.{RType}
 use Rattle.ir_core.specs.declared.code.RType.TheVariants.{Int, I64, Bool as BoolType, Ref}
-use Rattle.ir_core.specs.declared.code.Op.TheVariants.{Move}
-use Rattle.ir_core.specs.declared.code.Last.TheVariants.{Goto, If, Unreachable}
 use Rattle.ir_core.specs.declared.code.Program.{Program}
-use Rattle.ir_core.specs.Items.{Do, End}
 use Rattle.ir_core.specs.Rows.{type_of_reg}
 use Rattle.ir_core.specs.Registers.{Held, Holds, Regs, put, is_unset}
-use Rattle.ir_core.specs.Building.{Building, held, Extends}
-use Rattle.ir_core.specs.Meaning.{Waiting, Config, Strict, is_refused, registers_of, item_at}
 use Rattle.ir_core.proofs.StepLemmas.{put_same, put_other, move_step, goto_step, if_step}
 use Rattle.ir_builder_frames.specs.Settings.{Setting, rtype_of}
 use Rattle.ir_builder_frames.specs.Placing.{HasType, or_other, Has, Within, Placed}
 use Rattle.ir_builder_frames.specs.Coming.{world, running, Leads, Ends}
 use Rattle.ir_builder_frames.specs.Matching.{Matches, SameLocals, HasRoom, IsThrown, CallsWork}
 use Rattle.ir_builder_frames.specs.Computing.{Showing, Shows, Meaning, Arrives, Computes, Attempts}
-use Rattle.ir_builder_frames.proofs.HeldLemmas.{extends_refl, extends_trans, has_less, does_at, type_has, type_kept, type_below, within_part, placed_part}
 use Rattle.ir_builder_frames.proofs.ComingLemmas.{leads_step, leads_trans, ends_now, ends_of, ends_from, ends_more, ends_map}
 use Rattle.ir_builder_frames.proofs.MatchLemmas.{same_refl, same_trans, thrown_from, computes_then}
 use Rattle.ir_builder_operations.specs.Operating.{ActsOn}
 use Rattle.ir_builder_operations.specs.Rows.{as_value}
 use Rattle.ir_builder_operations.proofs.ThenLemmas.{attempt_then}
 use Rattle.ir_builder_comparisons.specs.Comparing.{truth_as, FindsTruth}
-use Rattle.ir_builder_choices.specs.Choices.{Opens, Brings, Meets}
 use Rattle.ir_builder_choices.specs.Choosing.{Behind, HasValue, by_truth, ComputesFrom}
 
 not_refused : (t : RType) (h : Held) → is_unset h ≡ false → is_refused Strict t h ≡ false

@@ -1,3 +1,4 @@
 pub mod BuildLemmas
 pub mod OpenLemmas
 pub mod ChoiceLemmas
+pub mod Common

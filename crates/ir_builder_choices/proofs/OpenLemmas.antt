@@ -1,12 +1,5 @@
 -- The blocks of a choice whose ends are still to be written.
-use Rattle.std.proofs.Common.{◌≡◌, ◌∙◌, ap, ℕ, ◌+◌, ◌<◌, ◌≤◌, arith, length}
-use Rattle.ir_core.specs.declared.code.RType.{RType}
-use Rattle.ir_core.specs.declared.code.Last.TheVariants.{Unreachable}
-use Rattle.ir_core.specs.Items.{End}
-use Rattle.ir_core.specs.Building.{Building, held, Extends}
-use Rattle.ir_builder_frames.specs.Calling.{Open}
-use Rattle.ir_builder_frames.proofs.HeldLemmas.{extends_trans}
-use Rattle.ir_builder_choices.specs.Choices.{Opens, Brings}
+use Rattle.ir_builder_choices.proofs.Common.{◌≡◌, ◌∙◌, ap, ℕ, ◌+◌, ◌<◌, ◌≤◌, arith, length, RType, Unreachable, End, Building, held, Extends, Open, extends_trans, Opens, Brings}
 
 pub test_open : (b c d : Building) (target test first : ℕ) (t : RType) → Opens b c target test first t → Extends c d → Open d test
 test_open b c d target test first t opens x = record { place = length b.ops; is = x.items test (length b.ops) (End Unreachable) (ap (λ k. held c k (length b.ops)) opens.test_is ∙ opens.hole) }

@@ -1,9 +1,10 @@
 //! A choice between two values.
-ghost use Rattle.std.specs.Prelude.{◌≡◌, ◌<◌, ◌≤◌, length, IfOk, OnOk, OnErr};
+ghost use Rattle.std.specs.Prelude.{◌≡◌, ◌<◌, ◌≤◌, length, IfOk, OnOk, OnErr, ℕ};
 ghost use Rattle.ir_core.specs.Building.{Extends};
 ghost use Rattle.ir_builder_frames.specs.Calling.{Open};
 ghost use Rattle.ir_builder_frames.specs.Shaped.{Keeps};
 ghost use Rattle.ir_builder_frames.specs.Kinds.{IsOf, AreAlike, KeepsKinds, KeepsKindsIf};
+ghost use Rattle.ir_builder_frames.specs.Lines.{OwnLines};
 ghost use Rattle.ir_builder_choices.specs.Choices.{Opens, Brings, Meets};
 
 use ir_builder_frames::Emitter;
@@ -25,6 +26,7 @@ pub fn begin(b: &mut Emitter, t: RType) -> Result<Choice, Memory>
     ensures opens { IfOk result (λ c. Opens b.old b.new c.target.0 c.test c.first t) }
     ensures shaped { Keeps b.old b.new }
     ensures kinds { KeepsKinds b.old b.new }
+    ensures lined { (l : ℕ) → OwnLines l b.old b.new }
 {
     let target = b.temporary(t)?;
     let test = b.close(Last::Unreachable)?;
@@ -42,6 +44,7 @@ pub fn turn(b: &mut Emitter, choice: Choice, r: Reg, line: usize) -> Result<usiz
     ensures brings { IfOk result (λ k. Brings b.old b.new choice.target.0 r.0 k) }
     ensures shaped { Keeps b.old b.new }
     ensures kinds { KeepsKindsIf (λ g. AreAlike b.old.regs choice.target r) b.old b.new }
+    ensures lined { OwnLines line b.old b.new }
 {
     b.push(Op::Move(choice.target, r), line)?;
     b.close(Last::Unreachable)
@@ -68,6 +71,7 @@ pub fn meet(
     ensures meets { OnOk result (Meets b.old b.new choice.target.0 r.0 condition.0 choice.test choice.first end second) }
     ensures shaped { Keeps b.old b.new }
     ensures kinds { KeepsKindsIf (λ g. AreAlike b.old.regs choice.target r × IsOf b.old.regs condition RType.Bool) b.old b.new }
+    ensures lined { OwnLines line b.old b.new }
 {
     b.push(Op::Move(choice.target, r), line)?;
     let join = b.step_on()?;

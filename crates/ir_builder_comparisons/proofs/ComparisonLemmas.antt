@@ -1,26 +1,11 @@
 -- Comparisons of two values of one type, each by a test.
-use Rattle.std.proofs.Common.{◌≡◌, refl, sym, ◌∙◌, ap, ℕ, Bool, true, false, [], ◌∷◌}
-use Rattle.value_core.specs.Value.{Value, IntVal, BoolVal, StrVal}
+use Rattle.ir_builder_comparisons.proofs.Common.{◌≡◌, refl, sym, ◌∙◌, ap, ℕ, true, false, [], ◌∷◌, Value, IntVal, BoolVal, StrVal, State, Gives, on_to, give, needs, is_equal, are_alike, Reg, Building, HasKind, Shows, Attempts, Compared, Ints, Natives, Texts, Equal, ActsOn, ActsOnTwo, compared_sort, tested, compares, inverts, of_one, by_int, by_i64, by_text, as_one, attempts_as, attempts_then, is_ordering, ordered, Compares}
+use Rattle.std.proofs.Common.{Bool}
 use Rattle.py_syntax.specs.declared.expression.CmpOp.{CmpOp}
 use Rattle.py_syntax.specs.declared.expression.CmpOp.TheVariants as cmp
 use Rattle.py_typed.specs.Sorts as sort
-use Rattle.source_meaning.specs.State.{State, Gives, on_to, give, needs}
-use Rattle.source_meaning.specs.Operations.{is_equal, are_alike}
 use Rattle.ir_core.specs.declared.code.RType.TheVariants as rtype
-use Rattle.ir_core.specs.declared.code.Reg.{Reg}
-use Rattle.ir_core.specs.Building.{Building}
-use Rattle.ir_builder_frames.specs.Matching.{HasKind}
-use Rattle.ir_builder_frames.specs.Computing.{Shows, Attempts}
 use Rattle.ir_builder_frames.specs.Operands.{ActsOnAll}
-use Rattle.ir_builder_operations.specs.declared.operation.Compared.{Compared}
-use Rattle.ir_builder_operations.specs.declared.operation.Compared.TheVariants.{Ints, Natives, Texts}
-use Rattle.ir_builder_operations.specs.declared.operation.Test.TheVariants.{Equal}
-use Rattle.ir_builder_operations.specs.Operating.{ActsOn, ActsOnTwo}
-use Rattle.ir_builder_operations.specs.Rows.{compared_sort, tested, compares, inverts, of_one}
-use Rattle.ir_builder_operations.proofs.KindLemmas.{by_int, by_i64, by_text}
-use Rattle.ir_builder_operations.proofs.PartLemmas.{as_one}
-use Rattle.ir_builder_operations.proofs.ThenLemmas.{attempts_as, attempts_then}
-use Rattle.ir_builder_comparisons.specs.Comparing.{is_ordering, ordered, Compares}
 
 alike : (c : Compared) (v w : Value) → HasKind (compared_sort c) v → HasKind (compared_sort c) w → are_alike v w ≡ true
 alike Ints v w k l = by_int (λ v. are_alike v w ≡ true) (λ a e. by_int (λ w. are_alike (IntVal a) w ≡ true) (λ b f. refl) w l) v k

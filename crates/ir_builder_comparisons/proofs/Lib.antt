@@ -1,2 +1,3 @@
 pub mod ComparisonLemmas
 pub mod TruthLemmas
+pub mod Common

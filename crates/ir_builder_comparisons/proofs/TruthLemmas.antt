@@ -1,30 +1,12 @@
 -- A register with the truth of a value in another one.
-use Rattle.std.proofs.Common.{◌≡◌, refl, sym, subst, ap, ◌∙◌, ℕ, zero, suc, arith, true, false, List, [], Some, None}
+use Rattle.ir_builder_comparisons.proofs.Common.{◌≡◌, refl, sym, subst, ap, ◌∙◌, ℕ, zero, suc, arith, true, false, List, [], Some, None, Value, IntVal, BoolVal, StrVal, Sort, State, Gives, give, is_equal, Building, rtype_of, HasType, HasKind, Shows, Makes, type_below, Compared, Ints, Natives, Texts, is_written, Acts, ActsOn, ActsOnTwo, compared_sort, compares, by_int, by_i64, by_bool, by_text, made_attempts, stays, attempts_then, ordered, Compares, truth_as, FindsTruth, false_of, compared_of}
 use Rattle.std.proofs.lemmas.Bool.Decides.{nat_tests}
 use Rattle.std.specs.Prelude.{ℤ, pos, negsuc, not}
-use Rattle.value_core.specs.Value.{Value, IntVal, BoolVal, StrVal}
 use Rattle.py_syntax.specs.declared.expression.CmpOp.TheVariants as cmp
 use Rattle.py_typed.specs.Sorts as sort
-use Rattle.py_typed.specs.Sorts.{Sort}
-use Rattle.source_meaning.specs.State.{State, Gives, give}
-use Rattle.source_meaning.specs.Operations.{is_equal}
 use Rattle.ir_core.specs.declared.code.RType.TheVariants as rtype
 use Rattle.ir_core.specs.Registers.{Holds}
-use Rattle.ir_core.specs.Building.{Building}
-use Rattle.ir_builder_frames.specs.Settings.{rtype_of}
-use Rattle.ir_builder_frames.specs.Placing.{HasType}
-use Rattle.ir_builder_frames.specs.Matching.{HasKind}
-use Rattle.ir_builder_frames.specs.Computing.{Shows, Makes}
-use Rattle.ir_builder_frames.proofs.HeldLemmas.{type_below}
-use Rattle.ir_builder_operations.specs.declared.operation.Compared.{Compared}
-use Rattle.ir_builder_operations.specs.declared.operation.Compared.TheVariants.{Ints, Natives, Texts}
-use Rattle.ir_builder_operations.specs.Operating.{is_written, Acts, ActsOn, ActsOnTwo}
-use Rattle.ir_builder_operations.specs.Rows.{compared_sort, compares}
-use Rattle.ir_builder_operations.proofs.KindLemmas.{by_int, by_i64, by_bool, by_text}
-use Rattle.ir_builder_operations.proofs.PartLemmas.{made_attempts, stays}
 use Rattle.ir_builder_operations.proofs.TextLemmas.{filled_is}
-use Rattle.ir_builder_operations.proofs.ThenLemmas.{attempts_then}
-use Rattle.ir_builder_comparisons.specs.Comparing.{ordered, Compares, truth_as, FindsTruth, false_of, compared_of}
 
 -- ---- what differs from the value that is false is true
 

@@ -9,6 +9,7 @@ ghost use Rattle.ir_builder_frames.specs.Placing.{HasType};
 ghost use Rattle.ir_builder_frames.specs.Settings.{rtype_of};
 ghost use Rattle.ir_builder_frames.specs.Shaped.{Keeps};
 ghost use Rattle.ir_builder_frames.specs.Kinds.{KeepsKinds};
+ghost use Rattle.ir_builder_frames.specs.Lines.{OwnLines};
 ghost use Rattle.ir_builder_operations.specs.Operating.{is_written};
 ghost use Rattle.ir_builder_operations.specs.Rows.{compared_sort, tested};
 ghost use Rattle.ir_builder_comparisons.specs.Comparing.{Compares, FindsTruth, is_ordering, ordered, compared_of, false_of};
@@ -39,6 +40,7 @@ fn emit_test(
     ensures made { IfOk result (λ r. Compares compared (tested test) b.old b.new r.0 x.0 y.0) }
     ensures shaped { Keeps b.old b.new }
     ensures kinds { KeepsKinds b.old b.new }
+    ensures lined { OwnLines line b.old b.new }
 {
     let operation = Operation::Comparison(compared, test);
     emit_operation(b, alloc, operation, &[x, y], line)
@@ -59,6 +61,7 @@ fn emit_difference(
     ensures made { IfOk result (λ r. Compares compared (ordered Ne) b.old b.new r.0 x.0 y.0) }
     ensures shaped { Keeps b.old b.new }
     ensures kinds { KeepsKinds b.old b.new }
+    ensures lined { OwnLines line b.old b.new }
 {
     let same = emit_test(b, alloc, compared, Test::Equal, x, y, line)?;
     emit_operation(b, alloc, Operation::Inversion, &[same], line)
@@ -82,6 +85,7 @@ pub fn emit_comparison(
     ensures made { IfOk result (λ r. Compares compared (ordered op) b.old b.new r.0 x.0 y.0) }
     ensures shaped { Keeps b.old b.new }
     ensures kinds { KeepsKinds b.old b.new }
+    ensures lined { OwnLines line b.old b.new }
 {
     match op {
         CmpOp::Ne => emit_difference(b, alloc, compared, x, y, line),
@@ -104,6 +108,7 @@ fn emit_false(
     ensures made { IfOk result (λ r. Makes b.old b.new r.0 (rtype_of (compared_sort compared)) (λ regs h. h ≡ Holds (false_of compared))) }
     ensures shaped { Keeps b.old b.new }
     ensures kinds { KeepsKinds b.old b.new }
+    ensures lined { OwnLines line b.old b.new }
 {
     match compared {
         Compared::Ints => emit_int(b, alloc, 0, line),
@@ -125,6 +130,7 @@ fn emit_compared_truth(
     ensures found { IfOk result (λ c. FindsTruth b.old b.new x.0 c.0 (compared_sort compared)) }
     ensures shaped { Keeps b.old b.new }
     ensures kinds { KeepsKinds b.old b.new }
+    ensures lined { OwnLines line b.old b.new }
 {
     let none = emit_false(b, alloc, compared, line)?;
     emit_difference(b, alloc, compared, x, none, line)
@@ -157,6 +163,7 @@ pub fn emit_truth(
     ensures found { IfOk result (λ c. FindsTruth b.old b.new x.0 c.0 (sort t.now)) }
     ensures shaped { Keeps b.old b.new }
     ensures kinds { KeepsKinds b.old b.new }
+    ensures lined { OwnLines line b.old b.new }
 {
     match compared_by(t) {
         Some(compared) => emit_compared_truth(b, alloc, compared, x, line),

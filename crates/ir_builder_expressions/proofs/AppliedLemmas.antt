@@ -1,21 +1,6 @@
 -- An expression that is an operation on parts: what it asks of them, what its code does, and what it weighs.
-use Rattle.std.proofs.Common.{◌≡◌, refl, sym, ◌∙◌, ap, subst, ℕ, ◌+◌, true, List, Option, Some, None}
-use Rattle.std.specs.Prelude.{is_some}
-use Rattle.py_syntax.specs.declared.token.Span.{Span}
-use Rattle.py_typed.specs.declared.expression.TExpr.{TExpr}
-use Rattle.py_typed.specs.Sorts.{Sort, sort as sort_of}
-use Rattle.py_typed.specs.Expressions.{TypedNode, typed, type_of, typed_expr, Neg, Not, Truth, Arith, Concat, At, Len, ToStr, Coerce}
-use Rattle.py_typed.specs.Statements.{TypedModule, Variable}
-use Rattle.py_typed.proofs.ExpressionLemmas.{typed_expr_of, type_at}
-use Rattle.ir_core.specs.Building.{Building}
-use Rattle.ir_builder_frames.specs.Settings.{Setting}
-use Rattle.ir_builder_expressions.specs.declared.applying.Unary.{Unary}
-use Rattle.ir_builder_expressions.specs.declared.applying.Unary.TheVariants.{Negated, Inverted, Tested, Counted, Written, Coerced}
-use Rattle.ir_builder_expressions.specs.declared.applying.Binary.{Binary}
-use Rattle.ir_builder_expressions.specs.declared.applying.Binary.TheVariants.{Arithmetic, Joined, Indexed}
-use Rattle.ir_builder_expressions.specs.Applying.{UnarySuits, BinarySuits, Applied, one, two, applied_in, node_in}
-use Rattle.ir_builder_expressions.specs.Suiting.{Suits, NodeSuits}
-use Rattle.ir_builder_expressions.specs.Emitting.{Emits, EmitsOne, EmitsTwo}
+use Rattle.ir_builder_expressions.proofs.Common.{◌≡◌, refl, sym, ◌∙◌, ap, subst, ℕ, ◌+◌, true, List, Option, Some, None, is_some, Span, TExpr, Sort, TypedNode, typed, type_of, typed_expr, Neg, Not, Truth, Arith, Concat, At, Len, ToStr, Coerce, TypedModule, Variable, typed_expr_of, type_at, Building, Setting, Unary, Negated, Inverted, Tested, Counted, Written, Coerced, Binary, Arithmetic, Joined, Indexed, UnarySuits, BinarySuits, Applied, one, two, applied_in, node_in, Suits, NodeSuits, Emits, EmitsOne, EmitsTwo}
+use Rattle.py_typed.specs.Sorts.{sort as sort_of}
 use Rattle.ir_builder_expressions.proofs.ArmLemmas.{Is, asked, emits_as}
 use Rattle.ir_builder_expressions.proofs.PieceLemmas.{item_emits}
 use Rattle.ir_builder_expressions.proofs.WeightLemmas.{weight, node_weight, weight_of}

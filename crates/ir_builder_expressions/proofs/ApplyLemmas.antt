@@ -1,33 +1,10 @@
 -- An operation on one or two parts does with their values what it is to do, whichever it is.
-use Rattle.std.proofs.Common.{◌≡◌, refl, sym, ap, ◌∙◌, subst, ℕ, true, false, [], ◌∷◌, Option, None}
-use Rattle.std.specs.Prelude.{ℤ}
-use Rattle.value_core.specs.Value.{Value, StrVal}
-use Rattle.py_syntax.specs.declared.expression.BinOp.{BinOp}
-use Rattle.py_typed.specs.declared.expression.TExpr.{TExpr}
+use Rattle.ir_builder_expressions.proofs.Common.{◌≡◌, refl, sym, ap, ◌∙◌, subst, ℕ, true, false, [], ◌∷◌, Option, None, ℤ, Value, StrVal, BinOp, TExpr, Sort, typed_expr, type_of, give, needs, coerced, arithmetic, negated, joined, letter, length_of, has_text, text_of, type_at, Building, rtype_of, HasKind, Shows, Attempts, ActsOnAll, ActsOn, ActsOnTwo, by_int, by_i64, by_bool, by_text, of_one, of_two, inverts, attempts_as, as_one, as_two, Unary, Binary, is_scalar, native_in, sort_by, part_sort, is_i64, literal_in, unary_goes, binary_goes, UnarySuits, BinarySuits, FindsTruth}
 use Rattle.py_typed.specs.Sorts as sort
-use Rattle.py_typed.specs.Sorts.{Sort, sort as sort_of}
-use Rattle.py_typed.specs.Expressions.{typed_expr, type_of}
-use Rattle.source_meaning.specs.State.{give, needs}
-use Rattle.source_meaning.specs.Operations.{coerced, arithmetic, negated, joined, letter, length_of, has_text, text_of}
-use Rattle.py_typed.proofs.ExpressionLemmas.{type_at}
+use Rattle.py_typed.specs.Sorts.{sort as sort_of}
 use Rattle.ir_core.specs.declared.code.RType.TheVariants as rtype
-use Rattle.ir_core.specs.Building.{Building}
-use Rattle.ir_builder_frames.specs.Settings.{rtype_of}
-use Rattle.ir_builder_frames.specs.Matching.{HasKind}
-use Rattle.ir_builder_frames.specs.Computing.{Shows, Attempts}
-use Rattle.ir_builder_frames.specs.Operands.{ActsOnAll}
-use Rattle.ir_builder_operations.specs.Operating.{ActsOn, ActsOnTwo}
-use Rattle.ir_builder_operations.proofs.KindLemmas.{by_int, by_i64, by_bool, by_text}
-use Rattle.ir_builder_operations.specs.Rows.{of_one, of_two, inverts}
-use Rattle.ir_builder_operations.proofs.ThenLemmas.{attempts_as}
-use Rattle.ir_builder_operations.proofs.PartLemmas.{as_one, as_two}
-use Rattle.ir_builder_expressions.specs.declared.applying.Unary.{Unary}
 use Rattle.ir_builder_expressions.specs.declared.applying.Unary.TheVariants as unary
-use Rattle.ir_builder_expressions.specs.declared.applying.Binary.{Binary}
 use Rattle.ir_builder_expressions.specs.declared.applying.Binary.TheVariants as binary
-use Rattle.ir_builder_expressions.specs.Parts.{is_scalar, native_in, sort_by, part_sort, is_i64, literal_in}
-use Rattle.ir_builder_expressions.specs.Applying.{unary_goes, binary_goes, UnarySuits, BinarySuits}
-use Rattle.ir_builder_comparisons.specs.Comparing.{FindsTruth}
 
 -- ---- the type of a part
 

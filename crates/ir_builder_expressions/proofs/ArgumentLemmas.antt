@@ -1,28 +1,7 @@
 -- Arguments one after another.
-use Rattle.std.proofs.Common.{◌≡◌, refl, sym, ◌∙◌, ap, subst, ℕ, ◌+◌, ◌<◌, ◌≤◌, arith, le_refl, List, [], ◌∷◌, ◌++◌, length, map, Some, take, drop, get_or, add-one}
+use Rattle.ir_builder_expressions.proofs.Common.{◌≡◌, refl, sym, ◌∙◌, ap, subst, ℕ, ◌+◌, ◌<◌, ◌≤◌, arith, le_refl, List, [], ◌∷◌, ◌++◌, length, map, Some, take, drop, get_or, add-one, drop_more, take_all, map_push, Value, TExpr, Sort, TypedModule, Variable, TypedExpr, type_of, exprs_of, typed_expr, State, Gives, on_to, Reg, Declared, type_of_reg, Regs, Building, Extends, Setting, rtype_of, HasRoom, IsThrown, means, Shows, ShowAll, HaveTypes, ArrivesAll, ComputesAll, extends_refl, extends_trans, type_kept, placed_part, ends_now, ends_of, on_assoc, room_on, same_refl, same_trans, computes_then, computes_all_then, Suits, ArgumentsSuit, SomeSuit, means_all, Emits, EmitsAll, Walks, show_kept}
 use Rattle.std.proofs.Math.Seq.{take-suc}
-use Rattle.std.proofs.lemmas.List.{drop_more, take_all, map_push}
-use Rattle.value_core.specs.Value.{Value}
-use Rattle.py_typed.specs.declared.expression.TExpr.{TExpr}
-use Rattle.py_typed.specs.Sorts.{Sort}
-use Rattle.py_typed.specs.Statements.{TypedModule, Variable}
-use Rattle.py_typed.specs.Expressions.{TypedExpr, type_of, exprs_of, typed_expr}
-use Rattle.source_meaning.specs.State.{State, Gives, on_to}
-use Rattle.ir_core.specs.declared.code.Reg.{Reg}
-use Rattle.ir_core.specs.Rows.{Declared, type_of_reg}
-use Rattle.ir_core.specs.Registers.{Regs}
-use Rattle.ir_core.specs.Building.{Building, Extends}
-use Rattle.ir_builder_frames.specs.Settings.{Setting, rtype_of}
-use Rattle.ir_builder_frames.specs.Matching.{HasRoom, IsThrown}
-use Rattle.ir_builder_frames.specs.Computing.{means, Shows, ShowAll, HaveTypes, ArrivesAll, ComputesAll}
-use Rattle.ir_builder_frames.proofs.HeldLemmas.{extends_refl, extends_trans, type_kept, placed_part}
-use Rattle.ir_builder_frames.proofs.ComingLemmas.{ends_now, ends_of, on_assoc}
-use Rattle.ir_builder_frames.proofs.MatchLemmas.{room_on, same_refl, same_trans, computes_then, computes_all_then}
-use Rattle.ir_builder_expressions.specs.Suiting.{Suits, ArgumentsSuit, SomeSuit}
-use Rattle.ir_builder_expressions.specs.Emitting.{means_all, Emits, EmitsAll}
-use Rattle.ir_builder_expressions.specs.Walking.{Walks}
 use Rattle.ir_builder_expressions.proofs.WalkingLemmas.{walks_refl, walks_trans}
-use Rattle.ir_builder_operations.proofs.PartLemmas.{show_kept}
 
 snoc_means : (x : Setting) (n : ℕ) (es : List TypedExpr) (e : TypedExpr) (s : State) → means_all x (exprs_of (es ++ e ∷ [])) n s ≡ on_to (means_all x (exprs_of es) n s) (λ vs s1. on_to (means x e n s1) (λ v s2. Gives (vs ++ v ∷ []) s2))
 snoc_means x n [] e s = refl

@@ -1,23 +1,8 @@
 -- What is asked of an expression is asked of its parts, and what its parts promise it promises.
-use Rattle.std.proofs.Common.{◌≡◌, sym, ◌∙◌, ap, subst, ℕ, Bool, List, map, Some, None}
-use Rattle.std.specs.Prelude.{ℤ}
-use Rattle.std.specs.declared.boxed.Box.{Box}
-use Rattle.std.specs.declared.alloc.Global.{Global}
-use Rattle.py_syntax.specs.declared.expression.CmpOp.{CmpOp}
-use Rattle.py_typed.specs.declared.expression.TExpr.{TExpr}
+use Rattle.ir_builder_expressions.proofs.Common.{◌≡◌, sym, ◌∙◌, ap, subst, ℕ, Bool, List, map, Some, None, ℤ, Box, Global, CmpOp, TExpr, TKind, Sort, TypedExpr, TypedNode, typed, typed_expr, typed_node, exprs_of, comparisons_of, typed_comparison, TypedModule, Variable, typed_expr_of, typed_node-Bool, typed_node-Local, typed_node-Global, typed_expr-Compare, typed_node-And, typed_node-Or, typed_node-Cond, typed_node-Call, typed_node-Int, typed_node-Str, typed_node-Input, Building, Setting, Suits, NodeSuits, is_scalar, ChoiceSuits, Emits}
 use Rattle.py_typed.specs.declared.expression.TKind as kind
-use Rattle.py_typed.specs.declared.expression.TKind.{TKind}
-use Rattle.py_typed.specs.Sorts.{Sort, sort as sort_of}
+use Rattle.py_typed.specs.Sorts.{sort as sort_of}
 use Rattle.py_typed.specs.Expressions as tree
-use Rattle.py_typed.specs.Expressions.{TypedExpr, TypedNode, typed, typed_expr, typed_node, exprs_of, comparisons_of, typed_comparison}
-use Rattle.py_typed.specs.Statements.{TypedModule, Variable}
-use Rattle.py_typed.proofs.ExpressionLemmas.{typed_expr_of, typed_node-Bool, typed_node-Local, typed_node-Global, typed_expr-Compare, typed_node-And, typed_node-Or, typed_node-Cond, typed_node-Call, typed_node-Int, typed_node-Str, typed_node-Input}
-use Rattle.ir_core.specs.Building.{Building}
-use Rattle.ir_builder_frames.specs.Settings.{Setting}
-use Rattle.ir_builder_expressions.specs.Suiting.{Suits, NodeSuits}
-use Rattle.ir_builder_expressions.specs.Parts.{is_scalar}
-use Rattle.ir_builder_expressions.specs.Arms.{ChoiceSuits}
-use Rattle.ir_builder_expressions.specs.Emitting.{Emits}
 
 abbrev Part : Type 0
 Part = Box TExpr Global

@@ -1,39 +1,11 @@
 -- Calls, and their arguments from the left.
-use Rattle.std.proofs.Common.{◌≡◌, refl, sym, ◌∙◌, ap, subst, ℕ, suc, ◌+◌, ◌<◌, arith, le_refl, true, false, List, [], ◌∷◌, length, map, Option, Some, None}
-use Rattle.std.specs.Prelude.{slice_get, ◌&&◌}
-use Rattle.std.specs.Option.{option_map, option_and_then}
+use Rattle.ir_builder_expressions.proofs.Common.{◌≡◌, refl, sym, ◌∙◌, ap, subst, ℕ, suc, ◌+◌, ◌<◌, arith, le_refl, true, false, List, [], ◌∷◌, length, map, Option, Some, None, slice_get, ◌&&◌, option_map, option_and_then, Value, Span, Sort, TypedFunc, typed, Call, TypedExprs, State, RType, I64, Ref, Reg, Program, Declared, type_of_reg, Held, Holds, error_of, is_error, Regs, put, first_regs, Building, Waiting, Leaves, Strict, read_all, is_type, are_types, is_fit, is_tested, away, registers_of, item_at, handler_at, step, put_same, put_other, call_step, Setting, rtype_of, Has, Adds, world, running, returning, HasRoom, IsThrown, parameter_sorts, BeginWith, HasHead, Shows, Arrives, ShowAll, HaveTypes, extends_refl, extends_trans, type_has, has_less, adds_has, placed_part, guard_at, leads_refl, leads_step, ends_both, ends_from, read_is, room_on, same_trans, match_kept, thrown_now, computes_all_then, failed_off, kinds_shown, means_all, Emits, EmitsAll}
 use Rattle.std.proofs.lemmas.Bool.{eq-eqb}
 use Rattle.value_core.specs.Exceptions.{Thrown}
-use Rattle.value_core.specs.Value.{Value}
-use Rattle.py_syntax.specs.declared.token.Span.{Span}
-use Rattle.py_typed.specs.Sorts.{Sort}
-use Rattle.py_typed.specs.Statements.{TypedFunc}
-use Rattle.py_typed.specs.Expressions.{typed, Call, TypedExprs}
-use Rattle.source_meaning.specs.State.{State}
 use Rattle.source_meaning.specs.SourceRun.{call_of}
-use Rattle.ir_core.specs.declared.code.RType.{RType}
-use Rattle.ir_core.specs.declared.code.RType.TheVariants.{Int, I64, Bool as BoolType, Ref}
-use Rattle.ir_core.specs.declared.code.Reg.{Reg}
+use Rattle.ir_core.specs.declared.code.RType.TheVariants.{Int, Bool as BoolType}
 use Rattle.ir_core.specs.declared.code.Op.TheVariants as op
 use Rattle.ir_core.specs.declared.code.Func.{Func}
-use Rattle.ir_core.specs.declared.code.Program.{Program}
-use Rattle.ir_core.specs.Rows.{Declared, type_of_reg}
-use Rattle.ir_core.specs.Registers.{Held, Holds, error_of, is_error, Regs, put, first_regs}
-use Rattle.ir_core.specs.Building.{Building}
-use Rattle.ir_core.specs.Meaning.{Waiting, Leaves, Strict, read_all, is_type, are_types, is_fit, is_tested, away, registers_of, item_at, handler_at, step}
-use Rattle.ir_core.proofs.StepLemmas.{put_same, put_other, call_step}
-use Rattle.ir_builder_frames.specs.Settings.{Setting, rtype_of}
-use Rattle.ir_builder_frames.specs.Placing.{Has}
-use Rattle.ir_builder_frames.specs.Calling.{Adds}
-use Rattle.ir_builder_frames.specs.Coming.{world, running, returning}
-use Rattle.ir_builder_frames.specs.Matching.{HasRoom, IsThrown, parameter_sorts, BeginWith, HasHead}
-use Rattle.ir_builder_frames.specs.Computing.{Shows, Arrives, ShowAll, HaveTypes}
-use Rattle.ir_builder_frames.proofs.HeldLemmas.{extends_refl, extends_trans, type_has, has_less, adds_has, placed_part, guard_at}
-use Rattle.ir_builder_frames.proofs.ComingLemmas.{leads_refl, leads_step, ends_both, ends_from}
-use Rattle.ir_builder_frames.proofs.StepLemmas.{read_is}
-use Rattle.ir_builder_frames.proofs.MatchLemmas.{room_on, same_trans, match_kept, thrown_now, computes_all_then}
-use Rattle.ir_builder_frames.proofs.AttemptLemmas.{failed_off, kinds_shown}
-use Rattle.ir_builder_expressions.specs.Emitting.{means_all, Emits, EmitsAll}
 
 -- ---- what a call needs
 

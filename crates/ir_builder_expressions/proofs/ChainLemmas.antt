@@ -1,34 +1,7 @@
 -- The comparisons of a chain, from the left, up to the first that does not hold.
-use Rattle.std.proofs.Common.{◌≡◌, refl, ◌∙◌, ap, ℕ, Bool, true, false, length}
-use Rattle.std.specs.Prelude.{if◌then◌else◌}
-use Rattle.value_core.specs.Value.{Value, BoolVal}
-use Rattle.py_syntax.specs.declared.token.Span.{Span}
-use Rattle.py_syntax.specs.declared.expression.CmpOp.{CmpOp}
+use Rattle.ir_builder_expressions.proofs.Common.{◌≡◌, refl, ◌∙◌, ap, ℕ, Bool, true, false, length, if◌then◌else◌, Value, BoolVal, Span, CmpOp, Sort, TypedExpr, typed, type_of, Compare, Comparisons, no_comparisons, comparison_then, State, Gives, ◌>>=◌, give, holds, Lit, Holds, Building, Setting, rtype_of, HasType, Adds, HasRoom, IsThrown, means, Shows, Meaning, Arrives, Computes, Attempts, extends_refl, extends_trans, type_kept, ends_now, ends_of, literal_makes, room_on, same_refl, made_computes, ActsOnTwo, holds_as, literal_of_truth, means_chain, Emits, EmitsChain, Opens, Brings, Meets, Behind, HasValue, ComputesFrom, Told, any_from, value_from, from_by, value_stays, Beside, part_from, computes_behind, truth_from, choice_by}
 use Rattle.py_typed.specs.Sorts as sort
-use Rattle.py_typed.specs.Sorts.{Sort}
-use Rattle.py_typed.specs.Expressions.{TypedExpr, typed, type_of, Compare, Comparisons, no_comparisons, comparison_then}
-use Rattle.source_meaning.specs.State.{State, Gives, ◌>>=◌, give}
-use Rattle.source_meaning.specs.Operations.{holds}
 use Rattle.ir_core.specs.declared.code.RType.TheVariants as rtype
-use Rattle.ir_core.specs.declared.code.Op.TheVariants.{Lit}
-use Rattle.ir_core.specs.Registers.{Holds}
-use Rattle.ir_core.specs.Building.{Building}
-use Rattle.ir_builder_frames.specs.Settings.{Setting, rtype_of}
-use Rattle.ir_builder_frames.specs.Placing.{HasType}
-use Rattle.ir_builder_frames.specs.Calling.{Adds}
-use Rattle.ir_builder_frames.specs.Matching.{HasRoom, IsThrown}
-use Rattle.ir_builder_frames.specs.Computing.{means, Shows, Meaning, Arrives, Computes, Attempts}
-use Rattle.ir_builder_frames.proofs.HeldLemmas.{extends_refl, extends_trans, type_kept}
-use Rattle.ir_builder_frames.proofs.ComingLemmas.{ends_now, ends_of}
-use Rattle.ir_builder_frames.proofs.StepLemmas.{literal_makes}
-use Rattle.ir_builder_frames.proofs.MatchLemmas.{room_on, same_refl, made_computes}
-use Rattle.ir_builder_operations.specs.Operating.{ActsOnTwo}
-use Rattle.ir_builder_expressions.specs.Comparing.{holds_as}
-use Rattle.ir_builder_expressions.specs.Literals.{literal_of_truth}
-use Rattle.ir_builder_expressions.specs.Emitting.{means_chain, Emits, EmitsChain}
-use Rattle.ir_builder_choices.specs.Choices.{Opens, Brings, Meets}
-use Rattle.ir_builder_choices.specs.Choosing.{Behind, HasValue, ComputesFrom}
-use Rattle.ir_builder_choices.proofs.ChoiceLemmas.{Told, any_from, value_from, from_by, value_stays, Beside, part_from, computes_behind, truth_from, choice_by}
 
 -- no comparison is left
 pub chain_done : {line : ℕ} (x : Setting) (s u : Sort) (first : ℕ) (b c : Building) (r : ℕ) → Adds b c r rtype.Bool (Lit record { 0 = r } (literal_of_truth true)) line → EmitsChain x s u first no_comparisons b c r

@@ -1,29 +1,7 @@
 -- A choice by the truth of a part is computed by its code.
-use Rattle.std.proofs.Common.{◌≡◌, refl, sym, ◌∙◌, ap, subst, ℕ, true, List, length, Option, Some, None}
-use Rattle.std.specs.Borrow.{Bor}
-use Rattle.py_typed.specs.declared.expression.TExpr.{TExpr}
+use Rattle.ir_builder_expressions.proofs.Common.{◌≡◌, refl, sym, ◌∙◌, ap, subst, ℕ, true, List, length, Option, Some, None, Bor, TExpr, Sort, TypedExpr, type_of, typed_expr, TypedModule, Variable, type_at, RType, Building, Extends, Setting, rtype_of, HasType, HasRoom, extends_trans, type_kept, room_on, is_written, FindsTruth, Opens, Brings, Meets, HasValue, by_truth, ComputesFrom, any_from, value_from, computes_behind, choice_computes, is_scalar, Suits, Emits, means, arm_of, arm_sort, means_arm, ArmSuits, ChoiceSuits, EmitsArm, EmitsChoice}
 use Rattle.py_typed.specs.Sorts as sort
-use Rattle.py_typed.specs.Sorts.{Sort, sort as sort_of}
-use Rattle.py_typed.specs.Expressions.{TypedExpr, type_of, typed_expr}
-use Rattle.py_typed.specs.Statements.{TypedModule, Variable}
-use Rattle.py_typed.proofs.ExpressionLemmas.{type_at}
-use Rattle.ir_core.specs.declared.code.RType.{RType}
-use Rattle.ir_core.specs.Building.{Building, Extends}
-use Rattle.ir_builder_frames.specs.Settings.{Setting, rtype_of}
-use Rattle.ir_builder_frames.specs.Placing.{HasType}
-use Rattle.ir_builder_frames.specs.Matching.{HasRoom}
-use Rattle.ir_builder_frames.proofs.HeldLemmas.{extends_trans, type_kept}
-use Rattle.ir_builder_frames.proofs.MatchLemmas.{room_on}
-use Rattle.ir_builder_operations.specs.Operating.{is_written}
-use Rattle.ir_builder_comparisons.specs.Comparing.{FindsTruth}
-use Rattle.ir_builder_choices.specs.Choices.{Opens, Brings, Meets}
-use Rattle.ir_builder_choices.specs.Choosing.{HasValue, by_truth, ComputesFrom}
-use Rattle.ir_builder_choices.proofs.ChoiceLemmas.{any_from, value_from, computes_behind, choice_computes}
-use Rattle.ir_builder_expressions.specs.Parts.{is_scalar}
-use Rattle.ir_builder_expressions.specs.Suiting.{Suits}
-use Rattle.ir_builder_expressions.specs.Emitting.{Emits}
-use Rattle.ir_builder_frames.specs.Computing.{means}
-use Rattle.ir_builder_expressions.specs.Arms.{arm_of, arm_sort, means_arm, ArmSuits, ChoiceSuits, EmitsArm, EmitsChoice}
+use Rattle.py_typed.specs.Sorts.{sort as sort_of}
 
 -- ---- an arm that is there, and one that is missing
 

@@ -1,17 +1,5 @@
 -- Operations behind the code of parts.
-use Rattle.std.proofs.Common.{refl, ◌∙◌, ℕ, arith, le_refl, length}
-use Rattle.value_core.specs.Value.{Value}
-use Rattle.source_meaning.specs.State.{State, Outcome, Does, on_to}
-use Rattle.ir_core.specs.declared.code.RType.{RType}
-use Rattle.ir_core.specs.Registers.{Regs}
-use Rattle.ir_core.specs.Building.{Building}
-use Rattle.ir_builder_frames.specs.Settings.{Setting}
-use Rattle.ir_builder_frames.specs.Matching.{HasRoom}
-use Rattle.ir_builder_frames.specs.Computing.{Showing, Meaning, Computes, Attempts}
-use Rattle.ir_builder_frames.proofs.HeldLemmas.{extends_refl, extends_trans, placed_part}
-use Rattle.ir_builder_frames.proofs.ComingLemmas.{ends_map}
-use Rattle.ir_builder_frames.proofs.MatchLemmas.{room_on, same_trans, thrown_from, computes_then}
-use Rattle.ir_builder_operations.specs.Operating.{Acts}
+use Rattle.ir_builder_expressions.proofs.Common.{refl, ◌∙◌, ℕ, arith, le_refl, length, Value, State, Outcome, Does, on_to, RType, Regs, Building, Setting, HasRoom, Showing, Meaning, Computes, Attempts, extends_refl, extends_trans, placed_part, ends_map, room_on, same_trans, thrown_from, computes_then, Acts}
 
 -- behind the code of a part
 pub part_attempts : (x : Setting) (K L : Showing) (t u : RType) (m : Meaning Value) (go : Value → Does Value) (from : Regs → State → Outcome Value → Type 0) (b0 b1 b2 : Building) (q r : ℕ) → HasRoom x b0 → Computes x K t m b0 b1 q → Attempts L b1 b2 r u from → ((v : Value) (s : State) (regs : Regs) → K v (regs q) → from regs s (go v s)) → Computes x L u (λ n s. on_to (m n s) go) b0 b2 r

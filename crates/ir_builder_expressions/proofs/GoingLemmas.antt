@@ -1,36 +1,8 @@
 -- A chain of comparisons while it is emitted from the left.
-use Rattle.std.proofs.Common.{◌≡◌, sym, ◌∙◌, ap, subst, ℕ, ◌+◌, ◌-◌, ◌<◌, ◌≤◌, arith, true, List, [], ◌∷◌, ◌++◌, length, map, take, drop, get_or}
-use Rattle.std.proofs.lemmas.List.{drop_more, drop_all, take_all}
-use Rattle.py_syntax.specs.declared.expression.CmpOp.{CmpOp}
-use Rattle.py_typed.specs.declared.expression.TExpr.{TExpr}
+use Rattle.ir_builder_expressions.proofs.Common.{◌≡◌, sym, ◌∙◌, ap, subst, ℕ, ◌+◌, ◌-◌, ◌<◌, ◌≤◌, arith, true, List, [], ◌∷◌, ◌++◌, length, map, take, drop, get_or, drop_more, drop_all, take_all, CmpOp, TExpr, Sort, Comparisons, type_of, typed_expr, comparisons_of, typed_comparison, type_at, Reg, Lit, Building, Extends, Setting, rtype_of, HasType, Adds, HasRoom, Shows, Attempts, Keeps, KeepsKinds, extends_trans, type_kept, room_on, ActsOnTwo, Link, Side, is_ordering, Suits, ComparisonsSuit, literal_of_truth, is_scalar, is_pair, kind_sort, is_shown_as, holds_as, EmitsSide, EmitsChain, Walks, Begins, Linked, Pending, Ended}
 use Rattle.py_typed.specs.Sorts as sort
-use Rattle.py_typed.specs.Sorts.{Sort, sort as sort_of}
-use Rattle.py_typed.specs.Expressions.{Comparisons, type_of, typed_expr, comparisons_of, typed_comparison}
-use Rattle.py_typed.proofs.ExpressionLemmas.{type_at}
+use Rattle.py_typed.specs.Sorts.{sort as sort_of}
 use Rattle.ir_core.specs.declared.code.RType.TheVariants as rtype
-use Rattle.ir_core.specs.declared.code.Reg.{Reg}
-use Rattle.ir_core.specs.declared.code.Op.TheVariants.{Lit}
-use Rattle.ir_core.specs.Building.{Building, Extends}
-use Rattle.ir_builder_frames.specs.Settings.{Setting, rtype_of}
-use Rattle.ir_builder_frames.specs.Placing.{HasType}
-use Rattle.ir_builder_frames.specs.Calling.{Adds}
-use Rattle.ir_builder_frames.specs.Matching.{HasRoom}
-use Rattle.ir_builder_frames.specs.Computing.{Shows, Attempts}
-use Rattle.ir_builder_frames.specs.Shaped.{Keeps}
-use Rattle.ir_builder_frames.specs.Kinds.{KeepsKinds}
-use Rattle.ir_builder_frames.proofs.HeldLemmas.{extends_trans, type_kept}
-use Rattle.ir_builder_frames.proofs.MatchLemmas.{room_on}
-use Rattle.ir_builder_operations.specs.Operating.{ActsOnTwo}
-use Rattle.ir_builder_expressions.specs.declared.chain.Link.{Link}
-use Rattle.ir_builder_expressions.specs.declared.comparing.Side.{Side}
-use Rattle.ir_builder_comparisons.specs.Comparing.{is_ordering}
-use Rattle.ir_builder_expressions.specs.Suiting.{Suits, ComparisonsSuit}
-use Rattle.ir_builder_expressions.specs.Literals.{literal_of_truth}
-use Rattle.ir_builder_expressions.specs.Parts.{is_scalar, is_pair}
-use Rattle.ir_builder_expressions.specs.Comparing.{kind_sort, is_shown_as, holds_as}
-use Rattle.ir_builder_expressions.specs.Emitting.{EmitsSide, EmitsChain}
-use Rattle.ir_builder_expressions.specs.Walking.{Walks}
-use Rattle.ir_builder_expressions.specs.Linking.{Begins, Linked, Pending, Ended}
 use Rattle.ir_builder_expressions.proofs.WalkingLemmas.{walks_trans}
 use Rattle.ir_builder_expressions.proofs.LinkLemmas.{pending_snoc, pending_more, ended_last, keeps_both}
 use Rattle.ir_builder_expressions.proofs.ChainLemmas.{EmitsRest, chain_done, rest_done, rest_more, chain_from}

@@ -18,3 +18,5 @@ pub mod UnsuitedLemmas
 pub mod WeightLemmas
 pub mod AppliedLemmas
 pub mod WalkLemmas
+pub mod Common
+pub mod LinedLemmas

@@ -1,16 +1,6 @@
 -- The choices of a chain: what was begun, and that all are met from the last.
-use Rattle.std.proofs.Common.{◌≡◌, refl, sym, ap, subst, ℕ, zero, suc, ◌≤◌, arith, List, [], ◌∷◌, ◌++◌, length}
-use Rattle.std.specs.Option.{option_map}
-use Rattle.ir_core.specs.declared.code.RType.{RType}
+use Rattle.ir_builder_expressions.proofs.Common.{◌≡◌, refl, sym, ap, subst, ℕ, zero, suc, ◌≤◌, arith, List, [], ◌∷◌, ◌++◌, length, option_map, RType, Reg, Building, Extends, HasType, AreAlike, Keeps, extends_refl, extends_trans, type_kept, type_below, Link, Begins, Pending, Met, Ended}
 use Rattle.ir_core.specs.declared.code.RType.TheVariants as rtype
-use Rattle.ir_core.specs.declared.code.Reg.{Reg}
-use Rattle.ir_core.specs.Building.{Building, Extends}
-use Rattle.ir_builder_frames.specs.Placing.{HasType}
-use Rattle.ir_builder_frames.specs.Kinds.{AreAlike}
-use Rattle.ir_builder_frames.specs.Shaped.{Keeps}
-use Rattle.ir_builder_frames.proofs.HeldLemmas.{extends_refl, extends_trans, type_kept, type_below}
-use Rattle.ir_builder_expressions.specs.declared.chain.Link.{Link}
-use Rattle.ir_builder_expressions.specs.Linking.{Begins, Pending, Met, Ended}
 use Rattle.ir_builder_operations.proofs.TextLemmas.{get_there}
 
 pub pending_extends : (b : Building) (ls : List Link) (c : Building) → Pending b ls c → Extends b c

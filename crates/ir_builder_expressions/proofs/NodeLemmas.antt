@@ -1,32 +1,9 @@
 -- Each kind of expression is computed by its code.
-use Rattle.std.proofs.Common.{◌≡◌, refl, sym, ◌∙◌, ap, subst, ℕ, ◌<◌, arith, Bool, true, false, length, Option, Some, None}
-use Rattle.std.specs.Prelude.{codes, ◌++◌, if◌then◌else◌, slice_get, nat_lt}
-use Rattle.std.proofs.lemmas.Bool.Decides.{nat_tests}
-use Rattle.value_core.specs.declared.exception.ExcClass.TheVariants.{UnboundLocalError}
-use Rattle.value_core.specs.Value.{Value, BoolVal}
-use Rattle.py_syntax.specs.declared.token.Span.{Span}
+use Rattle.ir_builder_expressions.proofs.Common.{◌≡◌, refl, sym, ◌∙◌, ap, subst, ℕ, ◌<◌, arith, Bool, true, false, length, Option, Some, None, codes, if◌then◌else◌, slice_get, nat_lt, nat_tests, UnboundLocalError, Value, BoolVal, Span, Sort, Variable, typed, Flag, Local, value_in, name_at, Gives, raise_new, Lit, Held, Unset, Holds, Regs, Building, Vars, Setting, rtype_of, HasType, Adds, HasKind, flag_of, flag_in, HasRoom, IsThrown, means, Shows, Arrives, extends_refl, ends_now, ends_of, literal_makes, same_refl, made_computes, literal_of_truth, Emits}
+use Rattle.std.specs.Prelude.{◌++◌}
 use Rattle.py_typed.specs.Sorts as sort
-use Rattle.py_typed.specs.Sorts.{Sort}
-use Rattle.py_typed.specs.Statements.{Variable}
-use Rattle.py_typed.specs.Expressions.{typed, Flag, Local}
-use Rattle.source_meaning.specs.ExpressionMeaning.{value_in, name_at}
-use Rattle.source_meaning.specs.State.{Gives, raise_new}
 use Rattle.ir_core.specs.declared.code.RType.TheVariants as rtype
-use Rattle.ir_core.specs.declared.code.Op.TheVariants.{Lit}
-use Rattle.ir_core.specs.Registers.{Held, Unset, Holds, Regs}
-use Rattle.ir_core.specs.Building.{Building}
-use Rattle.ir_builder_frames.specs.declared.frame.Vars.{Vars}
-use Rattle.ir_builder_frames.specs.Settings.{Setting, rtype_of}
-use Rattle.ir_builder_frames.specs.Placing.{HasType}
-use Rattle.ir_builder_frames.specs.Calling.{Adds}
-use Rattle.ir_builder_frames.specs.Matching.{HasKind, Keeps, flag_of, flag_in, HasRoom, IsThrown}
-use Rattle.ir_builder_frames.specs.Computing.{means, Shows, Arrives}
-use Rattle.ir_builder_frames.proofs.HeldLemmas.{extends_refl}
-use Rattle.ir_builder_frames.proofs.ComingLemmas.{ends_now, ends_of}
-use Rattle.ir_builder_frames.proofs.StepLemmas.{literal_makes}
-use Rattle.ir_builder_frames.proofs.MatchLemmas.{same_refl, made_computes}
-use Rattle.ir_builder_expressions.specs.Literals.{literal_of_truth}
-use Rattle.ir_builder_expressions.specs.Emitting.{Emits}
+use Rattle.ir_builder_frames.specs.Matching.{Keeps}
 
 pub flag_emits : {line : ℕ} (x : Setting) (value : Bool) (place : Span) (b c : Building) (r : ℕ) → Adds b c r rtype.Bool (Lit record { 0 = r } (literal_of_truth value)) line → Emits x (typed (Flag value) sort.Bool place) b c r
 flag_emits x true place b c r a = made_computes x (Shows sort.Bool) rtype.Bool _ _ b c r (literal_makes b c r rtype.Bool _ (Holds (BoolVal true)) a refl) (λ n s regs. (BoolVal true, Holds (BoolVal true), refl, refl, (refl, (true, refl))))

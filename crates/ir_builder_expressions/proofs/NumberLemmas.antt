@@ -1,30 +1,7 @@
 -- Parts that are brought to a type of numbers, and what operators make of them there.
-use Rattle.std.proofs.Common.{◌≡◌, refl, sym, ap, ◌∙◌, subst, ℕ, true, false, [], ◌∷◌, Option, Some, None}
-use Rattle.std.specs.Prelude.{ℤ}
-use Rattle.value_core.specs.Value.{Value}
-use Rattle.py_syntax.specs.declared.expression.BinOp.{BinOp}
-use Rattle.py_typed.specs.Fits.{is_number}
+use Rattle.ir_builder_expressions.proofs.Common.{◌≡◌, refl, sym, ap, ◌∙◌, subst, ℕ, true, false, [], ◌∷◌, Option, Some, None, ℤ, Value, BinOp, is_number, Sort, TypedExpr, type_of, State, Does, on_to, coerced, with_number, of_numbers, arithmetic, negated_as, negated, Reg, Declared, type_of_reg, Building, rtype_of, HasType, HasKind, Shows, HaveTypes, Attempts, ActsOnAll, type_below, is_arithmetic, is_whole, ActsOn, ActsOnTwo, is_known, operands_of, result_of, goes, arithmetic_of, negation_of, stays, as_one, as_two, attempts_as, attempts_then, two_attempts, native_in, sort_by, part_sort, literal_in}
 use Rattle.py_typed.specs.Sorts as sort
-use Rattle.py_typed.specs.Sorts.{Sort}
-use Rattle.py_typed.specs.Expressions.{TypedExpr, type_of}
-use Rattle.source_meaning.specs.State.{State, Does, on_to}
-use Rattle.source_meaning.specs.Operations.{coerced, with_number, of_numbers, arithmetic, negated_as, negated}
 use Rattle.ir_core.specs.declared.code.RType.TheVariants as rtype
-use Rattle.ir_core.specs.declared.code.Reg.{Reg}
-use Rattle.ir_core.specs.Rows.{Declared, type_of_reg}
-use Rattle.ir_core.specs.Building.{Building}
-use Rattle.ir_builder_frames.specs.Settings.{rtype_of}
-use Rattle.ir_builder_frames.specs.Placing.{HasType}
-use Rattle.ir_builder_frames.specs.Matching.{HasKind}
-use Rattle.ir_builder_frames.specs.Computing.{Shows, HaveTypes, Attempts}
-use Rattle.ir_builder_frames.specs.Operands.{ActsOnAll}
-use Rattle.ir_builder_frames.proofs.HeldLemmas.{type_below}
-use Rattle.ir_builder_operations.specs.Operating.{is_arithmetic, is_whole, ActsOn, ActsOnTwo}
-use Rattle.ir_builder_operations.specs.Rows.{is_known, operands_of, result_of, goes}
-use Rattle.ir_builder_expressions.specs.Applying.{arithmetic_of, negation_of}
-use Rattle.ir_builder_operations.proofs.PartLemmas.{stays, as_one, as_two}
-use Rattle.ir_builder_operations.proofs.ThenLemmas.{attempts_as, attempts_then, two_attempts}
-use Rattle.ir_builder_expressions.specs.Parts.{native_in, sort_by, part_sort, literal_in}
 use Rattle.ir_builder_operations.proofs.CoercionLemmas.{kept_as}
 
 pub whole_numeric : (t : Sort) → is_whole t ≡ true → is_number t ≡ true

@@ -1,31 +1,10 @@
 -- Two operands are compared as the source compares them.
-use Rattle.std.proofs.Common.{◌≡◌, refl, sym, ap, ◌∙◌, subst, ℕ, Bool, true, false}
-use Rattle.std.specs.Prelude.{ℤ, pos, not, if◌then◌else◌}
-use Rattle.value_core.specs.Value.{Value, IntVal, BoolVal}
-use Rattle.py_syntax.specs.declared.expression.CmpOp.{CmpOp}
+use Rattle.ir_builder_expressions.proofs.Common.{◌≡◌, refl, sym, ap, ◌∙◌, subst, ℕ, Bool, true, false, ℤ, pos, not, if◌then◌else◌, Value, IntVal, BoolVal, CmpOp, is_number, Sort, State, Outcome, Gives, Raises, Stops, Does, ◌>>=◌, on_to, give, needs, coerced, are_alike, is_equal, is_less, compared_as, compared, holds, Building, rtype_of, HasType, HasKind, Shows, Attempts, type_below, is_whole, ActsOn, ActsOnTwo, compared_sort, compares, by_bool, stays, attempts_as, two_attempts, is_ordering, ordered, Compares, is_text, is_pair, is_shown_as, compared_in, is_brought, holds_as}
 use Rattle.py_syntax.specs.declared.expression.CmpOp.TheVariants as cmp
-use Rattle.py_typed.specs.Fits.{is_number}
 use Rattle.py_typed.specs.Sorts as sort
-use Rattle.py_typed.specs.Sorts.{Sort}
-use Rattle.source_meaning.specs.State.{State, Outcome, Gives, Raises, Stops, Does, ◌>>=◌, on_to, give, needs}
-use Rattle.source_meaning.specs.Operations.{coerced, are_alike, is_equal, is_less, compared_as, compared, holds}
 use Rattle.ir_core.specs.declared.code.RType.TheVariants as rtype
-use Rattle.ir_core.specs.Building.{Building}
-use Rattle.ir_builder_frames.specs.Settings.{rtype_of}
-use Rattle.ir_builder_frames.specs.Placing.{HasType}
-use Rattle.ir_builder_frames.specs.Matching.{HasKind}
-use Rattle.ir_builder_frames.specs.Computing.{Shows, Attempts}
-use Rattle.ir_builder_frames.proofs.HeldLemmas.{type_below}
 use Rattle.ir_builder_operations.specs.declared.operation.Compared.{Compared}
 use Rattle.ir_builder_operations.specs.declared.operation.Compared.TheVariants.{Ints, Natives, Texts}
-use Rattle.ir_builder_operations.specs.Operating.{is_whole, ActsOn, ActsOnTwo}
-use Rattle.ir_builder_operations.specs.Rows.{compared_sort, compares}
-use Rattle.ir_builder_operations.proofs.KindLemmas.{by_bool}
-use Rattle.ir_builder_operations.proofs.PartLemmas.{stays}
-use Rattle.ir_builder_operations.proofs.ThenLemmas.{attempts_as, two_attempts}
-use Rattle.ir_builder_comparisons.specs.Comparing.{is_ordering, ordered, Compares}
-use Rattle.ir_builder_expressions.specs.Parts.{is_text, is_pair}
-use Rattle.ir_builder_expressions.specs.Comparing.{is_shown_as, compared_in, is_brought, holds_as}
 
 -- ---- both operands come to the type of both, and are compared there
 

@@ -1,36 +1,10 @@
 -- The code of literals, of a part of an operation, and of an operation on its parts.
-use Rattle.std.proofs.Common.{◌≡◌, refl, sym, ap, subst, ℕ, arith, Bool, true, false, List, Option, Some, None}
-use Rattle.std.proofs.lemmas.Bool.Decides.{nat_tests}
-use Rattle.std.specs.Prelude.{ℤ, pos, negsuc, FitsSigned, if◌then◌else◌}
-use Rattle.std.specs.Int.{w128}
-use Rattle.value_core.specs.Arithmetic.{lies_within}
-use Rattle.value_core.specs.Value.{IntVal, StrVal}
-use Rattle.py_syntax.specs.declared.token.Span.{Span}
+use Rattle.ir_builder_expressions.proofs.Common.{◌≡◌, refl, sym, ap, subst, ℕ, arith, Bool, true, false, List, Option, Some, None, nat_tests, ℤ, pos, negsuc, FitsSigned, if◌then◌else◌, w128, lies_within, IntVal, StrVal, Span, Sort, TypedExpr, typed, type_of, on_to, State, Gives, Number, Lit, Holds, Building, Setting, rtype_of, Adds, HasRoom, means, Shows, Computes, Makes, Attempts, literal_makes, computes_of, made_computes, both_attempt, ActsOn, ActsOnTwo, Unary, Binary, fitting_in, native_in, sort_by, part_sort, literal_in, unary_goes, binary_goes, Emits, EmitsPart, EmitsOne, EmitsTwo}
 use Rattle.py_typed.specs.Sorts as sort
-use Rattle.py_typed.specs.Sorts.{Sort}
 use Rattle.py_typed.specs.Expressions as tree
-use Rattle.py_typed.specs.Expressions.{TypedExpr, typed, type_of}
-use Rattle.source_meaning.specs.State.{on_to, State, Gives}
 use Rattle.source_meaning.specs.Operations.{item_at}
 use Rattle.ir_core.specs.declared.code.RType.TheVariants as rtype
-use Rattle.ir_core.specs.declared.code.Lit.TheVariants.{Number}
-use Rattle.ir_core.specs.declared.code.Op.TheVariants.{Lit}
-use Rattle.ir_core.specs.Registers.{Holds}
-use Rattle.ir_core.specs.Building.{Building}
-use Rattle.ir_builder_frames.specs.Settings.{Setting, rtype_of}
-use Rattle.ir_builder_frames.specs.Calling.{Adds}
-use Rattle.ir_builder_frames.specs.Matching.{HasRoom}
-use Rattle.ir_builder_frames.specs.Computing.{means, Shows, Computes, Makes, Attempts}
-use Rattle.ir_builder_frames.proofs.StepLemmas.{literal_makes}
-use Rattle.ir_builder_frames.proofs.MatchLemmas.{computes_of, made_computes}
-use Rattle.ir_builder_frames.proofs.AttemptLemmas.{both_attempt}
-use Rattle.ir_builder_operations.specs.Operating.{ActsOn, ActsOnTwo}
-use Rattle.ir_builder_expressions.specs.declared.applying.Unary.{Unary}
-use Rattle.ir_builder_expressions.specs.declared.applying.Binary.{Binary}
 use Rattle.ir_builder_expressions.specs.declared.applying.Binary.TheVariants as binary
-use Rattle.ir_builder_expressions.specs.Parts.{fitting_in, native_in, sort_by, part_sort, literal_in}
-use Rattle.ir_builder_expressions.specs.Applying.{unary_goes, binary_goes}
-use Rattle.ir_builder_expressions.specs.Emitting.{Emits, EmitsPart, EmitsOne, EmitsTwo}
 use Rattle.ir_builder_expressions.proofs.FollowLemmas.{part_attempts}
 
 -- ---- literals

@@ -1,51 +1,18 @@
 -- Reading a variable that may be unset, of the function or of the module.
-use Rattle.std.proofs.Common.{◌≡◌, ◌⊎◌, inr, ℕ, zero, suc, ◌<◌, ◌≤◌, ◌++◌, true, false, List, [], ◌∷◌, length, Option, Some, None, refl, sym, ap, ◌∙◌, subst, arith, le_refl}
+use Rattle.ir_builder_expressions.proofs.Common.{◌≡◌, ◌⊎◌, inr, ℕ, zero, suc, ◌<◌, ◌≤◌, ◌++◌, true, false, List, [], ◌∷◌, length, Option, Some, None, refl, sym, ap, ◌∙◌, subst, arith, le_refl, slice_get, pos, nat_lt, if◌then◌else◌, codes, nat_tests, length-map, Value, BoolVal, UnboundLocalError, Span, Sort, sort, State, Gives, Raises, raise_new, Var, Variable, TypedModule, variable, typed, Local, name_at, value_in, read_global, Lit, Prim, PArg, RType, Number, Program, Held, Unset, Holds, Regs, is_error, Building, with_last, held, Extends, Waiting, Strict, away, item_at, handler_at, registers_of, step, op_step, goto_step, error_step, Vars, Adds, Pushes, Closes, Patches, Setting, rtype_of, HasType, Has, Placed, or_other, world, running, Leads, Ends, means, Shows, Arrives, Computes, IsAmong, KeepsKindsIf, Answers, ReadsGlobal, HasKind, flag_of, flag_in, Matches, HasRoom, IsThrown, leads_step, leads_trans, ends_of, ends_lead, extends_trans, get_below, has_less, type_kept, type_has, pushes_has, adds_has, placed_part, guard_at, same_refl, thrown_at, Emits, IsSimpleAt, reports_unbound, TestsSet, setting_in, HasRegisters, EmitsLocal, EmitsGlobal}
 use Rattle.std.proofs.lemmas.Option.{slice_get-get_or}
-use Rattle.std.specs.Prelude.{slice_get, get_or, map, pos, nat_lt, if◌then◌else◌, codes}
-use Rattle.std.proofs.lemmas.Bool.Decides.{nat_tests}
-use Rattle.std.proofs.lemmas.List.{length-map}
-use Rattle.value_core.specs.Value.{Value, BoolVal}
-use Rattle.value_core.specs.declared.exception.ExcClass.TheVariants.{UnboundLocalError}
+use Rattle.std.specs.Prelude.{get_or, map}
 use Rattle.c_core.specs.declared.primitive.Primitive.TheVariants as prim
 use Rattle.c_core.specs.declared.primitive.GlobalPrim.TheVariants as global
 use Rattle.c_core.specs.Step.{unbound}
-use Rattle.py_syntax.specs.declared.token.Span.{Span}
-use Rattle.py_typed.specs.Sorts.{Sort, sort}
-use Rattle.source_meaning.specs.State.{State, Gives, Raises, raise_new}
-use Rattle.py_typed.specs.declared.checked.Var.{Var}
-use Rattle.py_typed.specs.Statements.{Variable, TypedModule, variable}
-use Rattle.py_typed.specs.Expressions.{typed, Local}
-use Rattle.source_meaning.specs.ExpressionMeaning.{name_at, value_in, read_global}
-use Rattle.ir_core.specs.declared.code.Op.TheVariants.{Lit, Prim}
-use Rattle.ir_core.specs.declared.code.PArg.{PArg}
 use Rattle.ir_core.specs.declared.code.PArg.TheVariants as arg
-use Rattle.ir_core.specs.declared.code.RType.{RType}
-use Rattle.ir_core.specs.declared.code.Lit.TheVariants.{Number}
 use Rattle.ir_core.specs.declared.code.Last.TheVariants.{Goto, IfError, Unreachable}
-use Rattle.ir_core.specs.declared.code.Program.{Program}
 use Rattle.ir_core.specs.declared.code.RType.TheVariants as rtype
 use Rattle.ir_core.specs.Items.{Do, End}
-use Rattle.ir_core.specs.Registers.{Held, Unset, Holds, Regs, is_error}
-use Rattle.ir_core.specs.Building.{Building, with_last, held, Extends}
-use Rattle.ir_core.specs.Meaning.{Waiting, Strict, away, item_at, handler_at, registers_of, step}
-use Rattle.ir_core.proofs.StepLemmas.{op_step, goto_step, error_step}
 use Rattle.ir_builder_frames.specs.declared.frame.Frame.{Frame}
-use Rattle.ir_builder_frames.specs.declared.frame.Vars.{Vars}
-use Rattle.ir_builder_frames.specs.Calling.{Adds, Pushes, Closes, Patches}
-use Rattle.ir_builder_frames.specs.Settings.{Setting, rtype_of}
-use Rattle.ir_builder_frames.specs.Placing.{HasType, Has, Placed, or_other}
-use Rattle.ir_builder_frames.specs.Coming.{world, running, Leads, Ends}
-use Rattle.ir_builder_frames.specs.Computing.{means, Shows, Arrives, Computes}
-use Rattle.ir_builder_frames.specs.Kinds.{IsAmong, KeepsKindsIf, Answers, ReadsGlobal}
-use Rattle.ir_builder_frames.specs.Matching.{HasKind, Keeps, flag_of, flag_in, Matches, HasRoom, IsThrown}
-use Rattle.ir_builder_frames.proofs.ComingLemmas.{leads_step, leads_trans, ends_of, ends_lead}
-use Rattle.ir_builder_frames.proofs.HeldLemmas.{extends_trans, get_below, has_less, type_kept, type_has, pushes_has, adds_has, placed_part, guard_at}
-use Rattle.ir_builder_frames.proofs.MatchLemmas.{same_refl, thrown_at}
+use Rattle.ir_builder_frames.specs.Matching.{Keeps}
 use Rattle.ir_builder_frames.proofs.PatchLemmas.{patches}
 use Rattle.ir_builder_frames.proofs.GlobalLemmas.{get_map, global_computes, read_fits}
-use Rattle.ir_builder_expressions.specs.Emitting.{Emits}
-use Rattle.ir_builder_expressions.specs.Suiting.{IsSimpleAt}
-use Rattle.ir_builder_expressions.specs.Reading.{reports_unbound, TestsSet, setting_in, HasRegisters, EmitsLocal, EmitsGlobal}
 use Rattle.ir_builder_expressions.proofs.NodeLemmas.{local_emits}
 
 -- ---- the test

@@ -1,22 +1,9 @@
 -- An operand of a comparison: its type, and that of its register.
-use Rattle.std.proofs.Common.{◌≡◌, refl, sym, ap, ◌∙◌, subst, true, false, List, Option, Some, None, ◌⊎◌, inl, inr}
-use Rattle.std.specs.Prelude.{ℤ}
-use Rattle.py_syntax.specs.declared.token.Span.{Span}
-use Rattle.py_typed.specs.declared.expression.TExpr.{TExpr}
+use Rattle.ir_builder_expressions.proofs.Common.{◌≡◌, refl, sym, ap, ◌∙◌, subst, true, false, List, Option, Some, None, ◌⊎◌, inl, inr, ℤ, Span, TExpr, Sort, TypedExpr, TypedNode, typed, type_of, typed_expr, TypedModule, Variable, type_at, Reg, Building, Setting, rtype_of, means, Shows, Computes, is_scalar, native_in, sort_by, part_sort, literal_in, kind_sort, is_shown_as, Suits, EmitsPart, EmitsSide}
 use Rattle.py_typed.specs.Sorts as sort
-use Rattle.py_typed.specs.Sorts.{Sort, sort as sort_of}
-use Rattle.py_typed.specs.Expressions.{TypedExpr, TypedNode, typed, type_of, typed_expr, Int}
-use Rattle.py_typed.specs.Statements.{TypedModule, Variable}
-use Rattle.py_typed.proofs.ExpressionLemmas.{type_at}
-use Rattle.ir_core.specs.declared.code.Reg.{Reg}
-use Rattle.ir_core.specs.Building.{Building}
-use Rattle.ir_builder_frames.specs.Settings.{Setting, rtype_of}
-use Rattle.ir_builder_frames.specs.Computing.{means, Shows, Computes}
+use Rattle.py_typed.specs.Sorts.{sort as sort_of}
+use Rattle.py_typed.specs.Expressions.{Int}
 use Rattle.ir_builder_expressions.specs.declared.comparing.Kind.{Kind}
-use Rattle.ir_builder_expressions.specs.Parts.{is_scalar, native_in, sort_by, part_sort, literal_in}
-use Rattle.ir_builder_expressions.specs.Comparing.{kind_sort, is_shown_as}
-use Rattle.ir_builder_expressions.specs.Suiting.{Suits}
-use Rattle.ir_builder_expressions.specs.Emitting.{EmitsPart, EmitsSide}
 use Rattle.ir_builder_expressions.proofs.PieceLemmas.{native_is}
 
 own_shown : (t : Sort) → is_scalar t ≡ true → is_shown_as t t ≡ true

@@ -1,21 +1,9 @@
 -- An expression that suits is one of the forms that are built: an operation on parts, where it is none of the others.
-use Rattle.std.proofs.Common.{◌≡◌, refl, sym, ◌∙◌, ap, ℕ, Bool, true, List}
-use Rattle.std.specs.Prelude.{ℤ, is_some}
-use Rattle.std.specs.declared.boxed.Box.{Box}
-use Rattle.std.specs.declared.alloc.Global.{Global}
-use Rattle.py_syntax.specs.declared.expression.BinOp.{BinOp}
-use Rattle.py_syntax.specs.declared.expression.CmpOp.{CmpOp}
-use Rattle.py_typed.specs.declared.expression.TExpr.{TExpr}
+use Rattle.ir_builder_expressions.proofs.Common.{◌≡◌, refl, sym, ◌∙◌, ap, ℕ, Bool, true, List, ℤ, is_some, Box, Global, BinOp, CmpOp, TExpr, TKind, roll-TKind, out-TKind, roll-out-TKind, fold-roll-TKind, TypedExpr, TypedNode, node_step, expr_step, typed_node, typed, typed_expr, TypedModule, Variable, typed_expr_of, applied_in, node_in, Suits, NodeSuits}
 use Rattle.py_typed.specs.declared.expression.TKind as kind
-use Rattle.py_typed.specs.declared.expression.TKind.{TKind, roll-TKind, out-TKind, roll-out-TKind, fold-roll-TKind}
 use Rattle.py_typed.specs.declared.expression.TKind.TheVariants as variant
 use Rattle.py_typed.specs.declared.expression.TKind.TheOpen.{TKind-F}
 use Rattle.py_typed.specs.Sorts.{sort as sort_of}
-use Rattle.py_typed.specs.Expressions.{TypedExpr, TypedNode, node_step, expr_step, typed_node, typed, typed_expr}
-use Rattle.py_typed.specs.Statements.{TypedModule, Variable}
-use Rattle.py_typed.proofs.ExpressionLemmas.{typed_expr_of}
-use Rattle.ir_builder_expressions.specs.Applying.{applied_in, node_in}
-use Rattle.ir_builder_expressions.specs.Suiting.{Suits, NodeSuits}
 use Rattle.ir_builder_expressions.proofs.ArmLemmas.{Is, asked}
 
 abbrev Part : Type 0

@@ -1,44 +1,11 @@
 -- The code of a declared expression of each kind, and what its parts need.
-use Rattle.std.proofs.Common.{◌≡◌, refl, sym, ◌∙◌, ap, subst, ℕ, ◌<◌, Bool, true, List, [], ◌∷◌, length, map, Some}
-use Rattle.std.specs.Prelude.{ℤ, slice_get}
-use Rattle.std.specs.declared.boxed.Box.{Box}
-use Rattle.std.specs.declared.alloc.Global.{Global}
-use Rattle.value_core.specs.Arithmetic.{lies_within}
-use Rattle.value_core.specs.Value.{IntVal, StrVal}
-use Rattle.py_syntax.specs.declared.expression.CmpOp.{CmpOp}
-use Rattle.py_typed.specs.declared.expression.TExpr.{TExpr}
+use Rattle.ir_builder_expressions.proofs.Common.{◌≡◌, refl, sym, ◌∙◌, ap, subst, ℕ, ◌<◌, Bool, true, List, [], ◌∷◌, length, map, Some, ℤ, slice_get, Box, Global, lies_within, IntVal, StrVal, CmpOp, TExpr, Sort, TypedExpr, type_of, typed_expr, exprs_of, comparisons_of, typed_comparison, TypedFunc, look, next_line, type_at, RType, Reg, Lit, Holds, Building, Extends, Setting, rtype_of, HasType, Adds, HasRoom, parameter_sorts, means, Shows, Computes, Makes, Attempts, HaveTypes, AllBelow, Keeps, Surrounding, Calls, KeepsKindsIf, get_below, type_below, Acts, is_scalar, Side, kind_sort, IsSimpleAt, Suits, SomeSuit, ComparisonsSuit, literal_of_truth, EmitsLocal, EmitsGlobal, Emits, EmitsAll, EmitsSide, EmitsChain, Walks}
 use Rattle.py_typed.specs.declared.expression.TKind as kind
 use Rattle.py_typed.specs.Sorts as sort
-use Rattle.py_typed.specs.Sorts.{Sort, sort as sort_of}
+use Rattle.py_typed.specs.Sorts.{sort as sort_of}
 use Rattle.py_typed.specs.Expressions as tree
-use Rattle.py_typed.specs.Expressions.{TypedExpr, type_of, typed_expr, exprs_of, comparisons_of, typed_comparison}
-use Rattle.py_typed.specs.Statements.{TypedFunc}
-use Rattle.source_meaning.specs.State.{look}
-use Rattle.source_meaning.specs.Operations.{next_line}
-use Rattle.py_typed.proofs.ExpressionLemmas.{type_at}
 use Rattle.ir_core.specs.declared.code.RType.TheVariants as rtype
-use Rattle.ir_core.specs.declared.code.RType.{RType}
-use Rattle.ir_core.specs.declared.code.Reg.{Reg}
-use Rattle.ir_core.specs.declared.code.Op.TheVariants.{Lit, Call as CallOp}
-use Rattle.ir_core.specs.Registers.{Holds}
-use Rattle.ir_core.specs.Building.{Building, Extends}
-use Rattle.ir_builder_frames.specs.Settings.{Setting, rtype_of}
-use Rattle.ir_builder_frames.specs.Placing.{HasType}
-use Rattle.ir_builder_frames.specs.Calling.{Adds}
-use Rattle.ir_builder_frames.specs.Matching.{HasRoom, parameter_sorts}
-use Rattle.ir_builder_frames.specs.Computing.{means, Shows, Computes, Makes, Attempts, HaveTypes}
-use Rattle.ir_builder_frames.specs.Shaped.{AllBelow, Keeps}
-use Rattle.ir_builder_frames.specs.Kinds.{Surrounding, Calls, KeepsKindsIf}
-use Rattle.ir_builder_frames.proofs.HeldLemmas.{get_below, type_below}
-use Rattle.ir_builder_operations.specs.Operating.{Acts}
-use Rattle.ir_builder_expressions.specs.Parts.{is_scalar}
-use Rattle.ir_builder_expressions.specs.declared.comparing.Side.{Side}
-use Rattle.ir_builder_expressions.specs.Comparing.{kind_sort}
-use Rattle.ir_builder_expressions.specs.Suiting.{IsSimpleAt, Suits, SomeSuit, ComparisonsSuit}
-use Rattle.ir_builder_expressions.specs.Literals.{literal_of_truth}
-use Rattle.ir_builder_expressions.specs.Reading.{EmitsLocal, EmitsGlobal}
-use Rattle.ir_builder_expressions.specs.Emitting.{Emits, EmitsAll, EmitsSide, EmitsChain}
-use Rattle.ir_builder_expressions.specs.Walking.{Walks}
+use Rattle.ir_core.specs.declared.code.Op.TheVariants.{Call as CallOp}
 use Rattle.ir_builder_expressions.proofs.ArmLemmas.{asked, emits_as, is_int, is_text, is_input, is_bool as is_flag, is_local, is_global, is_compare, is_call}
 use Rattle.ir_builder_expressions.proofs.FollowLemmas.{acts_computes}
 use Rattle.ir_builder_expressions.proofs.PieceLemmas.{int_emits, text_emits}

@@ -1,25 +1,6 @@
 -- What keeps the function around code that is added: one piece behind another, choices, literals and calls.
-use Rattle.std.proofs.Common.{◌≡◌, refl, ℕ, ◌≤◌, arith, Bool, true, List, [], ◌∷◌, length, map, Some}
-use Rattle.std.specs.Prelude.{ℤ, slice_get}
-use Rattle.value_core.specs.Arithmetic.{lies_within}
-use Rattle.py_typed.specs.Sorts.{Sort}
-use Rattle.py_typed.specs.Statements.{TypedFunc, TypedModule}
-use Rattle.ir_core.specs.declared.code.RType.{RType}
+use Rattle.ir_builder_expressions.proofs.Common.{◌≡◌, refl, ℕ, ◌≤◌, arith, Bool, true, List, [], ◌∷◌, length, map, Some, ℤ, slice_get, lies_within, Sort, TypedFunc, TypedModule, RType, Reg, Number, Declared, Building, Extends, rtype_of, HasType, parameter_sorts, Keeps, HaveTypes, Surrounding, IsOf, Take, AreAlike, Calls, LiteralFits, head_of, IsAmong, KeepsKinds, KeepsKindsIf, extends_refl, extends_trans, type_kept, literal_of_truth, Opens, Meets, Walks}
 use Rattle.ir_core.specs.declared.code.RType.TheVariants as rtype
-use Rattle.ir_core.specs.declared.code.Reg.{Reg}
-use Rattle.ir_core.specs.declared.code.Lit.TheVariants.{Number}
-use Rattle.ir_core.specs.Rows.{Declared}
-use Rattle.ir_core.specs.Building.{Building, Extends}
-use Rattle.ir_builder_frames.specs.Settings.{rtype_of}
-use Rattle.ir_builder_frames.specs.Placing.{HasType}
-use Rattle.ir_builder_frames.specs.Matching.{parameter_sorts}
-use Rattle.ir_builder_frames.specs.Shaped.{Keeps}
-use Rattle.ir_builder_frames.specs.Computing.{HaveTypes}
-use Rattle.ir_builder_frames.specs.Kinds.{Surrounding, IsOf, Take, AreAlike, Calls, LiteralFits, head_of, IsAmong, KeepsKinds, KeepsKindsIf}
-use Rattle.ir_builder_frames.proofs.HeldLemmas.{extends_refl, extends_trans, type_kept}
-use Rattle.ir_builder_expressions.specs.Literals.{literal_of_truth}
-use Rattle.ir_builder_choices.specs.Choices.{Opens, Meets}
-use Rattle.ir_builder_expressions.specs.Walking.{Walks}
 
 module _ (m : TypedModule) where
   pub walks_refl : (b : Building) → Walks m b b

@@ -1,13 +1,6 @@
 -- The number of nodes that a walk over an expression goes through, which falls from each node to its parts.
-use Rattle.std.proofs.Common.{◌≡◌, ap, ℕ, ◌+◌, ◌-◌, ◌<◌, ◌≤◌, arith, List, [], ◌∷◌, length, map, take, drop, get_or, Option, Some, None}
-use Rattle.std.proofs.lemmas.List.{take_all}
-use Rattle.std.specs.Borrow.{Bor}
-use Rattle.std.specs.declared.boxed.Box.{Box}
-use Rattle.std.specs.declared.alloc.Global.{Global}
-use Rattle.py_syntax.specs.declared.expression.CmpOp.{CmpOp}
-use Rattle.py_typed.specs.declared.expression.TExpr.{TExpr}
+use Rattle.ir_builder_expressions.proofs.Common.{◌≡◌, ap, ℕ, ◌+◌, ◌-◌, ◌<◌, ◌≤◌, arith, List, [], ◌∷◌, length, map, take, drop, get_or, Option, Some, None, take_all, Bor, Box, Global, CmpOp, TExpr, TypedExpr, TypedNode, typed, Neg, Not, Truth, Arith, Concat, Compare, And, Or, Cond, At, Call, Len, ToStr, Coerce, TypedExprs, no_exprs, expr_then, Comparisons, no_comparisons, comparison_then, typed_expr, exprs_of, comparisons_of, typed_comparison}
 use Rattle.py_typed.specs.declared.expression.TKind as kind
-use Rattle.py_typed.specs.Expressions.{TypedExpr, TypedNode, typed, Neg, Not, Truth, Arith, Concat, Compare, And, Or, Cond, At, Call, Len, ToStr, Coerce, TypedExprs, no_exprs, expr_then, Comparisons, no_comparisons, comparison_then, typed_expr, exprs_of, comparisons_of, typed_comparison}
 use Rattle.ir_builder_expressions.proofs.ArmLemmas.{Is, is_compare, is_and, is_or, is_cond, is_call}
 
 abbrev Part : Type 0

@@ -10,6 +10,7 @@ ghost use Rattle.ir_builder_frames.specs.Placing.{HasType};
 ghost use Rattle.ir_builder_frames.specs.Settings.{rtype_of};
 ghost use Rattle.ir_builder_frames.specs.Shaped.{Keeps};
 ghost use Rattle.ir_builder_frames.specs.Kinds.{KeepsKinds};
+ghost use Rattle.ir_builder_frames.specs.Lines.{OwnLines};
 ghost use Rattle.ir_builder_operations.specs.Operating.{is_arithmetic, is_whole, ActsOn, ActsOnTwo};
 ghost use Rattle.ir_builder_expressions.specs.Parts.{fitting_in, native_in, part_sort, literal_in};
 ghost use Rattle.ir_builder_expressions.specs.Applying.{unary_goes, binary_goes, UnarySuits, BinarySuits, arithmetic_of, negation_of, applied_in, node_in, seen};
@@ -117,6 +118,7 @@ fn emit_coerced(
     ensures made { IfOk result (λ r. Attempts (Shows (sort to.now)) b.old b.new r.0 (rtype_of (sort to.now)) (ActsOn (part_sort (sort to.now) (typed_expr e.now)) x.0 (coerced (sort to.now)))) }
     ensures shaped { Keeps b.old b.new }
     ensures kinds { KeepsKinds b.old b.new }
+    ensures lined { OwnLines line b.old b.new }
 {
     match native_literal(e, to) {
         Some(_) => Ok(x),
@@ -166,6 +168,7 @@ fn emit_numbers(
     ensures made { IfOk result (λ r. Attempts (Shows (sort t.now)) b.old b.new r.0 (rtype_of (sort t.now)) (ActsOnTwo (part_sort (sort t.now) (typed_expr left.now)) (part_sort (sort t.now) (typed_expr right.now)) x.0 y.0 (arithmetic (sort t.now) op))) }
     ensures shaped { Keeps b.old b.new }
     ensures kinds { KeepsKinds b.old b.new }
+    ensures lined { OwnLines line b.old b.new }
 {
     let first = emit_coerced(b, alloc, left, t, x, line)?;
     let second = emit_coerced(b, alloc, right, t, y, line)?;
@@ -189,6 +192,7 @@ fn emit_negated(
     ensures made { IfOk result (λ r. Attempts (Shows (sort t.now)) b.old b.new r.0 (rtype_of (sort t.now)) (ActsOn (part_sort (sort t.now) (typed_expr e.now)) x.0 (negated (sort t.now)))) }
     ensures shaped { Keeps b.old b.new }
     ensures kinds { KeepsKinds b.old b.new }
+    ensures lined { OwnLines line b.old b.new }
 {
     let number = emit_coerced(b, alloc, e, t, x, line)?;
     let operation = negation_on(t);
@@ -211,6 +215,7 @@ pub(crate) fn emit_unary(
     ensures made { IfOk result (λ r. Attempts (Shows (sort t.now)) b.old b.new r.0 (rtype_of (sort t.now)) (ActsOn (part_sort (sort t.now) (typed_expr e.now)) x.0 (unary_goes op (sort t.now)))) }
     ensures shaped { Keeps b.old b.new }
     ensures kinds { KeepsKinds b.old b.new }
+    ensures lined { OwnLines line b.old b.new }
 {
     match op {
         Unary::Negated => emit_negated(b, alloc, t, e, x, line),
@@ -241,6 +246,7 @@ pub(crate) fn emit_binary(
     ensures made { IfOk result (λ r. Attempts (Shows (sort t.now)) b.old b.new r.0 (rtype_of (sort t.now)) (ActsOnTwo (part_sort (sort t.now) (typed_expr left.now)) (part_sort (sort t.now) (typed_expr right.now)) x.0 y.0 (binary_goes op (sort t.now)))) }
     ensures shaped { Keeps b.old b.new }
     ensures kinds { KeepsKinds b.old b.new }
+    ensures lined { OwnLines line b.old b.new }
 {
     match op {
         Binary::Arithmetic(op) => emit_numbers(b, alloc, op, t, left, right, x, y, line),

@@ -1,9 +1,10 @@
 //! The choices of a chain of comparisons, each by whether the one before holds.
-ghost use Rattle.std.specs.Prelude.{◌≡◌, ◌≤◌, length, IfOk, OnOk, OnErr};
+ghost use Rattle.std.specs.Prelude.{◌≡◌, ◌≤◌, length, IfOk, OnOk, OnErr, ℕ};
 ghost use Rattle.ir_core.specs.Building.{Building, Extends};
 ghost use Rattle.ir_builder_frames.specs.Placing.{HasType};
 ghost use Rattle.ir_builder_frames.specs.Shaped.{Keeps};
 ghost use Rattle.ir_builder_frames.specs.Kinds.{KeepsKinds};
+ghost use Rattle.ir_builder_frames.specs.Lines.{OwnLines};
 ghost use Rattle.ir_builder_expressions.specs.Linking.{Begins, Linked, Pending, Met, Ended};
 
 use ir_builder_choices::{Choice, begin, meet, turn};
@@ -25,6 +26,7 @@ pub fn begin_link(b: &mut Emitter, links: &mut Many<Link>, holds: Reg) -> Result
     ensures linked { OnOk result (Linked b.old b.new links.old links.new holds) }
     ensures shaped { Keeps b.old b.new }
     ensures kinds { KeepsKinds b.old b.new }
+    ensures lined { (l : ℕ) → OwnLines l b.old b.new }
 {
     let choice = begin(b, RType::Bool)?;
     links.push(Link { choice, holds })
@@ -38,6 +40,7 @@ fn meet_link(b: &mut Emitter, link: Link, r: Reg, line: usize) -> Result<(), Mem
     ensures met { OnOk result (Met b.old b.new link r.0) }
     ensures shaped { Keeps b.old b.new }
     ensures kinds { KeepsKinds b.old b.new }
+    ensures lined { OwnLines line b.old b.new }
 {
     let end = turn(b, link.choice, r, line)?;
     let second = b.here();
@@ -53,6 +56,7 @@ pub fn meet_links(b: &mut Emitter, links: Many<Link>, last: Reg, line: usize) ->
     ensures ended { IfOk result (λ q. Ended links b.old last.0 b.new q.0) }
     ensures shaped { Keeps b.old b.new }
     ensures kinds { KeepsKinds b.old b.new }
+    ensures lined { OwnLines line b.old b.new }
 {
     let mut rest = links;
     let mut r = last;

@@ -10,6 +10,7 @@ ghost use Rattle.ir_builder_frames.specs.Placing.{HasType};
 ghost use Rattle.ir_builder_frames.specs.Settings.{rtype_of};
 ghost use Rattle.ir_builder_frames.specs.Shaped.{Keeps};
 ghost use Rattle.ir_builder_frames.specs.Kinds.{KeepsKinds};
+ghost use Rattle.ir_builder_frames.specs.Lines.{OwnLines};
 ghost use Rattle.ir_builder_operations.specs.Operating.{is_whole, ActsOn, ActsOnTwo};
 ghost use Rattle.ir_builder_operations.specs.Rows.{compared_sort};
 ghost use Rattle.ir_builder_comparisons.specs.Comparing.{is_ordering};
@@ -132,6 +133,7 @@ fn emit_shown(
     ensures made { IfOk result (λ r. Attempts (Shows (compared_sort to)) b.old b.new r.0 (rtype_of (compared_sort to)) (ActsOn (kind_sort from) x.0 (coerced (compared_sort to)))) }
     ensures shaped { Keeps b.old b.new }
     ensures kinds { KeepsKinds b.old b.new }
+    ensures lined { OwnLines line b.old b.new }
 {
     let from = type_of_kind(from);
     let to = type_of_compared(to);
@@ -153,6 +155,7 @@ fn emit_brought(
     ensures made { IfOk result (λ r. Attempts (Shows (compared_sort to)) b.old b.new r.0 (rtype_of (compared_sort to)) (ActsOn (kind_sort from) x.0 (coerced (compared_sort to)))) }
     ensures shaped { Keeps b.old b.new }
     ensures kinds { KeepsKinds b.old b.new }
+    ensures lined { OwnLines line b.old b.new }
 {
     match to {
         Compared::Texts => Ok(x),
@@ -181,6 +184,7 @@ pub fn emit_pair(
     ensures made { IfOk result (λ r. Attempts (Shows BoolSort) b.old b.new r.0 RType.Bool (ActsOnTwo (kind_sort left.shown) (kind_sort right.shown) left.reg.0 right.reg.0 (holds_as op (kind_sort left.own) (kind_sort right.own)))) }
     ensures shaped { Keeps b.old b.new }
     ensures kinds { KeepsKinds b.old b.new }
+    ensures lined { OwnLines line b.old b.new }
 {
     let to = compared_between(left.own, right.own);
     let x = emit_brought(b, alloc, left.shown, to, left.reg, line)?;

@@ -1,20 +1,21 @@
 //! The code of expressions.
-ghost use Rattle.std.specs.Prelude.{◌≡◌, ℕ, ◌≤◌, true, length, map, IfOk, is_some};
+ghost use Rattle.std.specs.Prelude.{◌≡◌, ℕ, ◌≤◌, true, [], ◌∷◌, ◌++◌, length, map, IfOk, OnOk, is_some};
 ghost use Rattle.py_typed.specs.Sorts.{Sort, sort};
 ghost use Rattle.py_typed.specs.Expressions.{typed_expr, exprs_of, comparisons_of, typed_comparison, type_of};
-ghost use Rattle.py_typed.specs.Statements.{typed_module, variable};
 ghost use Rattle.ir_core.specs.Building.{Extends};
-ghost use Rattle.ir_builder_frames.specs.Settings.{setting, rtype_of};
+ghost use Rattle.ir_builder_frames.specs.Settings.{rtype_of};
 ghost use Rattle.ir_builder_frames.specs.Matching.{HasRoom};
 ghost use Rattle.ir_builder_frames.specs.Placing.{HasType};
 ghost use Rattle.ir_builder_frames.specs.Shaped.{Keeps};
 ghost use Rattle.ir_builder_frames.specs.Kinds.{IsAmong, KeepsKindsIf};
+ghost use Rattle.ir_builder_expressions.specs.Site.{setting_of};
 ghost use Rattle.ir_builder_expressions.specs.Parts.{is_scalar};
 ghost use Rattle.ir_builder_expressions.specs.Applying.{UnarySuits, BinarySuits, applied_in, node_in};
 ghost use Rattle.ir_builder_expressions.specs.Comparing.{kind_sort, is_shown_as};
 ghost use Rattle.ir_builder_expressions.specs.Suiting.{Suits, SomeSuit, ComparisonsSuit};
 ghost use Rattle.ir_builder_expressions.specs.Arms.{arm_of, ArmSuits, ChoiceSuits, EmitsArm, EmitsChoice};
 ghost use Rattle.ir_builder_expressions.specs.Walking.{Walks};
+ghost use Rattle.ir_builder_expressions.specs.Lined.{listed, operands_in, parts_in_arm, parts_of, Lined, LinedParts};
 ghost use Rattle.ir_builder_expressions.specs.Emitting.{Emits, EmitsPart, EmitsOne, EmitsTwo, EmitsAll, EmitsSide, EmitsChain};
 
 use crate::applying::{
@@ -24,15 +25,15 @@ use crate::chain::{begin_link, meet_links};
 use crate::comparing::{Kind, Side, emit_pair, joined_kind, kind_of, shown_kind, type_of_kind};
 use crate::global::emit_global_value;
 use crate::local::emit_local;
+use crate::site::Site;
 use crate::types::{register_type, truth};
 use ir_builder_choices::{begin, meet, turn};
 use ir_builder_comparisons::emit_truth;
-use ir_builder_frames::{Emitter, Frame};
+use ir_builder_frames::Emitter;
 use ir_builder_operations::{emit_input, emit_int, emit_text};
 use ir_core::{Lit, RType, Reg};
 use py_syntax::CmpOp;
-use py_typed::{Checked, TExpr, TKind, Ty, Var};
-use std::alloc::Global;
+use py_typed::{TExpr, TKind, Ty};
 use value_core::{Many, Memory};
 
 // The type of the operand behind the first one of a chain, or else of that one. By it a literal that is compared with a native
@@ -44,191 +45,135 @@ fn other_kind(e: &TExpr, rest: &[(CmpOp, TExpr)]) -> Kind {
     }
 }
 
-/// Emits an expression, and answers the register that has its value (Python Language Reference, "Expressions"). The operations
-/// have the line. It fails for want of memory.
+/// Emits an expression, and answers the register that has its value (Python Language Reference, "Expressions"). Its own operations
+/// have its line, and those of its parts have theirs. It fails for want of memory.
 #[cycle(expression)]
-pub fn emit_expression(
-    b: &mut Emitter,
-    alloc: Global,
-    checked: &Checked,
-    locals: &[Var],
-    frame: Frame,
-    e: &TExpr,
-    line: usize,
-) -> Result<Reg, Memory>
-    requires suits { Suits (typed_module checked.now) (map variable locals.now) (typed_expr e.now) }
-    requires room { HasRoom (setting checked.now locals.now frame) b.old }
+pub fn emit_expression(b: &mut Emitter, site: Site, e: &TExpr) -> Result<Reg, Memory>
+    requires suits { Suits (setting_of site).source (setting_of site).variables (typed_expr e.now) }
+    requires room { HasRoom (setting_of site) b.old }
     ensures kept { Extends b.old b.new }
-    ensures emitted { IfOk result (λ r. Emits (setting checked.now locals.now frame) (typed_expr e.now) b.old b.new r.0) }
+    ensures emitted { IfOk result (λ r. Emits (setting_of site.entry) (typed_expr e.now) b.old b.new r.0) }
     ensures shaped { Keeps b.old b.new }
-    ensures kinds { KeepsKindsIf (IsAmong (typed_module checked.now)) b.old b.new }
+    ensures kinds { KeepsKindsIf (IsAmong (setting_of site.entry).source) b.old b.new }
+    ensures lined { OnOk result (Lined (setting_of site.entry) (typed_expr e.now) b.old b.new) }
 {
+    let site = Site {
+        line: e.span.line,
+        ..site
+    };
     match &e.kind {
-        TKind::Int(n) => emit_int(b, alloc, *n, line),
-        TKind::Str(text) => emit_text(b, alloc, text.as_str(), line),
-        TKind::Bool(value) => b.literal(RType::Bool, truth(*value), line),
-        TKind::Local(i) => emit_local(b, alloc, locals, frame, *i, line),
-        TKind::Global(i) => emit_global_value(b, alloc, checked, *i, line),
+        TKind::Int(n) => emit_int(b, site.alloc, *n, site.line),
+        TKind::Str(text) => emit_text(b, site.alloc, text.as_str(), site.line),
+        TKind::Bool(value) => b.literal(RType::Bool, truth(*value), site.line),
+        TKind::Local(i) => emit_local(b, site, *i),
+        TKind::Global(i) => emit_global_value(b, site, *i),
         TKind::Compare(x, rest) => {
             let other = other_kind(x, rest.as_slice());
-            let first = emit_side(b, alloc, checked, locals, frame, other, x, line)?;
-            emit_chain(
-                b,
-                alloc,
-                checked,
-                locals,
-                frame,
-                first,
-                rest.as_slice(),
-                line,
-            )
+            let first = emit_side(b, site, other, x)?;
+            emit_chain(b, site, first, rest.as_slice())
         }
         TKind::And(x, y) => {
             let right = Some(&**y);
-            emit_choice(
-                b, alloc, checked, locals, frame, &e.ty, x, right, None, line,
-            )
+            emit_choice(b, site, &e.ty, x, right, None)
         }
         TKind::Or(x, y) => {
             let right = Some(&**y);
-            emit_choice(
-                b, alloc, checked, locals, frame, &e.ty, x, None, right, line,
-            )
+            emit_choice(b, site, &e.ty, x, None, right)
         }
         TKind::Cond(x, test, y) => {
             let (body, other) = (Some(&**x), Some(&**y));
-            emit_choice(
-                b, alloc, checked, locals, frame, &e.ty, test, body, other, line,
-            )
+            emit_choice(b, site, &e.ty, test, body, other)
         }
         TKind::Call(f, args) => {
-            let args = emit_arguments(b, alloc, checked, locals, frame, args.as_slice(), line)?;
-            b.call(register_type(&e.ty), *f, args, line)
+            let args = emit_arguments(b, site, args.as_slice())?;
+            b.call(register_type(&e.ty), *f, args, site.line)
         }
-        TKind::Input => emit_input(b, alloc, line),
-        _ => emit_applied(b, alloc, checked, locals, frame, e, line),
+        TKind::Input => emit_input(b, site.alloc, site.line),
+        _ => emit_applied(b, site, e),
     }
 }
 
 // An operation on parts.
 #[cycle(expression)]
-fn emit_applied(
-    b: &mut Emitter,
-    alloc: Global,
-    checked: &Checked,
-    locals: &[Var],
-    frame: Frame,
-    e: &TExpr,
-    line: usize,
-) -> Result<Reg, Memory>
+fn emit_applied(b: &mut Emitter, site: Site, e: &TExpr) -> Result<Reg, Memory>
     requires applied { is_some (applied_in (node_in (typed_expr e.now))) ≡ true }
-    requires suits { Suits (typed_module checked.now) (map variable locals.now) (typed_expr e.now) }
-    requires room { HasRoom (setting checked.now locals.now frame) b.old }
-    ensures walked { Walks (typed_module checked.now) b.old b.new }
-    ensures emitted { IfOk result (λ r. Emits (setting checked.now locals.now frame) (typed_expr e.now) b.old b.new r.0) }
+    requires suits { Suits (setting_of site).source (setting_of site).variables (typed_expr e.now) }
+    requires room { HasRoom (setting_of site) b.old }
+    ensures walked { Walks (setting_of site.entry).source b.old b.new }
+    ensures emitted { IfOk result (λ r. Emits (setting_of site.entry) (typed_expr e.now) b.old b.new r.0) }
+    ensures lined { OnOk result (LinedParts (setting_of site.entry) site.entry.line (parts_of (node_in (typed_expr e.now))) b.old b.new) }
 {
     match operation_in(e) {
-        Applied::One(op, x) => {
-            emit_one_part(b, alloc, checked, locals, frame, op, &e.ty, x, line)
-        }
-        Applied::Two(op, x, y) => {
-            emit_two_parts(b, alloc, checked, locals, frame, op, &e.ty, x, y, line)
-        }
+        Applied::One(op, x) => emit_one_part(b, site, op, &e.ty, x),
+        Applied::Two(op, x, y) => emit_two_parts(b, site, op, &e.ty, x, y),
     }
 }
 
 /// Emits a part of an operation whose result is of a type, and answers the register that has its value. An `int` literal that is
 /// a native integer is one at once, where the operation is on native integers.
 #[cycle(expression)]
-fn emit_part(
-    b: &mut Emitter,
-    alloc: Global,
-    checked: &Checked,
-    locals: &[Var],
-    frame: Frame,
-    t: &Ty,
-    e: &TExpr,
-    line: usize,
-) -> Result<Reg, Memory>
-    requires suits { Suits (typed_module checked.now) (map variable locals.now) (typed_expr e.now) }
-    requires room { HasRoom (setting checked.now locals.now frame) b.old }
-    ensures walked { Walks (typed_module checked.now) b.old b.new }
-    ensures emitted { IfOk result (λ r. EmitsPart (setting checked.now locals.now frame) (sort t.now) (typed_expr e.now) b.old b.new r.0) }
+fn emit_part(b: &mut Emitter, site: Site, t: &Ty, e: &TExpr) -> Result<Reg, Memory>
+    requires suits { Suits (setting_of site).source (setting_of site).variables (typed_expr e.now) }
+    requires room { HasRoom (setting_of site) b.old }
+    ensures walked { Walks (setting_of site.entry).source b.old b.new }
+    ensures emitted { IfOk result (λ r. EmitsPart (setting_of site.entry) (sort t.now) (typed_expr e.now) b.old b.new r.0) }
+    ensures lined { OnOk result (Lined (setting_of site.entry) (typed_expr e.now) b.old b.new) }
 {
     match native_literal(e, t) {
-        Some(n) => b.literal(RType::I64, Lit::Number(n), line),
-        None => emit_expression(b, alloc, checked, locals, frame, e, line),
+        Some(n) => b.literal(RType::I64, Lit::Number(n), e.span.line),
+        None => emit_expression(b, site, e),
     }
 }
 
 // An operation on one part, with a result of a type.
 #[cycle(expression)]
-fn emit_one_part(
-    b: &mut Emitter,
-    alloc: Global,
-    checked: &Checked,
-    locals: &[Var],
-    frame: Frame,
-    op: Unary,
-    t: &Ty,
-    e: &TExpr,
-    line: usize,
-) -> Result<Reg, Memory>
+fn emit_one_part(b: &mut Emitter, site: Site, op: Unary, t: &Ty, e: &TExpr) -> Result<Reg, Memory>
     requires fits { UnarySuits op (sort t.now) (sort e.now.ty) }
-    requires suits { Suits (typed_module checked.now) (map variable locals.now) (typed_expr e.now) }
-    requires room { HasRoom (setting checked.now locals.now frame) b.old }
-    ensures walked { Walks (typed_module checked.now) b.old b.new }
-    ensures emitted { IfOk result (λ r. EmitsOne (setting checked.now locals.now frame) op (sort t.now) (typed_expr e.now) b.old b.new r.0) }
+    requires suits { Suits (setting_of site).source (setting_of site).variables (typed_expr e.now) }
+    requires room { HasRoom (setting_of site) b.old }
+    ensures walked { Walks (setting_of site.entry).source b.old b.new }
+    ensures emitted { IfOk result (λ r. EmitsOne (setting_of site.entry) op (sort t.now) (typed_expr e.now) b.old b.new r.0) }
+    ensures lined { OnOk result (LinedParts (setting_of site.entry) site.entry.line (typed_expr e.now ∷ []) b.old b.new) }
 {
-    let x = emit_part(b, alloc, checked, locals, frame, t, e, line)?;
-    emit_unary(b, alloc, op, t, e, x, line)
+    let x = emit_part(b, site, t, e)?;
+    emit_unary(b, site.alloc, op, t, e, x, site.line)
 }
 
 /// An operation on two parts, with a result of a type. It fails for want of memory.
 #[cycle(expression)]
 pub fn emit_two_parts(
     b: &mut Emitter,
-    alloc: Global,
-    checked: &Checked,
-    locals: &[Var],
-    frame: Frame,
+    site: Site,
     op: Binary,
     t: &Ty,
     left: &TExpr,
     right: &TExpr,
-    line: usize,
 ) -> Result<Reg, Memory>
     requires fits { BinarySuits op (sort t.now) (sort left.now.ty) (sort right.now.ty) }
-    requires left { Suits (typed_module checked.now) (map variable locals.now) (typed_expr left.now) }
-    requires right { Suits (typed_module checked.now) (map variable locals.now) (typed_expr right.now) }
-    requires room { HasRoom (setting checked.now locals.now frame) b.old }
-    ensures walked { Walks (typed_module checked.now) b.old b.new }
-    ensures emitted { IfOk result (λ r. EmitsTwo (setting checked.now locals.now frame) op (sort t.now) (typed_expr left.now) (typed_expr right.now) b.old b.new r.0) }
+    requires left { Suits (setting_of site).source (setting_of site).variables (typed_expr left.now) }
+    requires right { Suits (setting_of site).source (setting_of site).variables (typed_expr right.now) }
+    requires room { HasRoom (setting_of site) b.old }
+    ensures walked { Walks (setting_of site.entry).source b.old b.new }
+    ensures emitted { IfOk result (λ r. EmitsTwo (setting_of site.entry) op (sort t.now) (typed_expr left.now) (typed_expr right.now) b.old b.new r.0) }
+    ensures lined { OnOk result (LinedParts (setting_of site.entry) site.entry.line (typed_expr left.now ∷ typed_expr right.now ∷ []) b.old b.new) }
 {
-    let x = emit_part(b, alloc, checked, locals, frame, t, left, line)?;
-    let y = emit_part(b, alloc, checked, locals, frame, t, right, line)?;
-    emit_binary(b, alloc, op, t, left, right, x, y, line)
+    let x = emit_part(b, site, t, left)?;
+    let y = emit_part(b, site, t, right)?;
+    emit_binary(b, site.alloc, op, t, left, right, x, y, site.line)
 }
 
 /// Emits expressions from the left, and answers their registers. It fails for want of memory.
 #[cycle(expression)]
-pub fn emit_arguments(
-    b: &mut Emitter,
-    alloc: Global,
-    checked: &Checked,
-    locals: &[Var],
-    frame: Frame,
-    args: &[TExpr],
-    line: usize,
-) -> Result<Many<Reg>, Memory>
-    requires suits { SomeSuit (typed_module checked.now) (map variable locals.now) (map typed_expr args.now) }
-    requires room { HasRoom (setting checked.now locals.now frame) b.old }
-    ensures walked { Walks (typed_module checked.now) b.old b.new }
-    ensures emitted { IfOk result (λ rs. EmitsAll (setting checked.now locals.now frame) (map type_of (map typed_expr args.now)) (exprs_of (map typed_expr args.now)) b.old b.new rs) }
+pub fn emit_arguments(b: &mut Emitter, site: Site, args: &[TExpr]) -> Result<Many<Reg>, Memory>
+    requires suits { SomeSuit (setting_of site).source (setting_of site).variables (map typed_expr args.now) }
+    requires room { HasRoom (setting_of site) b.old }
+    ensures walked { Walks (setting_of site.entry).source b.old b.new }
+    ensures emitted { IfOk result (λ rs. EmitsAll (setting_of site.entry) (map type_of (map typed_expr args.now)) (exprs_of (map typed_expr args.now)) b.old b.new rs) }
+    ensures lined { OnOk result (LinedParts (setting_of site.entry) site.entry.line (listed (exprs_of (map typed_expr args.now))) b.old b.new) }
 {
-    let mut regs = Many::new(alloc);
+    let mut regs = Many::new(site.alloc);
     for e in args {
-        let r = emit_expression(b, alloc, checked, locals, frame, e, line)?;
+        let r = emit_expression(b, site, e)?;
         regs.push(r)?;
     }
     Ok(regs)
@@ -238,77 +183,58 @@ pub fn emit_arguments(
 #[cycle(expression)]
 fn emit_choice(
     b: &mut Emitter,
-    alloc: Global,
-    checked: &Checked,
-    locals: &[Var],
-    frame: Frame,
+    site: Site,
     t: &Ty,
     test: &TExpr,
     body: Option<&TExpr>,
     other: Option<&TExpr>,
-    line: usize,
 ) -> Result<Reg, Memory>
-    requires suits { ChoiceSuits (typed_module checked.now) (map variable locals.now) (sort t.now) (typed_expr test.now) (arm_of body) (arm_of other) }
-    requires room { HasRoom (setting checked.now locals.now frame) b.old }
-    ensures walked { Walks (typed_module checked.now) b.old b.new }
-    ensures emitted { IfOk result (λ r. EmitsChoice (setting checked.now locals.now frame) (sort t.now) (typed_expr test.now) (arm_of body.entry) (arm_of other.entry) b.old b.new r.0) }
+    requires suits { ChoiceSuits (setting_of site).source (setting_of site).variables (sort t.now) (typed_expr test.now) (arm_of body) (arm_of other) }
+    requires room { HasRoom (setting_of site) b.old }
+    ensures walked { Walks (setting_of site.entry).source b.old b.new }
+    ensures emitted { IfOk result (λ r. EmitsChoice (setting_of site.entry) (sort t.now) (typed_expr test.now) (arm_of body.entry) (arm_of other.entry) b.old b.new r.0) }
+    ensures lined { OnOk result (LinedParts (setting_of site.entry) site.entry.line (typed_expr test.now ∷ (parts_in_arm (arm_of body.entry) ++ parts_in_arm (arm_of other.entry))) b.old b.new) }
 {
-    let tested = emit_expression(b, alloc, checked, locals, frame, test, line)?;
-    let condition = emit_truth(b, alloc, &test.ty, tested, line)?;
+    let tested = emit_expression(b, site, test)?;
+    let condition = emit_truth(b, site.alloc, &test.ty, tested, site.line)?;
     let choice = begin(b, register_type(t))?;
-    let x = emit_arm(b, alloc, checked, locals, frame, body, tested, line)?;
-    let end = turn(b, choice, x, line)?;
+    let x = emit_arm(b, site, body, tested)?;
+    let end = turn(b, choice, x, site.line)?;
     let second = b.here();
-    let y = emit_arm(b, alloc, checked, locals, frame, other, tested, line)?;
-    meet(b, choice, condition, end, second, y, line)?;
+    let y = emit_arm(b, site, other, tested)?;
+    meet(b, choice, condition, end, second, y, site.line)?;
     Ok(choice.target)
 }
 
 // An arm of a choice, behind the tested value.
 #[cycle(expression)]
-fn emit_arm(
-    b: &mut Emitter,
-    alloc: Global,
-    checked: &Checked,
-    locals: &[Var],
-    frame: Frame,
-    arm: Option<&TExpr>,
-    tested: Reg,
-    line: usize,
-) -> Result<Reg, Memory>
-    requires suits { ArmSuits (typed_module checked.now) (map variable locals.now) (arm_of arm) }
-    requires room { HasRoom (setting checked.now locals.now frame) b.old }
-    ensures walked { Walks (typed_module checked.now) b.old b.new }
-    ensures emitted { IfOk result (λ r. EmitsArm (setting checked.now locals.now frame) tested.0 (arm_of arm.entry) b.old b.new r.0) }
+fn emit_arm(b: &mut Emitter, site: Site, arm: Option<&TExpr>, tested: Reg) -> Result<Reg, Memory>
+    requires suits { ArmSuits (setting_of site).source (setting_of site).variables (arm_of arm) }
+    requires room { HasRoom (setting_of site) b.old }
+    ensures walked { Walks (setting_of site.entry).source b.old b.new }
+    ensures emitted { IfOk result (λ r. EmitsArm (setting_of site.entry) tested.0 (arm_of arm.entry) b.old b.new r.0) }
+    ensures lined { OnOk result (LinedParts (setting_of site.entry) site.entry.line (parts_in_arm (arm_of arm.entry)) b.old b.new) }
 {
     match arm {
-        Some(e) => emit_expression(b, alloc, checked, locals, frame, e, line),
+        Some(e) => emit_expression(b, site, e),
         None => Ok(tested),
     }
 }
 
 // Emits an operand that is compared with one of a type.
 #[cycle(expression)]
-fn emit_side(
-    b: &mut Emitter,
-    alloc: Global,
-    checked: &Checked,
-    locals: &[Var],
-    frame: Frame,
-    other: Kind,
-    e: &TExpr,
-    line: usize,
-) -> Result<Side, Memory>
+fn emit_side(b: &mut Emitter, site: Site, other: Kind, e: &TExpr) -> Result<Side, Memory>
     requires simple { is_scalar (sort e.now.ty) ≡ true }
-    requires suits { Suits (typed_module checked.now) (map variable locals.now) (typed_expr e.now) }
-    requires room { HasRoom (setting checked.now locals.now frame) b.old }
-    ensures walked { Walks (typed_module checked.now) b.old b.new }
-    ensures emitted { IfOk result (λ q. EmitsSide (setting checked.now locals.now frame) (typed_expr e.now) q b.old b.new) }
+    requires suits { Suits (setting_of site).source (setting_of site).variables (typed_expr e.now) }
+    requires room { HasRoom (setting_of site) b.old }
+    ensures walked { Walks (setting_of site.entry).source b.old b.new }
+    ensures emitted { IfOk result (λ q. EmitsSide (setting_of site.entry) (typed_expr e.now) q b.old b.new) }
+    ensures lined { OnOk result (Lined (setting_of site.entry) (typed_expr e.now) b.old b.new) }
 {
     let own = kind_of(&e.ty);
     let to = type_of_kind(joined_kind(other, own));
     let shown = shown_kind(e, &to);
-    let reg = emit_part(b, alloc, checked, locals, frame, &to, e, line)?;
+    let reg = emit_part(b, site, &to, e)?;
     Ok(Side { reg, own, shown })
 }
 
@@ -316,34 +242,31 @@ fn emit_side(
 #[cycle(expression)]
 fn emit_chain(
     b: &mut Emitter,
-    alloc: Global,
-    checked: &Checked,
-    locals: &[Var],
-    frame: Frame,
+    site: Site,
     first: Side,
     rest: &[(CmpOp, TExpr)],
-    line: usize,
 ) -> Result<Reg, Memory>
-    requires suits { ComparisonsSuit (typed_module checked.now) (map variable locals.now) (kind_sort first.own) (comparisons_of (map typed_comparison rest.now)) }
+    requires suits { ComparisonsSuit (setting_of site).source (setting_of site).variables (kind_sort first.own) (comparisons_of (map typed_comparison rest.now)) }
     requires shown { is_shown_as (kind_sort first.own) (kind_sort first.shown) ≡ true }
-    requires room { HasRoom (setting checked.now locals.now frame) b.old }
+    requires room { HasRoom (setting_of site) b.old }
     requires first { HasType b.old first.reg.0 (rtype_of (kind_sort first.shown)) }
-    ensures walked { Walks (typed_module checked.now) b.old b.new }
-    ensures emitted { IfOk result (λ r. EmitsChain (setting checked.now locals.now frame) (kind_sort first.own) (kind_sort first.shown) first.reg.0 (comparisons_of (map typed_comparison rest.now)) b.old b.new r.0) }
+    ensures walked { Walks (setting_of site.entry).source b.old b.new }
+    ensures emitted { IfOk result (λ r. EmitsChain (setting_of site.entry) (kind_sort first.own) (kind_sort first.shown) first.reg.0 (comparisons_of (map typed_comparison rest.now)) b.old b.new r.0) }
+    ensures lined { OnOk result (LinedParts (setting_of site.entry) site.entry.line (operands_in (comparisons_of (map typed_comparison rest.now))) b.old b.new) }
 {
     match rest {
-        [] => b.literal(RType::Bool, truth(true), line),
+        [] => b.literal(RType::Bool, truth(true), site.line),
         [(op, e), more @ ..] => {
-            let mut left = emit_side(b, alloc, checked, locals, frame, first.own, e, line)?;
-            let mut holds = emit_pair(b, alloc, *op, first, left, line)?;
-            let mut links = Many::new(alloc);
+            let mut left = emit_side(b, site, first.own, e)?;
+            let mut holds = emit_pair(b, site.alloc, *op, first, left, site.line)?;
+            let mut links = Many::new(site.alloc);
             for (op, e) in more {
                 begin_link(b, &mut links, holds)?;
-                let right = emit_side(b, alloc, checked, locals, frame, left.own, e, line)?;
-                holds = emit_pair(b, alloc, *op, left, right, line)?;
+                let right = emit_side(b, site, left.own, e)?;
+                holds = emit_pair(b, site.alloc, *op, left, right, site.line)?;
                 left = right;
             }
-            meet_links(b, links, holds, line)
+            meet_links(b, links, holds, site.line)
         }
     }
 }

@@ -14,8 +14,10 @@ mod comparing;
 mod expression;
 mod global;
 mod local;
+mod site;
 mod types;
 
 pub use applying::Binary;
 pub use expression::{emit_arguments, emit_expression, emit_two_parts};
+pub use site::Site;
 pub use types::register_type;

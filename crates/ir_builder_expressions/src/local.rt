@@ -1,18 +1,19 @@
 //! Variables that are read.
-ghost use Rattle.std.specs.Prelude.{◌≡◌, ◌<◌, ◌+◌, length, map, true, IfOk, OnOk};
+ghost use Rattle.std.specs.Prelude.{◌≡◌, ◌<◌, ◌+◌, length, true, IfOk, OnOk, ℕ};
 ghost use Rattle.std.specs.Str.{is_utf8};
-ghost use Rattle.py_typed.specs.Statements.{variable};
 ghost use Rattle.ir_core.specs.Building.{Extends};
 ghost use Rattle.ir_builder_frames.specs.Calling.{Pushes};
 ghost use Rattle.ir_builder_frames.specs.Placing.{HasType};
 ghost use Rattle.ir_builder_frames.specs.Shaped.{Keeps};
 ghost use Rattle.ir_builder_frames.specs.Kinds.{KeepsKinds};
+ghost use Rattle.ir_builder_frames.specs.Lines.{OwnLines};
+ghost use Rattle.ir_builder_expressions.specs.Site.{setting_of};
 ghost use Rattle.ir_builder_expressions.specs.Reading.{reports_unbound, TestsSet, HasRegisters, EmitsLocal};
 
+use crate::site::Site;
 use c_core::{ErrPrim, Prim};
-use ir_builder_frames::{Emitter, Frame};
+use ir_builder_frames::Emitter;
 use ir_core::{Last, Lit, Op, PArg, RType, Reg};
-use py_typed::Var;
 use std::alloc::Global;
 use value_core::{Many, Memory, Text};
 
@@ -30,6 +31,7 @@ fn emit_unbound(b: &mut Emitter, alloc: Global, name: &str, line: usize) -> Resu
     ensures pushed { OnOk result (Pushes b.old b.new (reports_unbound name.now) line) }
     ensures shaped { Keeps b.old b.new }
     ensures kinds { KeepsKinds b.old b.new }
+    ensures lined { OwnLines line b.old b.new }
 {
     let name = text_of(alloc, name)?;
     let mut args = Many::new(alloc);
@@ -45,6 +47,7 @@ fn step_past(b: &mut Emitter) -> Result<usize, Memory>
     ensures empty { OnOk result (length b.new.ops ≡ 0) }
     ensures shaped { Keeps b.old b.new }
     ensures kinds { KeepsKinds b.old b.new }
+    ensures lined { (l : ℕ) → OwnLines l b.old b.new }
 {
     b.step_on()?;
     b.close(Last::Unreachable)?;
@@ -65,6 +68,7 @@ fn emit_flag_test(
     ensures tests { OnOk result (TestsSet b.old b.new flag.0 name.now) }
     ensures shaped { Keeps b.old b.new }
     ensures kinds { KeepsKinds b.old b.new }
+    ensures lined { OwnLines line b.old b.new }
 {
     let test = b.step_on()?;
     b.close(Last::Unreachable)?;
@@ -78,26 +82,20 @@ fn emit_flag_test(
 
 /// The register of a variable that is read (Python Language Reference, "Naming and binding"). One that is no parameter may be
 /// unset, and its flag is tested first.
-pub(crate) fn emit_local(
-    b: &mut Emitter,
-    alloc: Global,
-    locals: &[Var],
-    frame: Frame,
-    i: usize,
-    line: usize,
-) -> Result<Reg, Memory>
-    requires there { i < length locals.now }
-    requires room { HasRegisters (map variable locals.now) frame b.old }
+pub(crate) fn emit_local(b: &mut Emitter, site: Site, i: usize) -> Result<Reg, Memory>
+    requires there { i < length site.locals.now }
+    requires room { HasRegisters (setting_of site).variables site.frame b.old }
     ensures kept { Extends b.old b.new }
     ensures is { IfOk result (λ r. r.0 ≡ i) }
-    ensures emitted { OnOk result (EmitsLocal (map variable locals.now) frame i b.old b.new i) }
+    ensures emitted { OnOk result (EmitsLocal (setting_of site.entry).variables site.entry.frame i b.old b.new i) }
     ensures shaped { Keeps b.old b.new }
     ensures kinds { KeepsKinds b.old b.new }
+    ensures lined { OwnLines site.entry.line b.old b.new }
 {
-    if i < frame.locals.params {
+    if i < site.frame.locals.params {
         return Ok(Reg(i));
     }
-    let flag = frame.locals.flag(i);
-    emit_flag_test(b, alloc, flag, locals[i].name.as_str(), line)?;
+    let flag = site.frame.locals.flag(i);
+    emit_flag_test(b, site.alloc, flag, site.locals[i].name.as_str(), site.line)?;
     Ok(Reg(i))
 }

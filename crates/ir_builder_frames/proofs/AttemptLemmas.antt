@@ -1,36 +1,13 @@
 -- Operations that may fail: what they leave in registers, and where their exceptions go.
-use Rattle.std.specs.Prelude.{◌&&◌, map}
-use Rattle.std.proofs.Common.{◌≡◌, ℕ, ◌+◌, ◌<◌, ◌≤◌, true, false, cond, List, [], ◌∷◌, length, Option, Some, None, refl, sym, ap, ◌∙◌, subst, arith, le_refl}
+use Rattle.ir_builder_frames.proofs.Common.{◌&&◌, map, ◌≡◌, ℕ, ◌+◌, ◌<◌, ◌≤◌, true, false, cond, List, [], ◌∷◌, length, Option, Some, None, refl, sym, ap, ◌∙◌, subst, arith, le_refl, Thrown, Value, ExcVal, row_of, Primitive, Sort, State, Outcome, Gives, Raises, Stops, Stop, Does, on_to, RType, Reg, PArg, Var, Prim, Program, Item, Do, End, Failing, NeverFails, MayFail, AlwaysFails, failing, Declared, type_of_reg, edge_of_kind, edge_of_prim, kind_by_result, type_given, Held, Holds, Regs, put, error_of, World, Argument, Given, Effect, Fails, effect, Building, Frame, Waiting, Config, Runs, Ended, Stuck, Strict, read, arguments, typed, applied, is_tested, is_asked, is_clear, away, registers_of, item_at, handler_at, failed, step, put_same, put_other, op_step, Setting, rtype_of, Has, Placed, where_it_may, Adds, world, running, Ends, HaveKinds, Matches, SameLocals, HasRoom, IsThrown, CallsWork, Showing, Meaning, Arrives, Computes, ShowAll, ComputesAll, Attempts}
 use Rattle.value_core.specs.Ending.{Ending}
-use Rattle.value_core.specs.Exceptions.{Thrown}
-use Rattle.value_core.specs.Value.{Value, ExcVal}
-use Rattle.c_core.specs.Primitives.{row_of}
-use Rattle.c_core.specs.declared.primitive.Primitive.{Primitive}
-use Rattle.py_typed.specs.Sorts.{Sort}
-use Rattle.source_meaning.specs.State.{State, Outcome, Gives, Raises, Stops, Stop, Does, on_to}
 use Rattle.source_meaning.specs.SourceRun.{ending_by}
-use Rattle.ir_core.specs.declared.code.RType.{RType}
 use Rattle.ir_core.specs.declared.code.RType.TheVariants.{Int, I64, Bool as BoolType, Ref}
-use Rattle.ir_core.specs.declared.code.Reg.{Reg}
-use Rattle.ir_core.specs.declared.code.PArg.{PArg}
-use Rattle.ir_core.specs.declared.code.PArg.TheVariants.{Var}
-use Rattle.ir_core.specs.declared.code.Op.TheVariants.{Prim}
 use Rattle.ir_core.specs.declared.code.Last.TheVariants as last
-use Rattle.ir_core.specs.declared.code.Program.{Program}
 use Rattle.ir_core.specs.declared.kind.Edge.TheVariants.{Tests, TestsTwice}
-use Rattle.ir_core.specs.Items.{Item, Do, End}
-use Rattle.ir_core.specs.Rows.{Failing, NeverFails, MayFail, AlwaysFails, failing, Declared, type_of_reg, edge_of_kind, edge_of_prim, kind_by_result, type_given}
-use Rattle.ir_core.specs.Registers.{Held, Holds, Regs, put, error_of}
-use Rattle.ir_core.specs.Effects.{World, Argument, Given, Effect, Gives as Giving, Fails, Ends as Finishing, effect}
-use Rattle.ir_core.specs.Building.{Building}
-use Rattle.ir_core.specs.Meaning.{Frame, Waiting, Config, Runs, Ended, Stuck, Strict, read, arguments, typed, applied, is_tested, is_asked, is_clear, away, registers_of, item_at, handler_at, failed, step}
-use Rattle.ir_core.proofs.StepLemmas.{put_same, put_other, op_step}
-use Rattle.ir_builder_frames.specs.Settings.{Setting, rtype_of}
-use Rattle.ir_builder_frames.specs.Placing.{Has, Placed, where_it_may}
-use Rattle.ir_builder_frames.specs.Calling.{Adds}
-use Rattle.ir_builder_frames.specs.Coming.{world, running, Ends}
-use Rattle.ir_builder_frames.specs.Matching.{HaveKinds, HaveTypes as HaveValues, Matches, SameLocals, HasRoom, IsThrown, CallsWork}
-use Rattle.ir_builder_frames.specs.Computing.{Showing, Meaning, Arrives, Computes, ShowAll, HaveTypes, ComputesAll, Attempts}
+use Rattle.ir_core.specs.Effects.{Gives as Giving, Ends as Finishing}
+use Rattle.ir_builder_frames.specs.Matching.{HaveTypes as HaveValues}
+use Rattle.ir_builder_frames.specs.Computing.{HaveTypes}
 use Rattle.ir_builder_frames.specs.Operands.{ActsOnAll}
 use Rattle.ir_builder_frames.proofs.HeldLemmas.{extends_refl, extends_trans, has_less, type_below, type_has, adds_has, placed_part, guard_at}
 use Rattle.ir_builder_frames.proofs.ComingLemmas.{leads_step, ends_of, ends_map}
@@ -272,25 +249,6 @@ all_perform_with ts K go b c r t rs q args values a given by =
 pub all_perform : {line : ℕ} (ts : List Sort) (K : Showing) (go : List Value → Does Value) (b c : Building) (r : ℕ) (t : RType) (rs : List Reg) (q : Primitive) → HaveTypes b.regs ts rs → Adds b c r t (Prim (Some record { 0 = r }) q (all_registers rs)) line → ((vs : List Value) → HaveKinds ts vs → Performs K q (all_given vs) (go vs)) → Attempts K b c r t (ActsOnAll ts rs go)
 all_perform ts K go b c r t rs q types a by =
     all_perform_with ts K go b c r t rs q (all_registers rs) all_given a (λ p fn has regs vs shows. registers_given p fn b has ts vs regs rs types shows) by
-
--- behind the code of the registers' values
-pub all_attempt : (x : Setting) (ts : List Sort) (K : Showing) (u : RType) (m : Meaning (List Value)) (go : List Value → Does Value) (b0 b1 b2 : Building) (rs : List Reg) (r : ℕ) → HasRoom x b0 → ComputesAll x ts m b0 b1 rs → Attempts K b1 b2 r u (ActsOnAll ts rs go) → Computes x K u (λ n s. on_to (m n s) go) b0 b2 r
-all_attempt x ts K u m go b0 b1 b2 rs r room c made =
-    let k1 = c.extends.blocks_grow in
-    let l1 = c.extends.regs_grow in
-    record {
-      extends = extends_trans b0 b1 b2 c.extends made.extends;
-      type = made.type;
-      runs = λ p fn h at n calls regs below s match le.
-          let p1 = placed_part p fn b0 b0 b1 b2 h (le_refl _) made.extends at in
-          let p2 = placed_part p fn b0 b1 b2 b2 h k1 (extends_refl b2) at in
-          computes_all_then p fn h below x n calls ts m b0 b1 rs regs s go _ (length b0.regs) regs c p1 room (le_refl _) (λ j i z o. refl) match le
-          (λ now vs s1 le1 shows kept same match1.
-          ends_map p s1.turns _ (go vs s1) _ _ _ _
-          (λ z s2 d a. record { now = a.now; is = a.is; shows = a.shows; kept = λ j lt. a.kept j (omega arith) ∙ kept j lt; same = same_trans x s s1 s2 same a.same })
-          (λ z s2 d e. thrown_from fn h below x (length b0.regs) (length b1.regs) regs now z s2 d l1 (λ j i lt o. kept j lt) e)
-          (made.runs p fn h p2 x (room_on x b0 b1 c.extends room) now below s1 match1 (go vs s1) record { values = vs; shows = shows; does = refl }));
-    }
 
 -- ---- behind the code of two values
 

@@ -1,11 +1,6 @@
 -- How stretches of a run follow one another.
-use Rattle.std.proofs.Common.{◌≡◌, ℕ, ◌+◌, ◌≤◌, refl, sym, ap, ◌∙◌, subst, arith, le_refl}
-use Rattle.value_core.specs.Value.{Value}
-use Rattle.source_meaning.specs.State.{State, Outcome, Gives, Raises, Stops, Does, on_to}
-use Rattle.ir_core.specs.declared.code.Program.{Program}
-use Rattle.ir_core.specs.Meaning.{Config, Strict, step, steps}
+use Rattle.ir_builder_frames.proofs.Common.{◌≡◌, ℕ, ◌+◌, ◌≤◌, refl, sym, ap, ◌∙◌, subst, arith, le_refl, Value, State, Outcome, Gives, Raises, Stops, Does, on_to, Program, Config, Strict, step, steps, Leads, Ends}
 use Rattle.ir_core.proofs.RunLemmas.{steps_on}
-use Rattle.ir_builder_frames.specs.Coming.{Leads, Ends}
 
 module _ (p : Program) where
   pub leads_refl : (c : Config) → Leads p c c

@@ -1,41 +1,14 @@
 -- Reads and writes of the module's variables, which are a program's globals, and the types that they keep.
-use Rattle.std.proofs.Common.{◌≡◌, ◌≢◌, ℕ, zero, suc, ◌+◌, ◌<◌, true, false, not, cond, List, [], ◌∷◌, length, Option, Some, None, Result, Ok, Err, refl, sym, ap, ◌∙◌, subst, arith, ⊎_elim}
-use Rattle.std.specs.Prelude.{map, replicate, slice_get, slice_set, nat_lt, ◌++◌, codes}
-use Rattle.std.specs.List.{list_any, position_or_len}
-use Rattle.std.specs.Option.{option_and_then}
-use Rattle.std.specs.Str.{bytes_eq}
-use Rattle.std.proofs.lemmas.Bool.{cases_eq, lt-ltb}
-use Rattle.std.proofs.lemmas.List.{length-map}
-use Rattle.std.proofs.lemmas.Slice.Eq.{bytes_eq-Decides}
+use Rattle.ir_builder_frames.proofs.Common.{◌≡◌, ◌≢◌, ℕ, zero, suc, ◌+◌, ◌<◌, true, false, not, cond, List, [], ◌∷◌, length, Option, Some, None, Result, Ok, Err, refl, sym, ap, ◌∙◌, subst, arith, ⊎_elim, map, replicate, slice_get, slice_set, nat_lt, codes, list_any, position_or_len, option_and_then, bytes_eq, cases_eq, lt-ltb, length-map, bytes_eq-Decides, Thrown, Value, names_differ, bytes_eq-sym, Sort, State, Gives, raise_new, needs, put_global, set_global, RType, Reg, Prim, Program, Do, Declared, type_of_reg, Holds, Regs, Given, Written, Acts, number_of_global, global_at, got, stored, effect, Building, Waiting, Strict, read, arguments, registers_of, item_at, step, Setting, rtype_of, register_of, variable_registers, Adds, world, running, HasKind, MayHold, HasGlobals, Matches, HasRoom, Shows, Computes, Surrounding, IsOf, IsGlobal, ReadsGlobal, WritesGlobal, IsAmong}
+use Rattle.std.specs.Prelude.{◌++◌}
 use Rattle.value_core.specs.declared.exception.ExcClass.TheVariants.{NameError}
-use Rattle.value_core.specs.Exceptions.{Thrown}
-use Rattle.value_core.specs.Value.{Value}
 use Rattle.c_core.specs.declared.primitive.Primitive.TheVariants as prim
 use Rattle.c_core.specs.declared.primitive.GlobalPrim.TheVariants as global
 use Rattle.c_core.specs.Step.{not_defined}
-use Rattle.c_core.specs.WellFormed.{names_differ}
-use Rattle.c_core.proofs.NameLemmas.{bytes_eq-sym}
-use Rattle.py_typed.specs.Sorts.{Sort}
 use Rattle.py_typed.specs.Statements.{Variable, TypedModule}
-use Rattle.source_meaning.specs.State.{State, Gives, raise_new, needs, put_global, set_global}
 use Rattle.source_meaning.specs.ExpressionMeaning.{name_at, value_in, read_global}
-use Rattle.ir_core.specs.declared.code.RType.{RType}
-use Rattle.ir_core.specs.declared.code.Reg.{Reg}
 use Rattle.ir_core.specs.declared.code.PArg.TheVariants as arg
-use Rattle.ir_core.specs.declared.code.Op.TheVariants.{Prim}
-use Rattle.ir_core.specs.declared.code.Program.{Program}
-use Rattle.ir_core.specs.Items.{Do}
-use Rattle.ir_core.specs.Rows.{Declared, type_of_reg}
-use Rattle.ir_core.specs.Registers.{Holds, Regs}
-use Rattle.ir_core.specs.Effects.{Given, Written, Acts, number_of_global, global_at, got, stored, effect}
-use Rattle.ir_core.specs.Building.{Building}
-use Rattle.ir_core.specs.Meaning.{Waiting, Strict, read, arguments, registers_of, item_at, step}
-use Rattle.ir_builder_frames.specs.Settings.{Setting, rtype_of, register_of, variable_registers}
-use Rattle.ir_builder_frames.specs.Calling.{Adds}
-use Rattle.ir_builder_frames.specs.Coming.{world, running}
-use Rattle.ir_builder_frames.specs.Matching.{HasKind, MayHold, HaveTypes, HasGlobals, Matches, HasRoom}
-use Rattle.ir_builder_frames.specs.Computing.{Shows, Computes}
-use Rattle.ir_builder_frames.specs.Kinds.{Surrounding, IsOf, IsGlobal, ReadsGlobal, WritesGlobal, IsAmong}
+use Rattle.ir_builder_frames.specs.Matching.{HaveTypes}
 use Rattle.ir_builder_frames.proofs.HeldLemmas.{get_below}
 use Rattle.ir_builder_frames.proofs.NameLemmas.{or_false, not_false, and_parts}
 use Rattle.ir_builder_frames.proofs.StepLemmas.{read_is, acts_step}

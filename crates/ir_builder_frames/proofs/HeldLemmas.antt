@@ -1,20 +1,6 @@
 -- What stands in the function of what a builder holds.
-use Rattle.std.proofs.Common.{◌≡◌, ℕ, zero, suc, ◌<◌, ◌≤◌, List, [], ◌∷◌, ◌++◌, length, Option, Some, None, refl, sym, ap, ◌∙◌, subst, arith, length-append, le_refl, Result, Ok, Err, OnOk, OnErr, IfOk}
-use Rattle.std.specs.Prelude.{slice_get}
-use Rattle.std.specs.Option.{option_map}
-use Rattle.ir_core.specs.declared.code.Block.{Block}
-use Rattle.ir_core.specs.declared.code.Last.{Last}
-use Rattle.ir_core.specs.declared.code.Op.{Op}
-use Rattle.ir_core.specs.declared.code.Program.{Program}
-use Rattle.ir_core.specs.declared.code.RType.{RType}
-use Rattle.ir_core.specs.Items.{Do, handler_in}
-use Rattle.ir_core.specs.Rows.{type_of_reg}
-use Rattle.ir_core.specs.Building.{Building, ended_block, held, handled, Extends}
-use Rattle.ir_core.specs.Laws.{added, pushed, closed}
-use Rattle.ir_core.specs.Meaning.{item_at, handler_at, registers_of}
+use Rattle.ir_builder_frames.proofs.Common.{◌≡◌, ℕ, zero, suc, ◌<◌, ◌≤◌, List, [], ◌∷◌, ◌++◌, length, Option, Some, None, refl, sym, ap, ◌∙◌, subst, arith, length-append, le_refl, Result, Ok, Err, OnOk, OnErr, IfOk, slice_get, option_map, Block, Last, Op, Program, RType, Do, handler_in, type_of_reg, Building, ended_block, held, handled, Extends, added, pushed, closed, item_at, handler_at, registers_of, HasType, or_other, Has, Within, Placed, Declares, Adds, Pushes, Closes}
 use Rattle.ir_core.proofs.BuildingLemmas.{calls_extend}
-use Rattle.ir_builder_frames.specs.Placing.{HasType, or_other, Has, Within, Placed}
-use Rattle.ir_builder_frames.specs.Calling.{Declares, Adds, Pushes, Closes}
 
 pub extends_refl : (b : Building) → Extends b b
 extends_refl b = record { items = λ k i x e. e; regs = λ r d e. e; handlers = λ k l. refl; regs_grow = omega arith; blocks_grow = omega arith }

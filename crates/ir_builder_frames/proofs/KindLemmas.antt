@@ -1,24 +1,8 @@
 -- What keeps that operations and ends fit their registers: more registers, and each call of a builder.
-use Rattle.std.proofs.Common.{◌≡◌, ℕ, zero, suc, List, [], ◌∷◌, ◌++◌, Some, None, refl, sym, ap, ◌∙◌, subst, arith, Result, Ok, Err, OnOk, OnErr, ◌⊎◌, inl, inr, ⊎_elim}
-use Rattle.std.specs.Prelude.{slice_get}
-use Rattle.c_core.specs.declared.primitive.Primitive.{Primitive}
-use Rattle.c_core.specs.Primitives.{Is, Parameter, Borrows, TakesText, TakesDecimal}
-use Rattle.ir_core.specs.declared.code.RType.{RType}
+use Rattle.ir_builder_frames.proofs.Common.{◌≡◌, ℕ, zero, suc, List, [], ◌∷◌, ◌++◌, Some, None, refl, sym, ap, ◌∙◌, subst, arith, Result, Ok, Err, OnOk, OnErr, ◌⊎◌, inl, inr, ⊎_elim, slice_get, Primitive, Is, Parameter, Borrows, TakesText, TakesDecimal, RType, Reg, PArg, Op, Move, Lit, Prim, Call, Virtual, TraitCall, Turn, Inc, Dec, XDec, Last, Goto, If, IfError, Return, Unreachable, Block, Declared, Building, ended_block, with_last, Extends, added, pushed, closed, Declares, temporary_name, Surrounding, IsOf, AreArguments, Take, Answers, Reports, ReadsGlobal, WritesGlobal, Calls, LiteralFits, OpKinds, OpsKinds, LastKinds, BlocksKinds, HasKinds, KeepsKinds, KeepsKindsIf}
 use Rattle.ir_core.specs.declared.code.RType.TheVariants as rtype
 use Rattle.ir_core.specs.declared.code.Lit.{Lit as Literal}
-use Rattle.ir_core.specs.declared.code.Reg.{Reg}
-use Rattle.ir_core.specs.declared.code.PArg.{PArg}
 use Rattle.ir_core.specs.declared.code.PArg.TheVariants as arg
-use Rattle.ir_core.specs.declared.code.Op.{Op}
-use Rattle.ir_core.specs.declared.code.Op.TheVariants.{Move, Lit, Prim, Call, Virtual, TraitCall, Turn, Inc, Dec, XDec}
-use Rattle.ir_core.specs.declared.code.Last.{Last}
-use Rattle.ir_core.specs.declared.code.Last.TheVariants.{Goto, If, IfError, Return, Unreachable}
-use Rattle.ir_core.specs.declared.code.Block.{Block}
-use Rattle.ir_core.specs.Rows.{Declared}
-use Rattle.ir_core.specs.Building.{Building, ended_block, with_last, Extends}
-use Rattle.ir_core.specs.Laws.{added, pushed, closed}
-use Rattle.ir_builder_frames.specs.Calling.{Declares}
-use Rattle.ir_builder_frames.specs.Kinds.{temporary_name, Surrounding, IsOf, AreArguments, Take, Answers, Reports, ReadsGlobal, WritesGlobal, Calls, LiteralFits, OpKinds, OpsKinds, LastKinds, BlocksKinds, HasKinds, KeepsKinds, KeepsKindsIf}
 use Rattle.ir_builder_frames.proofs.HeldLemmas.{type_kept, added_extends}
 
 -- ---- more registers

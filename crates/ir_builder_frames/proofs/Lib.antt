@@ -8,3 +8,5 @@ pub mod AttemptLemmas
 pub mod KindLemmas
 pub mod NameLemmas
 pub mod GlobalLemmas
+pub mod Common
+pub mod LineLemmas

@@ -1,23 +1,7 @@
 -- What stays of a frame while a part runs, and what comes behind the code of a value.
-use Rattle.std.proofs.Common.{◌≡◌, ℕ, ◌<◌, ◌≤◌, Bool, true, false, List, length, Option, Some, None, refl, sym, ap, ◌∙◌, subst, arith, le_refl}
+use Rattle.ir_builder_frames.proofs.Common.{◌≡◌, ℕ, ◌<◌, ◌≤◌, Bool, true, false, List, length, Option, Some, None, refl, sym, ap, ◌∙◌, subst, arith, le_refl, nat_lt, if◌then◌else◌, slice_get, Thrown, Value, BoolVal, ExcVal, Sort, State, Outcome, Gives, Does, on_to, Program, RType, Reg, Held, Holds, Regs, Building, Extends, Waiting, Config, handler_at, away, Setting, rtype_of, Has, Placed, world, running, Ends, Keeps, flag_of, flag_in, Matches, SameLocals, BackBelow, HasRoom, SameIn, Stands, IsThrown, CallsWork, Showing, Meaning, Arrives, Computes, ArrivesAll, ComputesAll, Makes}
 use Rattle.std.proofs.lemmas.Bool.Decides.{nat_tests}
-use Rattle.std.specs.Prelude.{nat_lt, if◌then◌else◌, slice_get}
-use Rattle.value_core.specs.Exceptions.{Thrown}
-use Rattle.value_core.specs.Value.{Value, BoolVal, ExcVal}
-use Rattle.py_typed.specs.Sorts.{Sort}
-use Rattle.source_meaning.specs.State.{State, Outcome, Gives, Does, on_to}
-use Rattle.ir_core.specs.declared.code.Program.{Program}
-use Rattle.ir_core.specs.declared.code.RType.{RType}
 use Rattle.ir_core.specs.declared.code.RType.TheVariants as rtype
-use Rattle.ir_core.specs.declared.code.Reg.{Reg}
-use Rattle.ir_core.specs.Registers.{Held, Holds, Regs}
-use Rattle.ir_core.specs.Building.{Building, Extends}
-use Rattle.ir_core.specs.Meaning.{Waiting, Config, handler_at, away}
-use Rattle.ir_builder_frames.specs.Settings.{Setting, rtype_of}
-use Rattle.ir_builder_frames.specs.Placing.{Has, Placed}
-use Rattle.ir_builder_frames.specs.Coming.{world, running, Ends}
-use Rattle.ir_builder_frames.specs.Matching.{Keeps, flag_of, flag_in, Matches, SameLocals, BackBelow, HasRoom, SameIn, Stands, IsThrown, CallsWork}
-use Rattle.ir_builder_frames.specs.Computing.{Showing, Meaning, Arrives, Computes, ArrivesAll, ComputesAll, Makes}
 use Rattle.ir_builder_frames.proofs.HeldLemmas.{type_kept, get_below}
 use Rattle.ir_builder_frames.proofs.ComingLemmas.{ends_on, ends_at, ends_of, ends_lead}
 

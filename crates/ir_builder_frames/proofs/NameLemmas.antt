@@ -1,21 +1,8 @@
 -- A temporary name is one that no register has.
-use Rattle.std.proofs.Common.{◌≡◌, ℕ, zero, suc, ◌+◌, ◌^◌, ◌<◌, ◌≤◌, Bool, true, false, not, List, [], ◌∷◌, ◌++◌, take, Some, refl, sym, ap, ◌∙◌, subst, arith, length-append, Result, Ok, Err, OnOk, OnErr}
-use Rattle.std.specs.Prelude.{slice_get, ◌&&◌, ◌||◌, codes, decimal}
-use Rattle.std.specs.List.{list_any}
-use Rattle.std.specs.Str.{bytes_eq}
-use Rattle.std.proofs.Common.{⊎_elim}
+use Rattle.ir_builder_frames.proofs.Common.{◌≡◌, ℕ, zero, suc, ◌+◌, ◌^◌, ◌<◌, ◌≤◌, Bool, true, false, not, List, [], ◌∷◌, ◌++◌, take, Some, refl, sym, ap, ◌∙◌, subst, arith, length-append, Result, Ok, Err, OnOk, OnErr, slice_get, ◌&&◌, ◌||◌, codes, decimal, list_any, bytes_eq, ⊎_elim, append_cancel_left, bytes_eq-Decides, names_differ, bytes_eq-sym, RType, Declared, Building, added, temporary_name}
 use Rattle.std.proofs.lemmas.Fmt.{decimal_injective}
-use Rattle.std.proofs.lemmas.List.{append_cancel_left}
 use Rattle.std.proofs.lemmas.List.Folds.{list_any-append}
-use Rattle.std.proofs.lemmas.Slice.Eq.{bytes_eq-Decides}
-use Rattle.c_core.specs.WellFormed.{names_differ}
-use Rattle.c_core.proofs.NameLemmas.{bytes_eq-sym}
 use Rattle.c_core.proofs.WellFormedLemmas.{any_name}
-use Rattle.ir_core.specs.declared.code.RType.{RType}
-use Rattle.ir_core.specs.Rows.{Declared}
-use Rattle.ir_core.specs.Building.{Building}
-use Rattle.ir_core.specs.Laws.{added}
-use Rattle.ir_builder_frames.specs.Kinds.{temporary_name}
 use Rattle.ir_builder_frames.specs.Naming.{names_of, AreNamed}
 use Rattle.ir_builder_frames.proofs.KindLemmas.{get_behind}
 

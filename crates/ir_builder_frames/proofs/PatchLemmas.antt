@@ -1,16 +1,5 @@
 -- The end of an open block is written.
-use Rattle.std.proofs.Common.{◌≡◌, ◌≢◌, ℕ, zero, suc, ◌<◌, ◌≤◌, List, [], ◌∷◌, length, Some, None, refl, sym, ap, ◌∙◌, subst, arith, ⊎_elim, ◌⊎◌, inl, inr}
-use Rattle.ir_core.specs.declared.code.Block.{Block}
-use Rattle.ir_core.specs.declared.code.Last.{Last}
-use Rattle.ir_core.specs.declared.code.Last.TheVariants.{Unreachable}
-use Rattle.ir_core.specs.declared.code.Op.{Op}
-use Rattle.ir_core.specs.declared.code.Program.{Program}
-use Rattle.ir_core.specs.Items.{Item, Do, End, in_block, handler_in}
-use Rattle.ir_core.specs.Building.{Building, with_last, in_open, held_in, held, Extends}
-use Rattle.ir_core.specs.Laws.{closed}
-use Rattle.ir_core.specs.Meaning.{item_at}
-use Rattle.ir_builder_frames.specs.Placing.{Has}
-use Rattle.ir_builder_frames.specs.Calling.{Open, Closes, Patches}
+use Rattle.ir_builder_frames.proofs.Common.{◌≡◌, ◌≢◌, ℕ, zero, suc, ◌<◌, ◌≤◌, List, [], ◌∷◌, length, Some, None, refl, sym, ap, ◌∙◌, subst, arith, ⊎_elim, ◌⊎◌, inl, inr, Block, Last, Unreachable, Op, Program, Item, Do, End, in_block, handler_in, Building, with_last, in_open, held_in, held, Extends, closed, item_at, Has, Open, Closes, Patches}
 use Rattle.ir_builder_frames.proofs.HeldLemmas.{closes}
 
 open_no_end : (os : List (Op × ℕ)) (i : ℕ) (l : Last) → in_open os i ≡ Some (End l) → ⊥

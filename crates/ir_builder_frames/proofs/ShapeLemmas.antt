@@ -1,25 +1,8 @@
 -- Each call of a builder keeps the shape.
-use Rattle.std.proofs.Common.{◌≡◌, ℕ, zero, suc, ◌+◌, ◌<◌, ◌≤◌, List, [], ◌∷◌, ◌++◌, length, Some, refl, sym, ap, ◌∙◌, subst, arith, Result, Ok, Err, OnOk, OnErr, inl}
-use Rattle.ir_core.specs.declared.code.Block.{Block}
-use Rattle.ir_core.specs.declared.code.Op.{Op}
-use Rattle.ir_core.specs.declared.code.Last.{Last}
-use Rattle.ir_core.specs.declared.code.Last.TheVariants.{Goto, If, IfError, Return, Unreachable}
-use Rattle.ir_core.specs.declared.code.Reg.{Reg}
-use Rattle.ir_core.specs.declared.code.PArg.{PArg}
-use Rattle.ir_core.specs.declared.code.PArg.TheVariants.{Var, Number, Text, Global, Class}
-use Rattle.ir_core.specs.declared.code.Op.TheVariants.{Prim, Call}
-use Rattle.c_core.specs.declared.primitive.Primitive.{Primitive}
-use Rattle.c_core.specs.Primitives.{Is, OfGlobal, OfSlot, Outcome, Nothing, Owned, Lent, row_of}
-use Rattle.std.proofs.Common.{Bool, true, false, nat_eq}
-use Rattle.std.proofs.lemmas.Bool.{ne_eqb}
-use Rattle.std.specs.Prelude.{IsTrue, not, ◌&&◌, ◌||◌}
-use Rattle.std.specs.List.{list_any}
-use Rattle.ir_core.specs.Rows.{Failing, NeverFails, MayFail, AlwaysFails, failing}
+use Rattle.ir_builder_frames.proofs.Common.{◌≡◌, ℕ, zero, suc, ◌+◌, ◌<◌, ◌≤◌, List, [], ◌∷◌, ◌++◌, length, Some, refl, sym, ap, ◌∙◌, subst, arith, Result, Ok, Err, OnOk, OnErr, inl, Block, Op, Last, Goto, If, IfError, Return, Unreachable, Reg, PArg, Var, Number, Text, Global, Class, Prim, Call, Primitive, Is, OfGlobal, OfSlot, Nothing, Owned, Lent, row_of, Bool, true, false, nat_eq, ne_eqb, IsTrue, ◌&&◌, ◌||◌, list_any, Failing, NeverFails, MayFail, AlwaysFails, failing, Do, End, in_block, Building, ended_block, held_in, held, with_last, pushed, closed, where_it_may}
+use Rattle.c_core.specs.Primitives.{Outcome}
+use Rattle.std.specs.Prelude.{not}
 use Rattle.ir_core.specs.Shape.{is_target_of, is_register, is_argument}
-use Rattle.ir_core.specs.Items.{Do, End, in_block}
-use Rattle.ir_core.specs.Building.{Building, ended_block, held_in, held, with_last}
-use Rattle.ir_core.specs.Laws.{pushed, closed}
-use Rattle.ir_builder_frames.specs.Placing.{where_it_may}
 use Rattle.ir_builder_frames.specs.Shaped.{Above, AreBelow, AllBelow, OpFits, OpsFit, GoesOn, EndFits, AllFit, Shaped, KeepsIf}
 
 on_fits : (n m k : ℕ) (ops : List (Op × ℕ)) (l : Last) → GoesOn n m k l → EndFits n m k ops l

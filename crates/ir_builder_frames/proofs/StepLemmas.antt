@@ -1,27 +1,7 @@
 -- Single operations, and what they leave in registers.
-use Rattle.std.proofs.Common.{◌≡◌, ℕ, ◌+◌, ◌<◌, List, [], ◌∷◌, length, Some, None, refl, sym, ap, ◌∙◌, arith}
-use Rattle.std.specs.Option.{option_map, option_and_then}
-use Rattle.value_core.specs.Value.{Value}
-use Rattle.c_core.specs.declared.primitive.Primitive.{Primitive}
-use Rattle.source_meaning.specs.State.{State}
-use Rattle.ir_core.specs.declared.code.RType.{RType}
-use Rattle.ir_core.specs.declared.code.PArg.{PArg}
-use Rattle.ir_core.specs.declared.code.PArg.TheVariants.{Var}
+use Rattle.ir_builder_frames.proofs.Common.{◌≡◌, ℕ, ◌+◌, ◌<◌, List, [], ◌∷◌, length, Some, None, refl, sym, ap, ◌∙◌, arith, option_map, option_and_then, Value, Primitive, State, RType, PArg, Var, Op, Lit, Prim, Program, Do, NeverFails, failing, Declared, type_of_reg, Held, Holds, Regs, put, literal_of, look, World, Argument, Given, Acts, effect, Waiting, Strict, value_of, read, arguments, registers_of, item_at, step, Building, put_same, put_other, op_step, lit_step, HasType, Has, Adds, world, running, Makes}
 use Rattle.ir_core.specs.declared.code.Lit.{Lit as Literal}
-use Rattle.ir_core.specs.declared.code.Op.{Op}
-use Rattle.ir_core.specs.declared.code.Op.TheVariants.{Lit, Prim}
-use Rattle.ir_core.specs.declared.code.Program.{Program}
-use Rattle.ir_core.specs.Items.{Do}
-use Rattle.ir_core.specs.Rows.{NeverFails, failing, Declared, type_of_reg}
-use Rattle.ir_core.specs.Registers.{Held, Holds, Regs, put, literal_of, look}
-use Rattle.ir_core.specs.Effects.{World, Argument, Given, Gives, Acts, effect}
-use Rattle.ir_core.specs.Meaning.{Waiting, Strict, value_of, read, arguments, registers_of, item_at, step}
-use Rattle.ir_core.specs.Building.{Building}
-use Rattle.ir_core.proofs.StepLemmas.{put_same, put_other, op_step, lit_step}
-use Rattle.ir_builder_frames.specs.Placing.{HasType, Has}
-use Rattle.ir_builder_frames.specs.Calling.{Adds}
-use Rattle.ir_builder_frames.specs.Coming.{world, running}
-use Rattle.ir_builder_frames.specs.Computing.{Makes}
+use Rattle.ir_core.specs.Effects.{Gives}
 use Rattle.ir_builder_frames.proofs.HeldLemmas.{extends_trans, has_less, type_has, adds_has}
 use Rattle.ir_builder_frames.proofs.ComingLemmas.{leads_step, leads_trans}
 
@@ -30,12 +10,6 @@ look_is declared regs x t e = ap (option_map (λ (u : RType). regs x)) e
 
 pub read_is : (declared : Declared) (regs : Regs) (x : ℕ) (t : RType) (v : Value) → type_of_reg declared (record { 0 = x }) ≡ Some t → regs x ≡ Holds v → read declared regs (record { 0 = x }) ≡ Some v
 read_is declared regs x t v e is = ap (option_and_then value_of) (look_is declared regs x t e) ∙ ap value_of is
-
-one_argument : (declared : Declared) (regs : Regs) (x : ℕ) (v : Value) → read declared regs (record { 0 = x }) ≡ Some v → arguments declared regs (Var record { 0 = x } ∷ []) ≡ Some (Given v ∷ [])
-one_argument declared regs x v e = rw e refl
-
-pub two_arguments : (declared : Declared) (regs : Regs) (x y : ℕ) (u v : Value) → read declared regs (record { 0 = x }) ≡ Some u → read declared regs (record { 0 = y }) ≡ Some v → arguments declared regs (Var record { 0 = x } ∷ Var record { 0 = y } ∷ []) ≡ Some (Given u ∷ Given v ∷ [])
-two_arguments declared regs x y u v e f = rw (e, f) refl
 
 module _ (p : Program) (fn k i : ℕ) (regs : Regs) (below : List Waiting) (s : State) where
   pub prim_step : {line : ℕ} (r : ℕ) (q : Primitive) (args : List PArg) (t : RType) (xs : List Argument) (v : Value) → item_at p fn k i ≡ Some (Do (Prim (Some record { 0 = r }) q args) line) → type_of_reg (registers_of p fn) (record { 0 = r }) ≡ Some t → arguments (registers_of p fn) regs args ≡ Some xs → failing q ≡ NeverFails → effect p q xs (world None s) ≡ Gives v (world None s) → step Strict p (running fn k i regs below (world None s)) ≡ running fn k (i + 1) (put regs r (Holds v)) below (world None s)

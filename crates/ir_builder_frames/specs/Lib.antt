@@ -8,3 +8,4 @@ pub mod Operands
 pub mod Shaped
 pub mod Kinds
 pub mod Naming
+pub mod Lines

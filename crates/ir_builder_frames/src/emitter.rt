@@ -1,5 +1,5 @@
 //! The code of a function while it is made.
-ghost use Rattle.std.specs.Prelude.{◌≡◌, ◌⊎◌, ◌<◌, ◌+◌, ◌^◌, ◌≤◌, [], ◌∷◌, ◌++◌, length, take, OnOk, IfOk, Some, true, false, IsTrue};
+ghost use Rattle.std.specs.Prelude.{◌≡◌, ℕ, ◌⊎◌, ◌<◌, ◌+◌, ◌^◌, ◌≤◌, [], ◌∷◌, ◌++◌, length, take, OnOk, IfOk, Some, true, false, IsTrue};
 ghost use Rattle.std.specs.List.{list_any};
 ghost use Rattle.std.specs.Str.{bytes_eq};
 ghost use Rattle.c_core.specs.WellFormed.{names_differ};
@@ -11,6 +11,7 @@ ghost use Rattle.ir_core.specs.Shape.{is_target_of};
 ghost use Rattle.ir_builder_frames.specs.Calling.{Declares, Adds, Pushes, Closes};
 ghost use Rattle.ir_builder_frames.specs.Shaped.{OpFits, EndFits, GoesOn, KeepsIf, Keeps, AreBelow, AllBelow};
 ghost use Rattle.ir_builder_frames.specs.Kinds.{temporary_name, LiteralFits, OpKinds, LastKinds, Answers, ReadsGlobal, Calls, KeepsKinds, KeepsKindsIf};
+ghost use Rattle.ir_builder_frames.specs.Lines.{EndsOn, OwnLines};
 ghost use Rattle.ir_builder_frames.specs.Naming.{names_of};
 
 use c_core::Prim;
@@ -61,6 +62,7 @@ impl Emitter {
         ensures declared { IfOk result (λ r. Declares self.old self.new r.0 t) }
         ensures shaped { Keeps self.old self.new }
         ensures kinds { KeepsKinds self.old self.new }
+        ensures lined { (l : ℕ) → OwnLines l self.old self.new }
     {
         let (name, number) = fresh_name(self.alloc, &self.builder, self.variables, self.next)?;
         self.next = number + 1;
@@ -74,6 +76,7 @@ impl Emitter {
         ensures is { OnOk result (self.new ≡ pushed self.old (op, line)) }
         ensures shaped { KeepsIf (λ n m. OpFits n op) self.old self.new }
         ensures kinds { KeepsKindsIf (λ g. OpKinds g self.old.regs op) self.old self.new }
+        ensures lined { OwnLines line self.old self.new }
     {
         self.builder.push(op, line)
     }
@@ -85,6 +88,7 @@ impl Emitter {
         ensures closed { OnOk result (Closes self.old self.new last) }
         ensures shaped { KeepsIf (λ n m. EndFits n m (length self.old.blocks) self.old.ops last) self.old self.new }
         ensures kinds { KeepsKindsIf (λ g. LastKinds g self.old.regs last) self.old self.new }
+        ensures lined { (l : ℕ) → EndsOn l last → OwnLines l self.old self.new }
     {
         self.builder.end_block(last)
     }
@@ -103,6 +107,7 @@ impl Emitter {
         ensures closed { IfOk result (λ k. Closes self.old self.new (Last.Goto k)) }
         ensures shaped { Keeps self.old self.new }
         ensures kinds { KeepsKinds self.old self.new }
+        ensures lined { (l : ℕ) → OwnLines l self.old self.new }
     {
         let before = self.builder.end_block(Last::Unreachable)?;
         let next = self.builder.here();
@@ -119,6 +124,7 @@ impl Emitter {
         ensures shaped { KeepsIf (λ n m. GoesOn n m block last) self.old self.new }
         ensures alone { held self.old block 0 ≡ Some (End Last.Unreachable) → KeepsIf (λ n m. EndFits n m block [] last) self.old self.new }
         ensures kinds { KeepsKindsIf (λ g. LastKinds g self.old.regs last) self.old self.new }
+        ensures lined { (l : ℕ) → EndsOn l last → OwnLines l self.old self.new }
     {
         self.builder.set_last(block, last);
     }
@@ -137,6 +143,7 @@ impl Emitter {
         ensures added { IfOk result (λ r. Adds self.old self.new r.0 t (Op.Lit r literal) line) }
         ensures shaped { Keeps self.old self.new }
         ensures kinds { KeepsKindsIf (λ g. LiteralFits t literal) self.old self.new }
+        ensures lined { OwnLines line self.old self.new }
     {
         let r = self.temporary(t)?;
         self.push(Op::Lit(r, literal), line)?;
@@ -157,6 +164,7 @@ impl Emitter {
         ensures added { IfOk result (λ r. Adds self.old self.new r.0 t (Op.Prim (Some r) primitive args) line) }
         ensures shaped { Keeps self.old self.new }
         ensures kinds { KeepsKindsIf (λ g. Answers t self.old.regs primitive args ⊎ ReadsGlobal g t primitive args) self.old self.new }
+        ensures lined { OwnLines line self.old self.new }
     {
         let r = self.temporary(t)?;
         self.push(Op::Prim(Some(r), primitive, args), line)?;
@@ -176,6 +184,7 @@ impl Emitter {
         ensures added { IfOk result (λ r. Adds self.old self.new r.0 t (Op.Call r function args) line) }
         ensures shaped { Keeps self.old self.new }
         ensures kinds { KeepsKindsIf (λ g. Calls g t self.old.regs function args) self.old self.new }
+        ensures lined { OwnLines line self.old self.new }
     {
         let r = self.temporary(t)?;
         self.push(Op::Call(r, function, args), line)?;

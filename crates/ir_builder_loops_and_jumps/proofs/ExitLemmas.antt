@@ -29,9 +29,6 @@ stays_by b c from to x = record { open_still = λ k i l h e. x.items k i (End Un
 pub stays_trans : (a b c : Building) (from to : ℕ) → Stays a b from to → Stays b c from to → Stays a c from to
 stays_trans a b c from to s t = record { open_still = λ k i l h e. t.open_still k i l h (s.open_still k i l h e) }
 
-pub stays_patch : (b c : Building) (from to k : ℕ) (l : Last) → to ≤ k → Patches b c k l → Stays b c from to
-stays_patch b c from to k l le q = record { open_still = λ j i a h e. q.others j i (End Unreachable) (λ z. omega arith) e }
-
 pub stays_patch_below : (b c : Building) (from to k : ℕ) (l : Last) → k < from → Patches b c k l → Stays b c from to
 stays_patch_below b c from to k l lt q = record { open_still = λ j i a h e. q.others j i (End Unreachable) (λ z. omega arith) e }
 

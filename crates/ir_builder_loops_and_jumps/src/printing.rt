@@ -11,6 +11,7 @@ ghost use Rattle.ir_builder_frames.specs.Placing.{HasType};
 ghost use Rattle.ir_builder_frames.specs.Settings.{rtype_of};
 ghost use Rattle.ir_builder_frames.specs.Shaped.{Keeps};
 ghost use Rattle.ir_builder_frames.specs.Kinds.{KeepsKinds};
+ghost use Rattle.ir_builder_frames.specs.Lines.{OwnLines};
 ghost use Rattle.ir_builder_operations.specs.Operating.{is_written};
 ghost use Rattle.ir_builder_loops_and_jumps.specs.Printing.{writes_of, item_text, WritesText, WritesOne, Writes};
 
@@ -29,6 +30,7 @@ fn emit_write(b: &mut Emitter, alloc: Global, r: Reg, line: usize) -> Result<(),
     ensures pushed { OnOk result (Pushes b.old b.new (writes_of r) line) }
     ensures shaped { Keeps b.old b.new }
     ensures kinds { KeepsKinds b.old b.new }
+    ensures lined { OwnLines line b.old b.new }
 {
     let mut written = Many::new(alloc);
     written.push(PArg::Var(r))?;
@@ -41,6 +43,7 @@ fn emit_literal(b: &mut Emitter, alloc: Global, text: &str, line: usize) -> Resu
     ensures writes { OnOk result (WritesText b.old b.new text.now) }
     ensures shaped { Keeps b.old b.new }
     ensures kinds { KeepsKinds b.old b.new }
+    ensures lined { OwnLines line b.old b.new }
 {
     let r = emit_text(b, alloc, text, line)?;
     emit_write(b, alloc, r, line)
@@ -54,6 +57,7 @@ fn emit_value(b: &mut Emitter, alloc: Global, t: &Ty, x: Reg, line: usize) -> Re
     ensures writes { OnOk result (WritesOne (sort t.now) x.0 b.old b.new text_of) }
     ensures shaped { Keeps b.old b.new }
     ensures kinds { KeepsKinds b.old b.new }
+    ensures lined { OwnLines line b.old b.new }
 {
     let r = emit_text_of(b, alloc, t, x, line)?;
     emit_write(b, alloc, r, line)
@@ -74,6 +78,7 @@ fn emit_item(
     ensures writes { OnOk result (WritesOne (sort t.now) x.0 b.old b.new (item_text i)) }
     ensures shaped { Keeps b.old b.new }
     ensures kinds { KeepsKinds b.old b.new }
+    ensures lined { OwnLines line b.old b.new }
 {
     if i == 0 {
         return emit_value(b, alloc, t, x, line);
@@ -97,6 +102,7 @@ pub fn emit_print(
     ensures writes { OnOk result (Writes (map type_of (map typed_expr values.now)) regs.now b.old b.new line_of) }
     ensures shaped { Keeps b.old b.new }
     ensures kinds { KeepsKinds b.old b.new }
+    ensures lined { OwnLines line b.old b.new }
 {
     for i in 0..regs.len() {
         emit_item(b, alloc, i, &values[i].ty, regs[i], line)?;

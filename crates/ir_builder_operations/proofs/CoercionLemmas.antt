@@ -1,35 +1,10 @@
 -- What primitives make of a number or a bool of one type is what the source makes of it at the other type.
-use Rattle.std.proofs.Common.{◌≡◌, refl, sym, ap, subst, ℕ, Bool, true, false, cond, [], ◌∷◌, Some, None, Result, Ok, Err}
-use Rattle.std.specs.Prelude.{ℤ, pos, if◌then◌else◌}
-use Rattle.value_core.specs.declared.arith.Arith.{Arith}
-use Rattle.value_core.specs.declared.arith.Arith.TheVariants.{Overflow, OutOfRange}
-use Rattle.value_core.specs.Arithmetic.{lies_within, int_to_i64}
-use Rattle.value_core.specs.Value.{Value, IntVal, BoolVal}
+use Rattle.ir_builder_operations.proofs.Common.{◌≡◌, refl, sym, ap, subst, ℕ, Bool, true, false, cond, [], ◌∷◌, Some, None, Result, Ok, Err, ℤ, pos, if◌then◌else◌, Arith, Overflow, OutOfRange, lies_within, int_to_i64, Value, IntVal, BoolVal, int64_exception, Sort, State, Gives, fitting, coerced, wider, Reg, World, Given, truth_number, fitted, Declared, type_of_reg, Building, rtype_of, HasType, HasKind, Shows, HaveTypes, Attempts, ActsOnAll, Answer, Answers, Throws, effect_of, outcome_of, ShownIfGiven, Performs, performs, Operation, BoolToInt, BoolToNative, NativeToInt, IntToNative, is_whole, ActsOn, is_known, operands_of, result_of, goes, coercion}
 use Rattle.c_core.specs.declared.primitive.Primitive.TheVariants as prim
 use Rattle.c_core.specs.declared.primitive.Int64Prim.TheVariants as int64
 use Rattle.c_core.specs.declared.primitive.TaggedPrim.TheVariants as tagged
-use Rattle.c_core.specs.Step.{int64_exception}
 use Rattle.py_typed.specs.Fits.{is_number}
 use Rattle.py_typed.specs.Sorts as sort
-use Rattle.py_typed.specs.Sorts.{Sort}
-use Rattle.source_meaning.specs.State.{State, Gives}
-use Rattle.source_meaning.specs.Operations.{fitting, coerced}
-use Rattle.source_meaning.proofs.RangeLemmas.{wider}
-use Rattle.ir_core.specs.declared.code.Reg.{Reg}
-use Rattle.ir_core.specs.Effects.{World, Given, truth_number, fitted}
-use Rattle.ir_core.specs.Rows.{Declared, type_of_reg}
-use Rattle.ir_core.specs.Building.{Building}
-use Rattle.ir_builder_frames.specs.Settings.{rtype_of}
-use Rattle.ir_builder_frames.specs.Placing.{HasType}
-use Rattle.ir_builder_frames.specs.Matching.{HasKind}
-use Rattle.ir_builder_frames.specs.Computing.{Shows, HaveTypes, Attempts}
-use Rattle.ir_builder_frames.specs.Operands.{ActsOnAll}
-use Rattle.ir_builder_frames.proofs.AttemptLemmas.{Answer, Answers, Throws, effect_of, outcome_of, ShownIfGiven, Performs, performs}
-use Rattle.ir_builder_operations.specs.declared.operation.Operation.{Operation}
-use Rattle.ir_builder_operations.specs.declared.operation.Operation.TheVariants.{BoolToInt, BoolToNative, NativeToInt, IntToNative}
-use Rattle.ir_builder_operations.specs.Operating.{is_whole, ActsOn}
-use Rattle.ir_builder_operations.specs.Rows.{is_known, operands_of, result_of, goes}
-use Rattle.ir_builder_operations.specs.Converting.{coercion}
 use Rattle.ir_builder_operations.proofs.KindLemmas.{by_int, by_i64}
 use Rattle.ir_builder_operations.proofs.PartLemmas.{as_one, stays}
 use Rattle.ir_builder_operations.proofs.NativeLemmas.{native_kept}

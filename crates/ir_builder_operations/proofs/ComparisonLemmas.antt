@@ -1,25 +1,10 @@
 -- What primitives find in two values of one type is what the source finds in them.
-use Rattle.std.proofs.Common.{◌≡◌, refl, sym, ap, subst, ℕ, arith, Bool, true, List, [], ◌∷◌}
-use Rattle.std.proofs.lemmas.Bool.Decides.{nat_tests}
-use Rattle.std.specs.Prelude.{ℤ, pos, negsuc, not, ◌&&◌, int_lt}
-use Rattle.std.specs.Ordering.{int_eq}
-use Rattle.value_core.specs.Value.{Value, IntVal, BoolVal, StrVal}
-use Rattle.c_core.specs.declared.primitive.Primitive.{Primitive}
+use Rattle.ir_builder_operations.proofs.Common.{◌≡◌, refl, sym, ap, subst, ℕ, arith, Bool, true, List, [], ◌∷◌, nat_tests, ℤ, pos, negsuc, not, ◌&&◌, int_lt, int_eq, Value, IntVal, BoolVal, StrVal, Primitive, on_to, give, needs, are_alike, Program, failing, NeverFails, World, Given, effect, Shows, Answers, Allows, Performs, performs, Equal, Less, AtMost, Ints, Natives, Texts, tested, compares, inverts, test_primitive}
 use Rattle.c_core.specs.declared.primitive.Primitive.TheVariants as prim
 use Rattle.c_core.specs.declared.primitive.BoolPrim.TheVariants as bool
 use Rattle.py_typed.specs.Sorts as sort
-use Rattle.source_meaning.specs.State.{on_to, give, needs}
-use Rattle.source_meaning.specs.Operations.{are_alike}
-use Rattle.ir_core.specs.declared.code.Program.{Program}
-use Rattle.ir_core.specs.Rows.{failing, NeverFails}
-use Rattle.ir_core.specs.Effects.{World, Given, Gives as Giving, effect}
-use Rattle.ir_builder_frames.specs.Computing.{Shows}
-use Rattle.ir_builder_frames.proofs.AttemptLemmas.{Answers, Allows, Performs, performs}
+use Rattle.ir_core.specs.Effects.{Gives as Giving}
 use Rattle.ir_builder_operations.specs.declared.operation.Test.{Test}
-use Rattle.ir_builder_operations.specs.declared.operation.Test.TheVariants.{Equal, Less, AtMost}
-use Rattle.ir_builder_operations.specs.declared.operation.Compared.TheVariants.{Ints, Natives, Texts}
-use Rattle.ir_builder_operations.specs.Rows.{tested, compares, inverts}
-use Rattle.ir_builder_operations.specs.Selecting.{test_primitive}
 use Rattle.ir_builder_operations.proofs.TextLemmas.{text_less_is}
 
 same_number : (a b : ℤ) → (not (int_lt a b) && not (int_lt b a)) ≡ int_eq a b

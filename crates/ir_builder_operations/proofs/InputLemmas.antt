@@ -1,22 +1,12 @@
 -- A line of input is read as the source reads it: it is a value, an exception is raised, or the run ends.
-use Rattle.std.proofs.Common.{refl, []}
-use Rattle.std.specs.Prelude.{codes}
-use Rattle.value_core.specs.declared.exception.ExcClass.TheVariants.{ValueError, EOFError}
+use Rattle.ir_builder_operations.proofs.Common.{refl, [], codes, ValueError, EOFError, thrown, StrVal, State, look, set_items, next_line, line_read, world, Shows, Answers, Throws, Finishes, leaves_all, ActsAs, Performs}
 use Rattle.value_core.specs.Ending.{Over, Broken}
-use Rattle.value_core.specs.Exceptions.{thrown}
 use Rattle.value_core.specs.Items as item
 use Rattle.value_core.specs.Items.{Items}
-use Rattle.value_core.specs.Value.{StrVal}
 use Rattle.c_core.specs.declared.primitive.Primitive.TheVariants as prim
 use Rattle.c_core.specs.declared.primitive.IoPrim.TheVariants as io
 use Rattle.py_typed.specs.Sorts as sort
 use Rattle.source_meaning.specs.State as source
-use Rattle.source_meaning.specs.State.{State, look, set_items}
-use Rattle.source_meaning.specs.Operations.{next_line}
-use Rattle.ir_core.specs.Effects.{line_read}
-use Rattle.ir_builder_frames.specs.Coming.{world}
-use Rattle.ir_builder_frames.specs.Computing.{Shows}
-use Rattle.ir_builder_frames.proofs.AttemptLemmas.{Answers, Throws, Finishes, leaves_all, ActsAs, Performs}
 use Rattle.std.specs.Prelude.{None}
 
 -- by the items of input that are left

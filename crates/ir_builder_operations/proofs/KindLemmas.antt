@@ -1,11 +1,6 @@
 -- Values of each type that is built.
-use Rattle.std.proofs.Common.{◌≡◌, sym, subst, ℕ, Bool, true, List, [], ◌∷◌}
-use Rattle.std.specs.Prelude.{ℤ}
-use Rattle.value_core.specs.Arithmetic.{lies_within}
-use Rattle.value_core.specs.Value.{Value, IntVal, BoolVal, StrVal}
+use Rattle.ir_builder_operations.proofs.Common.{◌≡◌, sym, subst, ℕ, Bool, true, List, [], ◌∷◌, ℤ, lies_within, Value, IntVal, BoolVal, StrVal, Sort, HasKind, HaveKinds}
 use Rattle.py_typed.specs.Sorts as sort
-use Rattle.py_typed.specs.Sorts.{Sort}
-use Rattle.ir_builder_frames.specs.Matching.{HasKind, HaveKinds}
 
 pub by_int : (P : Value → Type 0) → ((n : ℤ) → lies_within 127 n ≡ true → P (IntVal n)) → (v : Value) → HasKind sort.Int v → P v
 by_int P f v k = subst P (sym k.1) (f k.0 k.2)

@@ -11,3 +11,4 @@ pub mod WrittenLemmas
 pub mod InputLemmas
 pub mod OperationLemmas
 pub mod ThenLemmas
+pub mod Common

@@ -1,34 +1,17 @@
 -- An `int` as it is written is read as that `int`: a short one as twice its value, and any other one as its decimal.
-use Rattle.std.proofs.Common.{◌≡◌, refl, ◌∙◌, ap, ℕ, suc, ◌+◌, ◌*◌, ◌/◌, ◌%◌, arith, true, false, cond, List, [], ◌∷◌, Some}
-use Rattle.std.proofs.lemmas.Bool.Decides.{nat_tests}
-use Rattle.std.proofs.lemmas.Bool.{eq-eqb, and_from}
+use Rattle.ir_builder_operations.proofs.Common.{◌≡◌, refl, ◌∙◌, ap, ℕ, suc, ◌+◌, ◌*◌, ◌/◌, ◌%◌, arith, true, false, cond, List, [], ◌∷◌, Some, nat_tests, eq-eqb, and_from, w128, is_some, ℤ, pos, negsuc, neg_ℤ, ◌*ℤ◌, not, ◌&&◌, signed_decimal, IsUtf8, bytes_eq, lies_within, is_short, IntVal, StrVal, writes_long, is_long_decimal, Lit, Prim, Text, Building, Declared, Holds, halved, World, Wrong, written_int, Adds, LiteralFits, Makes, literal_makes}
 use Rattle.std.proofs.lemmas.Str.{is_utf8-from_IsUtf8}
-use Rattle.std.specs.Int.{w128}
 use mir.Val.{SFits}
 use Rattle.std.proofs.lemmas.Slice.Eq.{bytes_eq-Decides}
-use Rattle.std.specs.Prelude.{is_some, ℤ, pos, negsuc, neg_ℤ, ◌*ℤ◌, not, ◌&&◌}
-use Rattle.std.specs.Fmt.{signed_decimal}
-use Rattle.std.specs.Str.{IsUtf8, bytes_eq}
 use Rattle.std.specs.Str.Parse.{signed_digits_value}
-use Rattle.value_core.specs.Arithmetic.{lies_within, is_short}
-use Rattle.value_core.specs.Value.{IntVal, StrVal}
 use Rattle.c_core.specs.declared.primitive.Primitive.TheVariants as prim
 use Rattle.c_core.specs.declared.primitive.TaggedPrim.TheVariants as tagged
 use Rattle.c_core.specs.declared.primitive.StrPrim.TheVariants as str
-use Rattle.c_core.specs.Strings.{writes_long, is_long_decimal}
 use Rattle.c_core.proofs.DecimalLemmas.{read_back}
 use Rattle.ir_core.specs.declared.code.Lit.TheVariants.{Number}
-use Rattle.ir_core.specs.declared.code.Op.TheVariants.{Lit, Prim}
-use Rattle.ir_core.specs.declared.code.PArg.TheVariants.{Text}
 use Rattle.ir_core.specs.declared.code.RType.TheVariants as rtype
-use Rattle.ir_core.specs.Building.{Building}
-use Rattle.ir_core.specs.Rows.{Declared}
-use Rattle.ir_core.specs.Registers.{Holds, halved}
-use Rattle.ir_core.specs.Effects.{World, Wrong, Gives, written_int}
-use Rattle.ir_builder_frames.specs.Calling.{Adds}
-use Rattle.ir_builder_frames.specs.Kinds.{LiteralFits, Answers}
-use Rattle.ir_builder_frames.specs.Computing.{Makes}
-use Rattle.ir_builder_frames.proofs.StepLemmas.{literal_makes}
+use Rattle.ir_core.specs.Effects.{Gives}
+use Rattle.ir_builder_frames.specs.Kinds.{Answers}
 use Rattle.ir_builder_operations.proofs.PartLemmas.{written_makes}
 
 halved_even : (n m : ℕ) → m % 2 ≡ 0 → m / 2 ≡ n → halved (pos m) ≡ Some (Holds (IntVal (pos n)))

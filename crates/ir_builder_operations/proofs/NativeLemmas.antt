@@ -1,26 +1,9 @@
 -- What primitives make of native integers is what the source makes of them, or the exception that it raises.
-use Rattle.std.proofs.Common.{◌≡◌, refl, ap, ◌∙◌, true, false, cond, [], ◌∷◌, Result, Ok, Err}
-use Rattle.std.specs.Prelude.{ℤ, neg_ℤ}
-use Rattle.value_core.specs.declared.arith.Arith.{Arith}
-use Rattle.value_core.specs.declared.arith.Arith.TheVariants.{Overflow, ZeroDivisor, NegativeShift, OutOfRange}
-use Rattle.value_core.specs.Arithmetic.{lies_within, i64_add, i64_sub, i64_mul, i64_neg, i64_floor_div, i64_modulo, i64_shl, i64_shr}
-use Rattle.value_core.specs.Value.{IntVal}
+use Rattle.ir_builder_operations.proofs.Common.{◌≡◌, refl, ap, ◌∙◌, true, false, cond, [], ◌∷◌, Result, Ok, Err, ℤ, neg_ℤ, Arith, Overflow, ZeroDivisor, NegativeShift, OutOfRange, lies_within, i64_add, i64_sub, i64_mul, i64_neg, i64_floor_div, i64_modulo, i64_shl, i64_shr, IntVal, int64_exception, BinOp, State, Gives, on_to, fitting, coerced, with_number, number_of, no_i64, of_i64, of_numbers, arithmetic, negated_as, negated, IsNative, wrap_within, quotient_native, rest_native, left_native, right_native, Program, failing, World, Given, native_or, effect, Shows, Answer, Answers, Throws, effect_of, outcome_of, Allows, ShownIfGiven, Performs, performs, is_arithmetic, native_primitive}
 use Rattle.c_core.specs.declared.primitive.Primitive.TheVariants as prim
 use Rattle.c_core.specs.declared.primitive.Int64Prim.TheVariants as int64
-use Rattle.c_core.specs.Step.{int64_exception}
-use Rattle.py_syntax.specs.declared.expression.BinOp.{BinOp}
 use Rattle.py_syntax.specs.declared.expression.BinOp.TheVariants as bin
 use Rattle.py_typed.specs.Sorts as sort
-use Rattle.source_meaning.specs.State.{State, Gives, on_to}
-use Rattle.source_meaning.specs.Operations.{fitting, coerced, with_number, number_of, no_i64, of_i64, of_numbers, arithmetic, negated_as, negated}
-use Rattle.source_meaning.proofs.RangeLemmas.{IsNative, wrap_within, quotient_native, rest_native, left_native, right_native}
-use Rattle.ir_core.specs.declared.code.Program.{Program}
-use Rattle.ir_core.specs.Rows.{failing}
-use Rattle.ir_core.specs.Effects.{World, Given, native_or, effect}
-use Rattle.ir_builder_frames.specs.Computing.{Shows}
-use Rattle.ir_builder_frames.proofs.AttemptLemmas.{Answer, Answers, Throws, effect_of, outcome_of, Allows, ShownIfGiven, Performs, performs}
-use Rattle.ir_builder_operations.specs.Operating.{is_arithmetic}
-use Rattle.ir_builder_operations.specs.Selecting.{native_primitive}
 
 -- ---- what an operator gives
 

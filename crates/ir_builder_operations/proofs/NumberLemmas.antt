@@ -1,26 +1,9 @@
 -- What primitives make of `int`s is what the source makes of them, or the exception that it raises.
-use Rattle.std.proofs.Common.{◌≡◌, refl, ◌∙◌, ℕ, true, false, [], ◌∷◌, Some, Result, Ok, Err}
-use Rattle.std.specs.Prelude.{ℤ, neg_ℤ}
-use Rattle.value_core.specs.declared.arith.Arith.{Arith}
-use Rattle.value_core.specs.declared.arith.Arith.TheVariants.{Overflow, ZeroDivisor, NegativeShift, OutOfRange}
-use Rattle.value_core.specs.Arithmetic.{lies_within, int_neg}
-use Rattle.value_core.specs.Value.{IntVal}
+use Rattle.ir_builder_operations.proofs.Common.{◌≡◌, refl, ◌∙◌, ℕ, true, false, [], ◌∷◌, Some, Result, Ok, Err, ℤ, neg_ℤ, Arith, Overflow, ZeroDivisor, NegativeShift, OutOfRange, lies_within, int_neg, IntVal, int_exception, BinOp, State, number_of, past_range, arithmetic, negated, Program, failing, World, Given, int_or, effect, Shows, Answer, Answers, Throws, effect_of, outcome_of, Allows, ShownIfGiven, Performs, performs, is_arithmetic, int_primitive, IsInt, checked_int}
 use Rattle.c_core.specs.declared.primitive.Primitive.TheVariants as prim
 use Rattle.c_core.specs.declared.primitive.TaggedPrim.TheVariants as tagged
-use Rattle.c_core.specs.Step.{int_exception}
-use Rattle.py_syntax.specs.declared.expression.BinOp.{BinOp}
 use Rattle.py_syntax.specs.declared.expression.BinOp.TheVariants as bin
 use Rattle.py_typed.specs.Sorts as sort
-use Rattle.source_meaning.specs.State.{State}
-use Rattle.source_meaning.specs.Operations.{number_of, past_range, arithmetic, negated}
-use Rattle.ir_core.specs.declared.code.Program.{Program}
-use Rattle.ir_core.specs.Rows.{failing}
-use Rattle.ir_core.specs.Effects.{World, Given, int_or, effect}
-use Rattle.ir_builder_frames.specs.Computing.{Shows}
-use Rattle.ir_builder_frames.proofs.AttemptLemmas.{Answer, Answers, Throws, effect_of, outcome_of, Allows, ShownIfGiven, Performs, performs}
-use Rattle.ir_builder_operations.specs.Operating.{is_arithmetic}
-use Rattle.ir_builder_operations.specs.Selecting.{int_primitive}
-use Rattle.source_meaning.proofs.RangeLemmas.{IsInt, checked_int}
 use Rattle.ir_builder_operations.proofs.RangeLemmas.{given_by, given_int}
 
 -- a number as a value, and a fault as the exception that stands for it

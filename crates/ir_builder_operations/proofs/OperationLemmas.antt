@@ -1,33 +1,9 @@
 -- Each operation does with its operands' values what the source does, and its primitive takes registers of their types.
-use Rattle.std.proofs.Common.{◌≡◌, refl, sym, subst, ℕ, length, true, List, [], ◌∷◌, Some}
-use Rattle.std.specs.Prelude.{map}
-use Rattle.value_core.specs.Value.{Value}
-use Rattle.c_core.specs.declared.primitive.Primitive.{Primitive}
+use Rattle.ir_builder_operations.proofs.Common.{◌≡◌, refl, sym, subst, ℕ, length, true, List, [], ◌∷◌, Some, map, Value, Primitive, Sort, Reg, RType, PArg, Var, Prim, Declared, Building, Adds, Shows, HaveTypes, Attempts, ActsOnAll, AreArguments, HaveKinds, rtype_of, AreBelow, type_below, all_given, Performs, all_perform, Operation, IntArithmetic, NativeArithmetic, IntNegation, NativeNegation, Comparison, Inversion, Concatenation, Length, Letter, IntText, NativeText, BoolText, BoolToInt, BoolToNative, NativeToInt, IntToNative, Line, Ints, Natives, Texts, Equal, Less, AtMost, is_known, operands_of, result_of, primitive_of, goes}
 use Rattle.c_core.specs.Primitives.{Is, Parameter, Borrows, Owned, row_of}
 use Rattle.py_syntax.specs.declared.expression.BinOp.TheVariants as bin
-use Rattle.py_typed.specs.Sorts.{Sort}
-use Rattle.ir_core.specs.declared.code.Reg.{Reg}
-use Rattle.ir_core.specs.declared.code.RType.{RType}
-use Rattle.ir_core.specs.declared.code.PArg.{PArg}
-use Rattle.ir_core.specs.declared.code.PArg.TheVariants.{Var}
-use Rattle.ir_core.specs.declared.code.Op.TheVariants.{Prim}
 use Rattle.ir_core.specs.Lower.{kind_of_type}
-use Rattle.ir_core.specs.Rows.{Declared}
-use Rattle.ir_core.specs.Building.{Building}
-use Rattle.ir_builder_frames.specs.Calling.{Adds}
-use Rattle.ir_builder_frames.specs.Computing.{Shows, HaveTypes, Attempts}
-use Rattle.ir_builder_frames.specs.Operands.{ActsOnAll}
-use Rattle.ir_builder_frames.specs.Kinds.{AreArguments, Answers}
-use Rattle.ir_builder_frames.specs.Matching.{HaveKinds}
-use Rattle.ir_builder_frames.specs.Settings.{rtype_of}
-use Rattle.ir_builder_frames.specs.Shaped.{AreBelow}
-use Rattle.ir_builder_frames.proofs.HeldLemmas.{type_below}
-use Rattle.ir_builder_frames.proofs.AttemptLemmas.{all_given, Performs, all_perform}
-use Rattle.ir_builder_operations.specs.declared.operation.Operation.{Operation}
-use Rattle.ir_builder_operations.specs.declared.operation.Operation.TheVariants.{IntArithmetic, NativeArithmetic, IntNegation, NativeNegation, Comparison, Inversion, Concatenation, Length, Letter, IntText, NativeText, BoolText, BoolToInt, BoolToNative, NativeToInt, IntToNative, Line}
-use Rattle.ir_builder_operations.specs.declared.operation.Compared.TheVariants.{Ints, Natives, Texts}
-use Rattle.ir_builder_operations.specs.declared.operation.Test.TheVariants.{Equal, Less, AtMost}
-use Rattle.ir_builder_operations.specs.Rows.{is_known, operands_of, result_of, primitive_of, goes}
+use Rattle.ir_builder_frames.specs.Kinds.{Answers}
 use Rattle.ir_builder_operations.proofs.KindLemmas.{on_none, one_int, one_native, one_bool, one_text, two_ints, two_natives, two_texts, text_and_int}
 use Rattle.ir_builder_operations.proofs.NumberLemmas as int
 use Rattle.ir_builder_operations.proofs.NativeLemmas as native

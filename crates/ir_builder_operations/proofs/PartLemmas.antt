@@ -1,33 +1,8 @@
 -- Operations on registers, what is in its register already, and what a primitive makes of a written text.
-use Rattle.std.proofs.Common.{◌≡◌, ℕ, ◌+◌, ◌<◌, List, [], ◌∷◌, length, Some, None, refl, sym, ◌∙◌, subst, arith, le_refl}
-use Rattle.value_core.specs.Value.{Value}
-use Rattle.c_core.specs.declared.primitive.Primitive.{Primitive}
-use Rattle.py_typed.specs.Sorts.{Sort}
-use Rattle.source_meaning.specs.State.{State, Gives, Does, give}
-use Rattle.ir_core.specs.declared.code.Reg.{Reg}
-use Rattle.ir_core.specs.declared.code.RType.{RType}
-use Rattle.ir_core.specs.declared.code.PArg.TheVariants.{Text}
-use Rattle.ir_core.specs.declared.code.Op.TheVariants.{Prim}
-use Rattle.ir_core.specs.Rows.{NeverFails, failing}
-use Rattle.ir_core.specs.Registers.{Holds, Regs, put}
-use Rattle.ir_core.specs.Effects.{World, Written, Gives as Giving, effect}
-use Rattle.ir_core.specs.declared.code.Program.{Program}
-use Rattle.ir_core.specs.Building.{Building}
+use Rattle.ir_builder_operations.proofs.Common.{◌≡◌, ℕ, ◌+◌, ◌<◌, List, [], ◌∷◌, length, Some, None, refl, sym, ◌∙◌, subst, arith, le_refl, Value, Primitive, Sort, State, Gives, Does, give, Reg, RType, Text, Prim, NeverFails, failing, Holds, Regs, put, World, Written, effect, Program, Building, rtype_of, HasType, Adds, world, running, HasKind, IsThrown, Shows, ShowAll, HaveTypes, Arrives, Makes, Attempts, ActsOnAll, extends_refl, type_has, type_below, adds_has, leads_step, ends_of, ends_now, same_refl, makes_arrives, prim_step, Acts, ActsOn, ActsOnTwo, of_none, of_one, of_two}
+use Rattle.ir_core.specs.Effects.{Gives as Giving}
 use Rattle.ir_core.proofs.StepLemmas.{put_same, put_other}
-use Rattle.ir_builder_frames.specs.Settings.{rtype_of}
-use Rattle.ir_builder_frames.specs.Placing.{HasType}
-use Rattle.ir_builder_frames.specs.Calling.{Adds}
-use Rattle.ir_builder_frames.specs.Coming.{world, running}
-use Rattle.ir_builder_frames.specs.Matching.{HasKind, IsThrown}
-use Rattle.ir_builder_frames.specs.Computing.{Shows, ShowAll, HaveTypes, Arrives, Makes, Attempts}
-use Rattle.ir_builder_frames.specs.Operands.{ActsOnAll}
-use Rattle.ir_builder_frames.proofs.HeldLemmas.{extends_refl, type_has, type_below, adds_has}
-use Rattle.ir_builder_frames.proofs.ComingLemmas.{leads_step, ends_of, ends_now}
-use Rattle.ir_builder_frames.proofs.MatchLemmas.{same_refl, makes_arrives}
-use Rattle.ir_builder_frames.proofs.StepLemmas.{prim_step}
 use Rattle.ir_builder_operations.proofs.ThenLemmas.{attempts_as}
-use Rattle.ir_builder_operations.specs.Operating.{Acts, ActsOn, ActsOnTwo}
-use Rattle.ir_builder_operations.specs.Rows.{of_none, of_one, of_two}
 
 -- ---- operations on no register, on one and on two, by the registers' values
 

@@ -1,11 +1,6 @@
 -- What an operator makes of `int`s is an `int`, or there is an exception.
-use Rattle.std.proofs.Common.{◌≡◌, true, Result}
-use Rattle.std.specs.Prelude.{ℤ, ◌*ℤ◌, ◌+ℤ◌, ◌-ℤ◌}
-use Rattle.value_core.specs.declared.arith.Arith.{Arith}
-use Rattle.value_core.specs.Arithmetic.{lies_within, int_add, int_sub, int_mul, int_floor_div, int_modulo, int_shl, int_shr}
-use Rattle.py_syntax.specs.declared.expression.BinOp.{BinOp}
+use Rattle.ir_builder_operations.proofs.Common.{◌≡◌, true, Result, ℤ, ◌*ℤ◌, ◌+ℤ◌, ◌-ℤ◌, Arith, lies_within, int_add, int_sub, int_mul, int_floor_div, int_modulo, int_shl, int_shr, BinOp, IsInt, checked_int, quotient_int, rest_int, left_int, right_int}
 use Rattle.py_syntax.specs.declared.expression.BinOp.TheVariants as bin
-use Rattle.source_meaning.proofs.RangeLemmas.{IsInt, checked_int, quotient_int, rest_int, left_int, right_int}
 
 -- what an operator gives
 abbrev pub given_by : BinOp → ℤ → ℤ → Result ℤ Arith

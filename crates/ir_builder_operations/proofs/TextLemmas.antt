@@ -1,16 +1,8 @@
 -- What primitives find in texts is what the source finds: their order, their length and their items.
-use Rattle.std.proofs.Common.{◌≡◌, refl, ◌∙◌, ap, ℕ, zero, suc, ◌<◌, ◌^◌, ◌-◌, arith, Bool, true, false, cond, List, [], ◌∷◌, length, Some, None, Ordering, Less, Equal, Greater}
-use Rattle.std.proofs.lemmas.Bool.{ltb-true}
+use Rattle.ir_builder_operations.proofs.Common.{◌≡◌, refl, ◌∙◌, ap, ℕ, zero, suc, ◌<◌, ◌^◌, ◌-◌, arith, Bool, true, false, cond, List, [], ◌∷◌, length, Some, None, Ordering, Greater, ltb-true, ℤ, pos, negsuc, map, nat_lt, not, ◌==◌, ◌&&◌, ◌||◌, if◌then◌else◌, slice_get, option_map, nat_cmp, is_lt, ordering_then, chars, encode_utf8_all, bytes_eq, char_len, place_of, Value, StrVal, text_less, counted_length, comes_before, is_filled, counted, letters}
+use Rattle.std.proofs.Common.{Less, Equal}
 use Rattle.std.proofs.lemmas.List.{length-map}
-use Rattle.std.specs.Prelude.{ℤ, pos, negsuc, map, nat_lt, not, ◌==◌, ◌&&◌, ◌||◌, if◌then◌else◌, slice_get}
 use Rattle.std.specs.Cmp.Lexicographic.{slice_cmp}
-use Rattle.std.specs.Option.{option_map}
-use Rattle.std.specs.Ordering.{nat_cmp, is_lt, ordering_then}
-use Rattle.std.specs.Str.{chars, encode_utf8_all, bytes_eq}
-use Rattle.value_core.specs.Characters.{char_len, place_of}
-use Rattle.value_core.specs.Value.{Value, StrVal}
-use Rattle.c_core.specs.Strings.{text_less, counted_length}
-use Rattle.source_meaning.specs.Operations.{comes_before, is_filled, counted, letters}
 
 -- ---- order
 

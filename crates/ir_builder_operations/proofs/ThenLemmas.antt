@@ -1,22 +1,6 @@
 -- One operation behind another: what both do together is what the source does with one part behind the other.
-use Rattle.std.proofs.Common.{◌≡◌, refl, sym, ◌∙◌, subst, ℕ, ◌<◌, ◌≤◌, arith, le_refl, List, length, Option, None}
-use Rattle.value_core.specs.Value.{Value}
-use Rattle.py_typed.specs.Sorts.{Sort}
-use Rattle.source_meaning.specs.State.{State, Outcome, Does, ◌>>=◌, on_to}
-use Rattle.ir_core.specs.declared.code.Program.{Program}
-use Rattle.ir_core.specs.declared.code.RType.{RType}
-use Rattle.ir_core.specs.Registers.{Regs}
-use Rattle.ir_core.specs.Building.{Building}
+use Rattle.ir_builder_operations.proofs.Common.{◌≡◌, refl, sym, ◌∙◌, subst, ℕ, ◌<◌, ◌≤◌, arith, le_refl, List, length, Option, None, Value, Sort, State, Outcome, Does, ◌>>=◌, on_to, Program, RType, Regs, Building, Setting, Placed, world, running, Ends, Matches, SameLocals, HasRoom, IsThrown, Showing, Shows, Arrives, Attempts, extends_refl, extends_trans, type_below, placed_part, ends_on, ends_at, ends_of, ends_map, room_on, same_trans, match_kept, thrown_from, ActsOn, ActsOnTwo}
 use Rattle.ir_core.specs.Meaning.{Waiting, Config}
-use Rattle.ir_builder_frames.specs.Settings.{Setting}
-use Rattle.ir_builder_frames.specs.Placing.{Placed}
-use Rattle.ir_builder_frames.specs.Coming.{world, running, Ends}
-use Rattle.ir_builder_frames.specs.Matching.{Matches, SameLocals, HasRoom, IsThrown}
-use Rattle.ir_builder_frames.specs.Computing.{Showing, Shows, Arrives, Attempts}
-use Rattle.ir_builder_frames.proofs.HeldLemmas.{extends_refl, extends_trans, type_below, placed_part}
-use Rattle.ir_builder_frames.proofs.ComingLemmas.{ends_on, ends_at, ends_of, ends_map}
-use Rattle.ir_builder_frames.proofs.MatchLemmas.{room_on, same_trans, match_kept, thrown_from}
-use Rattle.ir_builder_operations.specs.Operating.{ActsOn, ActsOnTwo}
 
 -- what is needed may be put otherwise
 pub attempts_as : (K : Showing) (b c : Building) (r : ℕ) (t : RType) (first second : Regs → State → Outcome Value → Type 0) → ((regs : Regs) (s : State) (res : Outcome Value) → second regs s res → first regs s res) → Attempts K b c r t first → Attempts K b c r t second

@@ -1,40 +1,13 @@
 -- What primitives make of texts, and the texts of values, are what the source makes of them.
-use Rattle.std.proofs.Common.{◌≡◌, refl, sym, ap, subst, ◌∙◌, ℕ, ◌<◌, Bool, true, false, List, [], ◌∷◌, ◌++◌, Option, Some, None}
-use Rattle.std.specs.Prelude.{ℤ, pos, slice_get, codes}
-use Rattle.std.specs.Option.{option_map, option_and_then}
-use Rattle.std.specs.Str.{chars, encode_utf8_all}
-use Rattle.value_core.specs.declared.exception.ExcClass.TheVariants.{IndexError}
-use Rattle.value_core.specs.Characters.{char_len, place_of}
-use Rattle.value_core.specs.Exceptions.{thrown}
-use Rattle.value_core.specs.Value.{Value, IntVal, BoolVal, StrVal}
-use Rattle.c_core.specs.declared.primitive.Primitive.{Primitive}
+use Rattle.ir_builder_operations.proofs.Common.{◌≡◌, refl, sym, ap, subst, ◌∙◌, ℕ, ◌<◌, Bool, true, false, List, [], ◌∷◌, ◌++◌, Option, Some, None, ℤ, pos, slice_get, codes, option_map, option_and_then, chars, encode_utf8_all, IndexError, char_len, place_of, thrown, Value, IntVal, BoolVal, StrVal, Primitive, text_length, text_item, Sort, State, Does, Gives, raise_new, sure, joined, length_of, letters, letter, with_place, text_of, flag_text, Reg, World, Given, truth_text, item_or, effect, Declared, NeverFails, failing, type_of_reg, Program, Building, rtype_of, HasType, HasKind, Shows, HaveTypes, Attempts, ActsOnAll, Answer, Answers, Throws, effect_of, outcome_of, Allows, ShownIfGiven, Performs, performs, Operation, IntText, NativeText, BoolText, is_written, ActsOn, is_known, operands_of, result_of, goes, written, text_operation}
 use Rattle.c_core.specs.declared.primitive.Primitive.TheVariants as prim
 use Rattle.c_core.specs.declared.primitive.Int64Prim.TheVariants as int64
 use Rattle.c_core.specs.declared.primitive.TaggedPrim.TheVariants as tagged
 use Rattle.c_core.specs.declared.primitive.BoolPrim.TheVariants as bool
 use Rattle.c_core.specs.declared.primitive.StrPrim.TheVariants as str
-use Rattle.c_core.specs.Strings.{text_length, text_item}
 use Rattle.py_typed.specs.Sorts as sort
-use Rattle.py_typed.specs.Sorts.{Sort}
-use Rattle.source_meaning.specs.State.{State, Does, Gives, raise_new, sure}
-use Rattle.source_meaning.specs.Operations.{joined, length_of, letters, letter, with_place, text_of, flag_text}
-use Rattle.ir_core.specs.declared.code.Reg.{Reg}
 use Rattle.ir_core.specs.declared.code.RType.TheVariants as rtype
-use Rattle.ir_core.specs.Effects.{World, Given, Gives as Giving, truth_text, item_or, effect}
-use Rattle.ir_core.specs.Rows.{Declared, NeverFails, failing, type_of_reg}
-use Rattle.ir_core.specs.declared.code.Program.{Program}
-use Rattle.ir_core.specs.Building.{Building}
-use Rattle.ir_builder_frames.specs.Settings.{rtype_of}
-use Rattle.ir_builder_frames.specs.Placing.{HasType}
-use Rattle.ir_builder_frames.specs.Matching.{HasKind}
-use Rattle.ir_builder_frames.specs.Computing.{Shows, HaveTypes, Attempts}
-use Rattle.ir_builder_frames.specs.Operands.{ActsOnAll}
-use Rattle.ir_builder_frames.proofs.AttemptLemmas.{Answer, Answers, Throws, effect_of, outcome_of, Allows, ShownIfGiven, Performs, performs}
-use Rattle.ir_builder_operations.specs.declared.operation.Operation.{Operation}
-use Rattle.ir_builder_operations.specs.declared.operation.Operation.TheVariants.{IntText, NativeText, BoolText}
-use Rattle.ir_builder_operations.specs.Operating.{is_written, ActsOn}
-use Rattle.ir_builder_operations.specs.Rows.{is_known, operands_of, result_of, goes, written}
-use Rattle.ir_builder_operations.specs.Converting.{text_operation}
+use Rattle.ir_core.specs.Effects.{Gives as Giving}
 use Rattle.ir_builder_operations.proofs.KindLemmas.{by_text}
 use Rattle.ir_builder_operations.proofs.PartLemmas.{as_one, stays}
 use Rattle.ir_builder_operations.proofs.TextLemmas.{counted_is, counted_below, letters_length, place_below, item_there}

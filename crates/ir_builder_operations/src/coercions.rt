@@ -9,6 +9,7 @@ ghost use Rattle.ir_builder_frames.specs.Placing.{HasType};
 ghost use Rattle.ir_builder_frames.specs.Settings.{rtype_of};
 ghost use Rattle.ir_builder_frames.specs.Shaped.{Keeps};
 ghost use Rattle.ir_builder_frames.specs.Kinds.{KeepsKinds};
+ghost use Rattle.ir_builder_frames.specs.Lines.{OwnLines};
 ghost use Rattle.ir_builder_operations.specs.Operating.{is_whole, ActsOn};
 ghost use Rattle.ir_builder_operations.specs.Converting.{coercion};
 
@@ -50,6 +51,7 @@ pub fn emit_coercion(
     ensures made { IfOk result (λ r. Attempts (Shows (sort to.now)) b.old b.new r.0 (rtype_of (sort to.now)) (ActsOn (sort from.now) x.0 (coerced (sort to.now)))) }
     ensures shaped { Keeps b.old b.new }
     ensures kinds { KeepsKinds b.old b.new }
+    ensures lined { OwnLines line b.old b.new }
 {
     match operation_between(from, to) {
         Some(op) => emit_operation(b, alloc, op, &[x], line),

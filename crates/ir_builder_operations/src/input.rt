@@ -7,6 +7,7 @@ ghost use Rattle.ir_core.specs.Building.{Extends};
 ghost use Rattle.ir_builder_frames.specs.Computing.{Shows, Attempts};
 ghost use Rattle.ir_builder_frames.specs.Shaped.{Keeps};
 ghost use Rattle.ir_builder_frames.specs.Kinds.{KeepsKinds};
+ghost use Rattle.ir_builder_frames.specs.Lines.{OwnLines};
 ghost use Rattle.ir_builder_operations.specs.Operating.{Acts};
 
 use crate::operation::{Operation, emit_operation};
@@ -23,6 +24,7 @@ pub fn emit_input(b: &mut Emitter, alloc: Global, line: usize) -> Result<Reg, Me
     ensures made { IfOk result (λ r. Attempts (Shows Str) b.old b.new r.0 RType.Ref (Acts (look (λ s. s.items) next_line))) }
     ensures shaped { Keeps b.old b.new }
     ensures kinds { KeepsKinds b.old b.new }
+    ensures lined { OwnLines line b.old b.new }
 {
     emit_operation(b, alloc, Operation::Line, &[], line)
 }

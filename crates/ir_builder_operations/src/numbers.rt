@@ -7,6 +7,7 @@ ghost use Rattle.ir_core.specs.Building.{Extends};
 ghost use Rattle.ir_builder_frames.specs.Computing.{Makes};
 ghost use Rattle.ir_builder_frames.specs.Shaped.{Keeps};
 ghost use Rattle.ir_builder_frames.specs.Kinds.{KeepsKinds};
+ghost use Rattle.ir_builder_frames.specs.Lines.{OwnLines};
 
 use crate::parts::emit_written;
 use c_core::{Prim, TaggedPrim};
@@ -30,6 +31,7 @@ pub fn emit_int(b: &mut Emitter, alloc: Global, n: i128, line: usize) -> Result<
     ensures made { IfOk result (λ r. Makes b.old b.new r.0 RType.Int (λ regs h. h ≡ Holds (IntVal n))) }
     ensures shaped { Keeps b.old b.new }
     ensures kinds { KeepsKinds b.old b.new }
+    ensures lined { OwnLines line b.old b.new }
 {
     if is_short(n) {
         b.literal(RType::Int, Lit::Number(doubled(n)), line)
@@ -46,6 +48,7 @@ pub fn emit_native(b: &mut Emitter, n: i64, line: usize) -> Result<Reg, Memory>
     ensures made { IfOk result (λ r. Makes b.old b.new r.0 RType.I64 (λ regs h. h ≡ Holds (IntVal n))) }
     ensures shaped { Keeps b.old b.new }
     ensures kinds { KeepsKinds b.old b.new }
+    ensures lined { OwnLines line b.old b.new }
 {
     b.literal(RType::I64, Lit::Number(n), line)
 }

@@ -6,6 +6,7 @@ ghost use Rattle.ir_builder_frames.specs.Operands.{ActsOnAll};
 ghost use Rattle.ir_builder_frames.specs.Settings.{rtype_of};
 ghost use Rattle.ir_builder_frames.specs.Shaped.{Keeps};
 ghost use Rattle.ir_builder_frames.specs.Kinds.{KeepsKinds};
+ghost use Rattle.ir_builder_frames.specs.Lines.{OwnLines};
 ghost use Rattle.ir_builder_operations.specs.Rows.{is_known, operands_of, result_of, primitive_of, goes};
 ghost use Rattle.ir_builder_operations.specs.Selecting.{int_primitive, native_primitive, test_primitive};
 
@@ -188,6 +189,7 @@ pub fn emit_operation(
     ensures made { IfOk result (λ r. Attempts (Shows (result_of op)) b.old b.new r.0 (rtype_of (result_of op)) (ActsOnAll (operands_of op) operands.now (goes op))) }
     ensures shaped { Keeps b.old b.new }
     ensures kinds { KeepsKinds b.old b.new }
+    ensures lined { OwnLines line b.old b.new }
 {
     let args = arguments(alloc, operands)?;
     b.primitive(result_type(op), primitive(op), args, line)

@@ -7,6 +7,7 @@ ghost use Rattle.ir_core.specs.Shape.{is_target_of};
 ghost use Rattle.ir_builder_frames.specs.Calling.{Adds};
 ghost use Rattle.ir_builder_frames.specs.Shaped.{Keeps};
 ghost use Rattle.ir_builder_frames.specs.Kinds.{Answers, KeepsKindsIf};
+ghost use Rattle.ir_builder_frames.specs.Lines.{OwnLines};
 
 use c_core::Prim;
 use ir_builder_frames::Emitter;
@@ -28,6 +29,7 @@ pub fn emit_written(
     ensures added { IfOk result (λ r. Adds b.old b.new r.0 t (Op.Prim (Some r) primitive (PArg.Text text.now ∷ [])) line) }
     ensures shaped { Keeps b.old b.new }
     ensures kinds { KeepsKindsIf (λ g. Answers t b.old.regs primitive (PArg.Text text.now ∷ [])) b.old b.new }
+    ensures lined { OwnLines line b.old b.new }
 {
     let mut args = Many::new(alloc);
     args.push(PArg::Text(Text::from_str(alloc, text)?))?;

@@ -11,6 +11,7 @@ ghost use Rattle.ir_builder_frames.specs.Placing.{HasType};
 ghost use Rattle.ir_builder_frames.specs.Settings.{rtype_of};
 ghost use Rattle.ir_builder_frames.specs.Shaped.{Keeps};
 ghost use Rattle.ir_builder_frames.specs.Kinds.{KeepsKinds};
+ghost use Rattle.ir_builder_frames.specs.Lines.{OwnLines};
 ghost use Rattle.ir_builder_operations.specs.Operating.{is_written, ActsOn};
 ghost use Rattle.ir_builder_operations.specs.Converting.{text_operation};
 
@@ -29,6 +30,7 @@ pub fn emit_text(b: &mut Emitter, alloc: Global, text: &str, line: usize) -> Res
     ensures made { IfOk result (λ r. Makes b.old b.new r.0 RType.Ref (λ regs h. h ≡ Holds (StrVal text.now))) }
     ensures shaped { Keeps b.old b.new }
     ensures kinds { KeepsKinds b.old b.new }
+    ensures lined { OwnLines line b.old b.new }
 {
     let primitive = Prim::Str(StrPrim::Literal);
     emit_written(b, alloc, RType::Ref, primitive, text, line)
@@ -61,6 +63,7 @@ pub fn emit_text_of(
     ensures made { IfOk result (λ r. Attempts (Shows Str) b.old b.new r.0 RType.Ref (ActsOn (sort t.now) x.0 (λ v. give (StrVal (text_of v))))) }
     ensures shaped { Keeps b.old b.new }
     ensures kinds { KeepsKinds b.old b.new }
+    ensures lined { OwnLines line b.old b.new }
 {
     match operation_of_text(t) {
         Some(op) => emit_operation(b, alloc, op, &[x], line),

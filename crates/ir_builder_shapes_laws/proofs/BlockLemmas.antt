@@ -1,20 +1,7 @@
 -- The blocks of a function whose ends are all written have their shape.
-use Rattle.std.proofs.Common.{◌≡◌, ℕ, suc, ◌<◌, ◌⊎◌, refl, sym, subst, arith, true, false, List, [], ◌∷◌, ◌++◌, Option, Some, None, inl, inr, ⊎_elim}
-use Rattle.std.specs.Prelude.{slice_get}
-use Rattle.ir_core.specs.declared.code.Op.{Op}
-use Rattle.ir_core.specs.declared.code.Op.TheVariants.{Turn}
-use Rattle.ir_core.specs.declared.code.Last.{Last}
-use Rattle.ir_core.specs.declared.code.Last.TheVariants.{Goto, If, IfError, Return, Unreachable}
-use Rattle.ir_core.specs.declared.code.Block.{Block}
-use Rattle.ir_core.specs.declared.code.Func.{Func}
-use Rattle.ir_core.specs.Items.{Do, item_in, handler_of}
-use Rattle.ir_core.specs.Rows.{Declared}
-use Rattle.ir_core.specs.Building.{is_unwritten, is_open_at}
-use Rattle.ir_core.specs.Shape.{IsHigher, LastFits, BlockFits, BlocksFit, FuncFits, BeginsInTurn, FuncsFit}
+use Rattle.ir_builder_shapes_laws.proofs.Common.{◌≡◌, ℕ, suc, ◌<◌, ◌⊎◌, refl, sym, subst, arith, true, false, List, [], ◌∷◌, ◌++◌, Option, Some, None, inl, inr, ⊎_elim, slice_get, Op, Turn, Last, Goto, If, IfError, Return, Unreachable, Block, Func, Do, item_in, handler_of, Declared, is_unwritten, is_open_at, IsHigher, LastFits, BlockFits, BlocksFit, FuncFits, BeginsInTurn, FuncsFit, FunctionType, IsBuilt}
 use Rattle.ir_core.specs.Shape as shape
 use Rattle.ir_builder_frames.specs.Shaped.{Higher, OpsFit, EndFits, HandlerFits, AllFit}
-use Rattle.ir_builder_frames.specs.Kinds.{FunctionType}
-use Rattle.ir_builder_shapes_laws.specs.Built.{IsBuilt}
 
 ops_fit : (low : ℕ) (os : List (Op × ℕ)) → OpsFit low os → shape.OpsFit os
 ops_fit low [] h = tt

@@ -4,3 +4,4 @@ pub mod NameLemmas
 pub mod LineLemmas
 pub mod NumberLemmas
 pub mod Whole
+pub mod Common

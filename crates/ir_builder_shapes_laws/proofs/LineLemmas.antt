@@ -1,47 +1,20 @@
 -- Lines of operations and ends that fit their registers are spelled, and fit the declarations of their variables.
-use Rattle.std.proofs.Common.{◌≡◌, ◌⊎◌, inl, inr, refl, sym, ◌∙◌, ap, subst, ℕ, zero, suc, ◌+◌, ◌^◌, ◌/◌, ◌%◌, ◌<◌, arith, Bool, true, false, cond, List, [], ◌∷◌, ◌++◌, length, Option, Some, None, take, ℤ, pos, negsuc}
-use Rattle.std.specs.Prelude.{slice_get, map, ◌&&◌, is_some, codes, ◌==◌}
-use Rattle.std.specs.Option.{option_map}
-use Rattle.std.specs.List.{list_all}
-use Rattle.std.proofs.lemmas.Bool.{and_from, lt-ltb}
-use Rattle.std.proofs.lemmas.List.{length-map}
-use Rattle.std.proofs.lemmas.Option.{slice_get_within, slice_get-map}
+use Rattle.ir_builder_shapes_laws.proofs.Common.{◌≡◌, ◌⊎◌, inl, inr, refl, sym, ◌∙◌, ap, subst, ℕ, zero, suc, ◌+◌, ◌^◌, ◌/◌, ◌%◌, ◌<◌, arith, Bool, true, false, cond, List, [], ◌∷◌, ◌++◌, length, Option, Some, None, take, ℤ, pos, negsuc, slice_get, map, ◌&&◌, is_some, codes, ◌==◌, option_map, list_all, and_from, lt-ltb, length-map, slice_get_within, slice_get-map, Kind, Line, CFunc, Primitive, kind_of_global, function_named, parameter_kinds, Is, Parameter, Borrows, TakesText, TakesDecimal, Owned, row_of, primitive_named, is_identifier, is_call_name, is_declared, kind_at, spelled_arg, spelled_label, spelled_line, spelled_literal, has_kind, same_kinds, kinds_agree, literal_fits, passes, args_fit, target_fits, function_call_fits, call_fits, line_fits, RType, Op, Move, Lit, Prim, Call, Virtual, TraitCall, Turn, Inc, Dec, XDec, Last, Goto, If, IfError, Return, Unreachable, Block, Func, Program, kind_of_type, variable_of, literal_in, argument_in, register_in, called_as, line_of, op_lines, label_before, label_of, end_lines, block_lines, lines_from, lowered_as, lower, Declared, LastFits, BlocksFit, FunctionType, Surrounding, IsOf, AreArguments, Take, Answers, Reports, ReadsGlobal, WritesGlobal, LiteralFits, OpKinds, OpsKinds, LastKinds, BlocksKinds, head_of_code}
 use Rattle.value_core.specs.Value.{IntVal}
-use Rattle.c_core.specs.declared.code.Kind.{Kind}
 use Rattle.c_core.specs.declared.code.CArg.{CArg}
-use Rattle.c_core.specs.declared.code.Line.{Line}
-use Rattle.c_core.specs.declared.code.CFunc.{CFunc}
-use Rattle.c_core.specs.declared.primitive.Primitive.{Primitive}
 use Rattle.c_core.specs.declared.primitive.Primitive.TheVariants as prim
 use Rattle.c_core.specs.declared.primitive.GlobalPrim.TheVariants as global
-use Rattle.c_core.specs.Arguments.{kind_of_global}
-use Rattle.c_core.specs.Functions.{function_named, parameter_kinds}
 use Rattle.c_core.specs.Machine.{ShortInt, TaggedError}
-use Rattle.c_core.specs.Primitives.{Is, Parameter, Borrows, TakesText, TakesDecimal, Owned, row_of, primitive_named}
 use Rattle.c_core.specs.Strings.{is_long_decimal}
-use Rattle.c_core.specs.WellFormed.{is_identifier, is_call_name, is_declared, kind_at, spelled_arg, spelled_label, spelled_line, spelled_literal, has_kind, same_kinds, kinds_agree, literal_fits, passes, args_fit, target_fits, function_call_fits, call_fits, line_fits}
-use Rattle.ir_core.specs.declared.code.RType.{RType}
 use Rattle.ir_core.specs.declared.code.RType.TheVariants.{Int, I64, Bool as BoolType, Ref}
 use Rattle.ir_core.specs.declared.code.Lit.{Lit as Literal}
 use Rattle.ir_core.specs.declared.code.Lit.TheVariants.{Number, Null, PyNone, PyTrue, PyFalse}
 use Rattle.ir_core.specs.declared.code.Reg.{Reg}
 use Rattle.ir_core.specs.declared.code.PArg.{PArg}
 use Rattle.ir_core.specs.declared.code.PArg.TheVariants as arg
-use Rattle.ir_core.specs.declared.code.Op.{Op}
-use Rattle.ir_core.specs.declared.code.Op.TheVariants.{Move, Lit, Prim, Call, Virtual, TraitCall, Turn, Inc, Dec, XDec}
-use Rattle.ir_core.specs.declared.code.Last.{Last}
-use Rattle.ir_core.specs.declared.code.Last.TheVariants.{Goto, If, IfError, Return, Unreachable}
-use Rattle.ir_core.specs.declared.code.Block.{Block}
-use Rattle.ir_core.specs.declared.code.Func.{Func}
-use Rattle.ir_core.specs.declared.code.Program.{Program}
-use Rattle.ir_core.specs.Lower.{kind_of_type, variable_of, literal_in, argument_in, register_in, called_as, line_of, op_lines, label_before, label_of, end_lines, block_lines, lines_from, lowered_as, lower}
 use Rattle.ir_core.specs.Registers.{Unset, Holds, literal_of}
-use Rattle.ir_core.specs.Rows.{Declared}
-use Rattle.ir_core.specs.Shape.{LastFits, BlocksFit}
 use Rattle.ir_core.proofs.RowLemmas.{primitive_found}
 use Rattle.ir_core.proofs.TextLemmas.{same_self}
-use Rattle.ir_builder_frames.specs.Kinds.{FunctionType, Surrounding, IsOf, AreArguments, Take, Answers, Reports, ReadsGlobal, WritesGlobal, LiteralFits, OpKinds, OpsKinds, LastKinds, BlocksKinds}
-use Rattle.ir_builder_shapes_laws.specs.Built.{head_of_code}
 use Rattle.ir_builder_shapes_laws.proofs.SpellingLemmas.{primitive_spelled, call_spelled}
 use Rattle.ir_builder_shapes_laws.proofs.NameLemmas.{IsKnown}
 

@@ -1,27 +1,7 @@
 -- The names of what is built differ in C text, and are identifiers there.
-use Rattle.std.proofs.Common.{◌≡◌, ◌≢◌, refl, ◌∙◌, ap, subst, ℕ, zero, suc, ◌+◌, ◌<◌, arith, true, false, cond, List, [], ◌∷◌, ◌++◌, length, Some, None, take, inl, inr}
-use Rattle.std.specs.Prelude.{slice_get, map, find, ◌||◌, not}
-use Rattle.std.specs.Option.{option_map}
-use Rattle.std.specs.List.{list_all, list_any}
-use Rattle.std.specs.Str.{bytes_eq}
-use Rattle.std.proofs.lemmas.Bool.{and_from, and_parts, or_from, or_parts, not-true, cases_lt, eq-eqb, ne_eqb}
+use Rattle.ir_builder_shapes_laws.proofs.Common.{◌≡◌, ◌≢◌, refl, ◌∙◌, ap, subst, ℕ, zero, suc, ◌+◌, ◌<◌, arith, true, false, cond, List, [], ◌∷◌, ◌++◌, length, Some, None, take, inl, inr, slice_get, map, find, ◌||◌, not, option_map, list_all, list_any, bytes_eq, and_from, and_parts, or_from, or_parts, not-true, cases_lt, eq-eqb, ne_eqb, slice_get-map, bytes_eq-Decides, Kind, CFunc, kind_of_global, is_identifier, names_differ, spelled_globals, bytes_eq-sym, RType, Func, Program, function_id, variable_id, Declared, Building, kind_of_type, variable_of, global_of, name_in, lowered_from, lower, Surrounding, HasKinds}
 use Rattle.std.proofs.lemmas.List.Folds.{list_any-append}
-use Rattle.std.proofs.lemmas.Option.{slice_get-map}
-use Rattle.std.proofs.lemmas.Slice.Eq.{bytes_eq-Decides}
-use Rattle.c_core.specs.declared.code.Kind.{Kind}
-use Rattle.c_core.specs.declared.code.CFunc.{CFunc}
-use Rattle.c_core.specs.Arguments.{kind_of_global}
-use Rattle.c_core.specs.WellFormed.{is_identifier, names_differ, spelled_globals}
 use Rattle.c_core.proofs.Lines.{all_at}
-use Rattle.c_core.proofs.NameLemmas.{bytes_eq-sym}
-use Rattle.ir_core.specs.declared.code.RType.{RType}
-use Rattle.ir_core.specs.declared.code.Func.{Func}
-use Rattle.ir_core.specs.declared.code.Program.{Program}
-use Rattle.ir_core.specs.Names.{function_id, variable_id}
-use Rattle.ir_core.specs.Rows.{Declared}
-use Rattle.ir_core.specs.Building.{Building}
-use Rattle.ir_core.specs.Lower.{kind_of_type, variable_of, global_of, name_in, lowered_from, lower}
-use Rattle.ir_builder_frames.specs.Kinds.{Surrounding, HasKinds}
 use Rattle.ir_builder_frames.specs.Naming.{names_of}
 use Rattle.ir_builder_shapes_laws.proofs.SpellingLemmas.{identifier_parts, variable_identifier, temporary_identifier, function_called_as}
 

@@ -1,17 +1,6 @@
 -- Calls find what they name: primitives by the names of their rows, and functions by theirs.
-use Rattle.std.proofs.Common.{◌≡◌, ◌∙◌, ap, subst, ℕ, zero, suc, ◌+◌, arith, true, false, cond, not, List, [], ◌∷◌, length, Some, None}
-use Rattle.std.specs.Prelude.{slice_get, map, nat_lt}
-use Rattle.std.specs.List.{list_any, position, position_or_len}
-use Rattle.std.specs.Str.{bytes_eq}
-use Rattle.std.proofs.lemmas.Bool.{and_parts, not-true, lt-ltb}
-use Rattle.std.proofs.lemmas.Option.{slice_get_within}
-use Rattle.std.proofs.lemmas.Slice.Eq.{bytes_eq-Decides}
-use Rattle.c_core.specs.declared.code.CFunc.{CFunc}
-use Rattle.c_core.specs.WellFormed.{names_differ}
-use Rattle.c_core.proofs.NameLemmas.{bytes_eq-sym}
-use Rattle.ir_core.specs.declared.code.Func.{Func}
-use Rattle.ir_core.specs.declared.code.Program.{Program}
-use Rattle.ir_core.specs.Lower.{name_in, lowered_as, lowered_from, lower}
+use Rattle.ir_builder_shapes_laws.proofs.Common.{◌≡◌, ◌∙◌, ap, subst, ℕ, zero, suc, ◌+◌, arith, true, false, cond, List, [], ◌∷◌, length, Some, None, slice_get, map, nat_lt, list_any, position, position_or_len, bytes_eq, and_parts, not-true, lt-ltb, slice_get_within, bytes_eq-Decides, CFunc, names_differ, bytes_eq-sym, Func, Program, name_in, lowered_as, lowered_from, lower}
+use Rattle.std.proofs.Common.{not}
 use Rattle.ir_builder_shapes_laws.proofs.NameLemmas.{other_at}
 
 -- ---- functions

@@ -1,14 +1,9 @@
 -- How names are spelled: a variable's is one behind `r_`, a temporary one has digits, and an identifier has no dot.
-use Rattle.std.proofs.Common.{◌≡◌, refl, sym, ◌∙◌, ap, ℕ, suc, ◌+◌, ◌<◌, ◌≤◌, arith, Bool, true, false, cond, List, [], ◌∷◌, ◌++◌, length, get_or, inl, inr}
-use Rattle.std.specs.Prelude.{◌&&◌, not, codes, nat_lt, ◌==◌, decimal}
-use Rattle.std.specs.List.{list_all, list_any, before_first, after_first}
-use Rattle.std.specs.Str.{bytes_eq, chars, is_utf8, IsUtf8, NonePass, NoCharPasses}
-use Rattle.std.proofs.lemmas.Bool.{and_from, and_parts, or_from, not-true, cases_lt, true≢false, ltb-true, eqb-true}
+use Rattle.ir_builder_shapes_laws.proofs.Common.{◌≡◌, refl, sym, ◌∙◌, ap, ℕ, suc, ◌+◌, ◌<◌, ◌≤◌, arith, Bool, true, false, cond, List, [], ◌∷◌, ◌++◌, length, get_or, inl, inr, ◌&&◌, not, codes, nat_lt, ◌==◌, decimal, list_all, list_any, before_first, after_first, bytes_eq, chars, is_utf8, IsUtf8, NonePass, NoCharPasses, and_from, and_parts, or_from, not-true, cases_lt, true≢false, ltb-true, eqb-true, Primitive, row_of, is_identifier, is_call_name, other_words, is_dot, method_id, function_id, variable_id, temporary_name}
 use Rattle.std.proofs.lemmas.Bool.Decides.{nat_tests}
 use Rattle.std.proofs.lemmas.Str.{is_utf8-from_IsUtf8, IsUtf8-from_is_utf8, IsUtf8-append, IsUtf8-from_ascii, chars-append, chars-IsAscii, encodes-chars, NoCharPasses-byte}
 use Rattle.unicode_ident.specs.Ident.{is_xid_continue}
 use Rattle.unicode_ident.proofs.Computing.{unicode_ident}
-use Rattle.c_core.specs.declared.primitive.Primitive.{Primitive}
 use Rattle.c_core.specs.declared.primitive.Primitive.TheVariants as prim
 use Rattle.c_core.specs.declared.primitive.Int64Prim.TheVariants as int64
 use Rattle.c_core.specs.declared.primitive.BoolPrim.TheVariants as bool
@@ -24,11 +19,7 @@ use Rattle.c_core.specs.declared.primitive.GlobalPrim.TheVariants as global
 use Rattle.c_core.specs.declared.primitive.ExcPrim.TheVariants as exc
 use Rattle.c_core.specs.declared.primitive.ErrPrim.TheVariants as err
 use Rattle.c_core.specs.declared.primitive.IoPrim.TheVariants as io
-use Rattle.c_core.specs.Primitives.{row_of}
-use Rattle.c_core.specs.WellFormed.{is_identifier, is_call_name, other_words}
-use Rattle.ir_core.specs.Names.{is_dot, method_id, function_id, variable_id}
 use Rattle.ir_core.proofs.SpellingLemmas.{ArePlain, plain_ascii, plain_goes_on, plain_identifier, r_plain, line_plain, decimal_plain}
-use Rattle.ir_builder_frames.specs.Kinds.{temporary_name}
 
 all_append : (xs ys : List ℕ) → list_all is_xid_continue xs ≡ true → list_all is_xid_continue ys ≡ true → list_all is_xid_continue (xs ++ ys) ≡ true
 all_append [] ys h k = k

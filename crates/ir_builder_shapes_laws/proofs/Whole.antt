@@ -1,32 +1,8 @@
 -- A program that is built has its shape.
-use Rattle.std.proofs.Common.{◌≡◌, ◌≢◌, refl, sym, ◌∙◌, ap, subst, ℕ, zero, suc, ◌+◌, ◌-◌, ◌<◌, arith, Bool, true, false, cond, List, [], ◌∷◌, ◌++◌, length, length-append, Option, Some, None}
-use Rattle.std.specs.Prelude.{slice_get, map, nat_le, ◌&&◌, ◌==◌, codes}
-use Rattle.std.specs.List.{list_all, position}
-use Rattle.std.specs.Option.{option_map, option_map_or}
-use Rattle.std.specs.Str.{bytes_eq}
-use Rattle.std.proofs.lemmas.Bool.{and_from, or_left, or_right, le-leb, eq-eqb, ne_eqb}
-use Rattle.std.proofs.lemmas.List.{length-map}
-use Rattle.std.proofs.lemmas.Option.{slice_get_within, slice_get-map}
-use Rattle.c_core.specs.declared.code.Kind.{Kind}
-use Rattle.c_core.specs.declared.code.Line.{Line}
+use Rattle.ir_builder_shapes_laws.proofs.Common.{◌≡◌, ◌≢◌, refl, sym, ◌∙◌, ap, subst, ℕ, zero, suc, ◌+◌, ◌-◌, ◌<◌, arith, Bool, true, false, cond, List, [], ◌∷◌, ◌++◌, length, length-append, Option, Some, None, slice_get, map, nat_le, ◌&&◌, ◌==◌, codes, list_all, position, option_map, option_map_or, bytes_eq, and_from, or_left, or_right, le-leb, eq-eqb, ne_eqb, length-map, slice_get_within, slice_get-map, Kind, Line, CFunc, label_places, is_identifier, is_char, is_leaving, is_turn_at, begins_right, jumps_fit, lines_lead_on, line_fits, function_fits, names_differ, class_fits, classes_fit, functions_fit, spelled_line, spelled_body, spelled_top, spelled_function, spelled_functions, spelled_globals, spelled_class, is_spelled, well_formed, RType, Op, Turn, Last, Block, Func, Program, Do, End, in_block, item_in, kind_of_type, variable_of, call_name, line_of, op_lines, end_lines, label_of, lines_from, name_in, lowered_as, lowered_from, lower, FuncsFit, BeginsInTurn, Shape, FunctionType, head_of_code, building_of, IsBuilt, IsFunction, IsProgram}
 use Rattle.c_core.specs.declared.code.Line.TheVariants as line
 use Rattle.c_core.specs.declared.code.CClass.{CClass}
-use Rattle.c_core.specs.declared.code.CFunc.{CFunc}
 use Rattle.c_core.specs.declared.code.Code.{Code}
-use Rattle.c_core.specs.Functions.{label_places}
-use Rattle.c_core.specs.WellFormed.{is_identifier, is_char, is_leaving, is_turn_at, begins_right, jumps_fit, lines_lead_on, line_fits, function_fits, names_differ, class_fits, classes_fit, functions_fit, spelled_line, spelled_body, spelled_top, spelled_function, spelled_functions, spelled_globals, spelled_class, is_spelled, well_formed}
-use Rattle.ir_core.specs.declared.code.RType.{RType}
-use Rattle.ir_core.specs.declared.code.Op.{Op}
-use Rattle.ir_core.specs.declared.code.Op.TheVariants.{Turn}
-use Rattle.ir_core.specs.declared.code.Last.{Last}
-use Rattle.ir_core.specs.declared.code.Block.{Block}
-use Rattle.ir_core.specs.declared.code.Func.{Func}
-use Rattle.ir_core.specs.declared.code.Program.{Program}
-use Rattle.ir_core.specs.Items.{Do, End, in_block, item_in}
-use Rattle.ir_core.specs.Lower.{kind_of_type, variable_of, call_name, line_of, op_lines, end_lines, label_of, lines_from, name_in, lowered_as, lowered_from, lower}
-use Rattle.ir_core.specs.Shape.{FuncsFit, BeginsInTurn, Shape}
-use Rattle.ir_builder_frames.specs.Kinds.{FunctionType}
-use Rattle.ir_builder_shapes_laws.specs.Built.{head_of_code, building_of, IsBuilt, IsFunction, IsProgram}
 use Rattle.ir_builder_shapes_laws.specs.Laws.{BuiltHasShape}
 use Rattle.ir_builder_shapes_laws.proofs.BlockLemmas.{built_fits, funcs_fit, turns_begin}
 use Rattle.ir_core.proofs.JumpLemmas.{jumps_go, last_leaves}

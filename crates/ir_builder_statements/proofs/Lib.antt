@@ -7,3 +7,4 @@ pub mod SizeLemmas
 pub mod SuiteLemmas
 pub mod BodyLemmas
 pub mod Common
+pub mod LinedLemmas

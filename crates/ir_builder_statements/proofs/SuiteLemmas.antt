@@ -2,9 +2,16 @@
 use Rattle.ir_builder_statements.proofs.Common.{◌≡◌, ℕ, ◌+◌, ◌<◌, true, List, ◌∷◌, length, map, drop, get_or, Option, refl, sym, ap, ◌∙◌, subst, TExpr, TStmt, Sort, typed_expr, Variable, TypedModule, TypedStmt, TypedSuite, TypedAct, on_line, typed_stmt, typed_act, typed_suite, typed_arm, maybe_typed, arms_of, typed_stmt_of, typed_stmt-While, typed_act-If, typed_act-While, typed_act-Return, typed_act-Break, typed_act-Continue, State, Setting, means_loop, means_statement, means_suite, TestSuits, ReturnSuits, StatementSuits, ActSuits, SuiteSuits, ArmsSuit, LoopSuits}
 use Rattle.std.proofs.Common.{Bool}
 use Rattle.std.proofs.lemmas.List.{drop_more}
-use Rattle.py_typed.specs.declared.statement.TStmtKind.{TStmtKind}
+use Rattle.py_syntax.specs.declared.expression.BinOp.{BinOp}
+use Rattle.py_typed.specs.declared.types.Ty.{Ty}
+use Rattle.py_typed.specs.declared.statement.Target.{Target}
+use Rattle.py_typed.specs.declared.statement.THandler.{THandler}
+use Rattle.py_typed.specs.declared.statement.TStmtKind.{TStmtKind, fold-roll-TStmtKind, out-TStmtKind, roll-TStmtKind, roll-out-TStmtKind}
 use Rattle.py_typed.specs.declared.statement.TStmtKind as kind
+use Rattle.py_typed.specs.declared.statement.TStmtKind.TheVariants as variant
+use Rattle.py_typed.specs.declared.statement.TStmtKind.TheOpen.{TStmtKind-F}
 use Rattle.py_typed.specs.Statements as tree
+use Rattle.py_typed.specs.Statements.{HandlerParts, act_step, handler_step, stmt_step, typed_handler}
 
 module _ (m : TypedModule) (vs : List Variable) (gives : Option Sort) (looping : Bool) where
   -- ---- rows
@@ -53,6 +60,29 @@ module _ (m : TypedModule) (vs : List Variable) (gives : Option Sort) (looping :
         let Q : TypedStmt → Type 0 = λ z. LoopSuits m vs gives z (typed_suite all) in
         let k = act_suits (kind.While e all) (tree.While (typed_expr e) (typed_suite all)) is (typed_act-While e all) in
         subst P (sym same) (subst Q (sym (typed_stmt-While s e all is)) (refl, k.0, k.1))
+
+    -- it is of one of the kinds that are built
+    abbrev act_as : TStmtKind-F TStmtKind THandler TStmt → TypedAct
+    act_as k = act_step (kind.map-TStmtKind TStmtKind THandler TStmt TypedAct HandlerParts TypedStmt typed_act typed_handler typed_stmt k)
+
+    suited : (k : TStmtKind-F TStmtKind THandler TStmt) → roll-TStmtKind k ≡ s.kind → ActSuits m vs gives looping (act_as k)
+    suited k is = act_suits (roll-TStmtKind k) (act_as k) (sym is) (fold-roll-TStmtKind TypedAct HandlerParts TypedStmt act_step handler_step stmt_step k)
+
+    module _ (no_alone : (e : TExpr) → s.kind ≡ kind.Expr e → ⊥) (no_assignment : (ts : List Target) (e : TExpr) → s.kind ≡ kind.Assign ts e → ⊥) (no_update : (t : Target) (op : BinOp) (e : TExpr) (ty : Ty) → s.kind ≡ kind.Aug t op e ty → ⊥) (no_if : (arms : List (TExpr × List TStmt)) (other : List TStmt) → s.kind ≡ kind.If arms other → ⊥) (no_while : (e : TExpr) (body : List TStmt) → s.kind ≡ kind.While e body → ⊥) (no_return : (o : Option TExpr) → s.kind ≡ kind.Return o → ⊥) (no_break : s.kind ≡ kind.Break → ⊥) (no_continue : s.kind ≡ kind.Continue → ⊥) (no_pass : s.kind ≡ kind.Pass → ⊥) where
+      unsuited : (k : TStmtKind-F TStmtKind THandler TStmt) → roll-TStmtKind k ≡ s.kind → ⊥
+      unsuited (TStmtKind-F.Expr e) is = no_alone e (sym is ∙ variant.rolls-Expr e)
+      unsuited (TStmtKind-F.Assign ts e) is = no_assignment ts e (sym is ∙ variant.rolls-Assign ts e)
+      unsuited (TStmtKind-F.Aug t op e ty) is = no_update t op e ty (sym is ∙ variant.rolls-Aug t op e ty)
+      unsuited (TStmtKind-F.If arms other) is = no_if arms other (sym is ∙ variant.rolls-If arms other)
+      unsuited (TStmtKind-F.While e body) is = no_while e body (sym is ∙ variant.rolls-While e body)
+      unsuited (TStmtKind-F.Return o) is = no_return o (sym is ∙ variant.rolls-Return o)
+      unsuited TStmtKind-F.Break is = no_break (sym is ∙ variant.rolls-Break)
+      unsuited TStmtKind-F.Continue is = no_continue (sym is ∙ variant.rolls-Continue)
+      unsuited TStmtKind-F.Pass is = no_pass (sym is ∙ variant.rolls-Pass)
+      unsuited k is = suited k is
+
+      pub none_left : ⊥
+      none_left = unsuited (out-TStmtKind s.kind) (roll-out-TStmtKind s.kind)
 
 -- ---- loops
 

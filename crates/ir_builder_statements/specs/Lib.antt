@@ -2,3 +2,4 @@ pub mod Suiting
 pub mod Modules
 pub mod Kinds
 pub mod Parts
+pub mod Lined

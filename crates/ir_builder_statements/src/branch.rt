@@ -1,43 +1,38 @@
 //! What stands around the bodies of `if` and of loops.
-ghost use Rattle.std.specs.Prelude.{◌≤◌, ◌<◌, ℕ, map, length, IfOk, OnOk, OnErr};
+ghost use Rattle.std.specs.Prelude.{◌<◌, ◌≤◌, ℕ, length, IfOk, OnOk, OnErr, [], ◌∷◌};
 ghost use Rattle.py_typed.specs.Expressions.{typed_expr};
-ghost use Rattle.py_typed.specs.Statements.{typed_module, variable};
 ghost use Rattle.ir_core.specs.Building.{Extends};
 ghost use Rattle.ir_builder_frames.specs.Calling.{Open};
-ghost use Rattle.ir_builder_frames.specs.Settings.{setting};
 ghost use Rattle.ir_builder_frames.specs.Matching.{HasRoom};
 ghost use Rattle.ir_builder_frames.specs.Shaped.{Keeps};
 ghost use Rattle.ir_builder_frames.specs.Kinds.{IsAmong, IsOf, KeepsKinds, KeepsKindsIf};
+ghost use Rattle.ir_builder_expressions.specs.Site.{setting_of};
 ghost use Rattle.ir_builder_expressions.specs.Suiting.{Suits};
 ghost use Rattle.ir_builder_loops_and_jumps.specs.Runs.{OpenIn};
 ghost use Rattle.ir_builder_loops_and_jumps.specs.Around.{SplitsBy, EndsArm, Joins, EndsLoop};
+ghost use Rattle.ir_builder_frames.specs.Lines.{OwnLines};
+ghost use Rattle.ir_builder_expressions.specs.Lined.{Around};
+ghost use Rattle.ir_builder_statements.specs.Lined.{value, LinedPieces};
 
 use crate::exits::{leave_by, pass_on, patch_all};
-use ir_builder_expressions::emit_expression;
-use ir_builder_frames::{Emitter, Frame};
+use ir_builder_expressions::{Site, emit_expression};
+use ir_builder_frames::Emitter;
 use ir_builder_loops_and_jumps::{Exit, ExitPlan, LoopStart, Test, Way};
 use ir_core::{Last, Op, RType};
-use py_typed::{Checked, TExpr, Var};
-use std::alloc::Global;
+use py_typed::TExpr;
 use value_core::Memory;
 
 /// Emits a test, and ends the block.
-pub(crate) fn emit_split(
-    b: &mut Emitter,
-    alloc: Global,
-    checked: &Checked,
-    locals: &[Var],
-    frame: Frame,
-    e: &TExpr,
-) -> Result<Test, Memory>
-    requires suits { Suits (typed_module checked.now) (map variable locals.now) (typed_expr e.now) }
-    requires room { HasRoom (setting checked.now locals.now frame) b.old }
+pub(crate) fn emit_split(b: &mut Emitter, site: Site, e: &TExpr) -> Result<Test, Memory>
+    requires suits { Suits (setting_of site).source (setting_of site).variables (typed_expr e.now) }
+    requires room { HasRoom (setting_of site) b.old }
     ensures kept { Extends b.old b.new }
-    ensures splits { IfOk result (λ t. SplitsBy (setting checked.now locals.now frame) (typed_expr e.now) b.old b.new t) }
+    ensures splits { IfOk result (λ t. SplitsBy (setting_of site.entry) (typed_expr e.now) b.old b.new t) }
     ensures shaped { Keeps b.old b.new }
-    ensures kinds { KeepsKindsIf (IsAmong (typed_module checked.now)) b.old b.new }
+    ensures kinds { KeepsKindsIf (IsAmong (setting_of site.entry).source) b.old b.new }
+    ensures lined { OnOk result ((l : ℕ) → LinedPieces (setting_of site.entry) l (value (typed_expr e.now) ∷ []) b.old b.new) }
 {
-    let condition = emit_expression(b, alloc, checked, locals, frame, e, e.span.line)?;
+    let condition = emit_expression(b, site, e)?;
     let block = b.close(Last::Unreachable)?;
     Ok(Test {
         condition,
@@ -54,6 +49,7 @@ pub(crate) fn end_arm(b: &mut Emitter, test: Test, exits: &mut Vec<Exit>) -> Res
     ensures ends { OnOk result (EndsArm b.old b.new test exits.old.items exits.new.items) }
     ensures shaped { OnOk result (Keeps b.old b.new) }
     ensures kinds { OnOk result (KeepsKindsIf (λ g. IsOf b.old.regs test.condition RType.Bool) b.old b.new) }
+    ensures lined { (l : ℕ) → OwnLines l b.old b.new }
 {
     leave_by(b, Way::Join, exits)?;
     let next = b.here();
@@ -68,6 +64,7 @@ pub(crate) fn join(b: &mut Emitter, inner: &[Exit], exits: &mut Vec<Exit>) -> Re
     ensures joins { OnOk result (Joins b.old b.new inner.now exits.old.items exits.new.items) }
     ensures shaped { OnOk result (Keeps b.old b.new) }
     ensures kinds { OnOk result (KeepsKinds b.old b.new) }
+    ensures lined { OnOk result ((l : ℕ) → Around l b.old b.new) }
 {
     let end = b.step_on()?;
     let plan = ExitPlan {
@@ -101,6 +98,7 @@ pub(crate) fn end_loop(
     ensures ends { OnOk result (EndsLoop b.old b.new start next inner.now exits.old.items exits.new.items) }
     ensures shaped { OnOk result (Keeps b.old b.new) }
     ensures kinds { OnOk result (KeepsKindsIf (λ g. IsOf b.old.regs start.test.condition RType.Bool) b.old b.new) }
+    ensures lined { OnOk result (Around line b.old b.new) }
 {
     let LoopStart { head, test } = start;
     b.push(Op::Turn, line)?;

@@ -7,6 +7,7 @@ ghost use Rattle.ir_builder_frames.specs.Kinds.{KeepsKinds};
 ghost use Rattle.ir_builder_loops_and_jumps.specs.Ways.{planned, left};
 ghost use Rattle.ir_builder_loops_and_jumps.specs.Plans.{PlanFits};
 ghost use Rattle.ir_builder_loops_and_jumps.specs.Runs.{OpenIn, all_jumping};
+ghost use Rattle.ir_builder_frames.specs.Lines.{OwnLines};
 
 use ir_builder_frames::Emitter;
 use ir_builder_loops_and_jumps::{Exit, ExitPlan, Way};
@@ -20,6 +21,7 @@ pub(crate) fn leave_by(b: &mut Emitter, way: Way, exits: &mut Vec<Exit>) -> Resu
     ensures closed { OnOk result (Closes b.old b.new Last.Unreachable) }
     ensures shaped { Keeps b.old b.new }
     ensures kinds { KeepsKinds b.old b.new }
+    ensures lined { (l : ℕ) → OwnLines l b.old b.new }
 {
     let block = b.close(Last::Unreachable)?;
     exits.push(Exit { way, block })?;
@@ -44,6 +46,7 @@ pub(crate) fn patch_all(b: &mut Emitter, exits: &[Exit], plan: ExitPlan)
     ensures jumps { b.new ≡ all_jumping (planned plan) exits.now b.old }
     ensures shaped { KeepsIf (λ n m. PlanFits m (planned plan) exits.now) b.old b.new }
     ensures kinds { KeepsKinds b.old b.new }
+    ensures lined { (l : ℕ) → OwnLines l b.old b.new }
 {
     for exit in exits {
         if let Some(place) = place_of(plan, exit.way) {

@@ -1,17 +1,18 @@
 //! The code of simple statements.
-ghost use Rattle.std.specs.Prelude.{◌≡◌, ◌≤◌, [], true, map, length, Option, Some, None, IfOk, OnOk};
+ghost use Rattle.std.specs.Prelude.{◌≡◌, [], true, map, Option, Some, None, IfOk, OnOk, ◌∷◌};
 ghost use Rattle.py_typed.specs.Sorts.{Sort, sort};
 ghost use Rattle.py_typed.specs.Expressions.{typed_expr, type_of};
-ghost use Rattle.py_typed.specs.Statements.{typed_module, typed_target, maybe_typed, variable};
+ghost use Rattle.py_typed.specs.Statements.{typed_target, maybe_typed, variable};
 ghost use Rattle.source_meaning.specs.Operations.{coerced};
 ghost use Rattle.ir_core.specs.Building.{Extends};
-ghost use Rattle.ir_builder_frames.specs.Settings.{setting, rtype_of};
+ghost use Rattle.ir_builder_frames.specs.Settings.{rtype_of};
 ghost use Rattle.ir_builder_frames.specs.Placing.{HasType};
 ghost use Rattle.ir_builder_frames.specs.Matching.{HasRoom};
 ghost use Rattle.ir_builder_frames.specs.Computing.{Shows, Attempts};
 ghost use Rattle.ir_builder_frames.specs.Shaped.{Keeps};
 ghost use Rattle.ir_builder_frames.specs.Kinds.{IsAmong, KeepsKinds, KeepsKindsIf};
 ghost use Rattle.ir_builder_operations.specs.Operating.{ActsOn};
+ghost use Rattle.ir_builder_expressions.specs.Site.{setting_of};
 ghost use Rattle.ir_builder_expressions.specs.Parts.{is_scalar};
 ghost use Rattle.ir_builder_expressions.specs.Applying.{BinarySuits};
 ghost use Rattle.ir_builder_expressions.specs.Suiting.{Suits};
@@ -20,40 +21,40 @@ ghost use Rattle.ir_builder_loops_and_jumps.specs.Runs.{Works};
 ghost use Rattle.ir_builder_statements.specs.Suiting.{IsOnly, VariableUpdates, ReturnSuits};
 ghost use Rattle.ir_builder_statements.specs.Kinds.{IsAround};
 ghost use Rattle.ir_builder_statements.specs.Parts.{ComputesAs, ComputesReturned, update_binary, TurnsInto};
+ghost use Rattle.ir_builder_frames.specs.Lines.{OwnLines};
+ghost use Rattle.ir_builder_expressions.specs.Lined.{LinedParts};
+ghost use Rattle.ir_builder_statements.specs.Lined.{value as value_piece, returned_pieces, LinedPieces};
 
 use crate::variables::{emit_set, reading, variable_type};
-use ir_builder_expressions::{Binary, emit_expression, emit_two_parts};
-use ir_builder_frames::{Emitter, Frame};
+use ir_builder_expressions::{Binary, Site, emit_expression, emit_two_parts};
+use ir_builder_frames::Emitter;
 use ir_builder_operations::emit_coercion;
 use ir_core::{Last, Lit, RType, Reg};
-use py_syntax::BinOp;
-use py_typed::{Checked, TExpr, Target, Ty, Var};
+use py_syntax::{BinOp, Span};
+use py_typed::{TExpr, Target, Ty};
 use std::alloc::Global;
 use value_core::Memory;
 
 /// Assigns to a variable (Python Language Reference, "Assignment statements").
 pub(crate) fn emit_assignment(
     b: &mut Emitter,
-    alloc: Global,
-    checked: &Checked,
-    locals: &[Var],
-    frame: Frame,
+    site: Site,
     targets: &[Target],
     e: &TExpr,
-    line: usize,
 ) -> Result<(), Memory>
     requires simple { is_scalar (type_of (typed_expr e.now)) ≡ true }
-    requires target { IsOnly (typed_module checked.now) (map variable locals.now) None (map typed_target targets.now) (type_of (typed_expr e.now)) }
-    requires suits { Suits (typed_module checked.now) (map variable locals.now) (typed_expr e.now) }
-    requires room { HasRoom (setting checked.now locals.now frame) b.old }
+    requires target { IsOnly (setting_of site).source (setting_of site).variables None (map typed_target targets.now) (type_of (typed_expr e.now)) }
+    requires suits { Suits (setting_of site).source (setting_of site).variables (typed_expr e.now) }
+    requires room { HasRoom (setting_of site) b.old }
     ensures kept { Extends b.old b.new }
-    ensures works { OnOk result ((gives : Option Sort) → Works (setting checked.now locals.now frame) gives (means_assignment (setting checked.now locals.now frame) (map typed_target targets.now) (typed_expr e.now)) b.old b.new []) }
+    ensures works { OnOk result ((gives : Option Sort) → Works (setting_of site.entry) gives (means_assignment (setting_of site.entry) (map typed_target targets.now) (typed_expr e.now)) b.old b.new []) }
     ensures shaped { Keeps b.old b.new }
-    ensures kinds { KeepsKindsIf (IsAmong (typed_module checked.now)) b.old b.new }
+    ensures kinds { KeepsKindsIf (IsAmong (setting_of site.entry).source) b.old b.new }
+    ensures lined { OnOk result (LinedPieces (setting_of site.entry) site.entry.line (value_piece (typed_expr e.now) ∷ []) b.old b.new) }
 {
     let target = &targets[0];
-    let r = emit_expression(b, alloc, checked, locals, frame, e, line)?;
-    emit_set(b, alloc, checked, frame, target, r, line)
+    let r = emit_expression(b, site, e)?;
+    emit_set(b, site, target, r)
 }
 
 // The operation of an update in a type.
@@ -81,6 +82,7 @@ fn emit_own(
     ensures made { IfOk result (λ r. Attempts (Shows (sort own.now)) b.old b.new r.0 (rtype_of (sort own.now)) (ActsOn (sort t.now) x.0 (coerced (sort own.now)))) }
     ensures shaped { Keeps b.old b.new }
     ensures kinds { KeepsKinds b.old b.new }
+    ensures lined { OwnLines line b.old b.new }
 {
     match own {
         Ty::Str => Ok(x),
@@ -91,104 +93,87 @@ fn emit_own(
 // The result of an operation on two parts in a type, as a value of the variable's own type.
 fn emit_changed(
     b: &mut Emitter,
-    alloc: Global,
-    checked: &Checked,
-    locals: &[Var],
-    frame: Frame,
+    site: Site,
     op: Binary,
     t: &Ty,
     own: &Ty,
     before: &TExpr,
     e: &TExpr,
-    line: usize,
 ) -> Result<Reg, Memory>
     requires fits { BinarySuits op (sort t.now) (sort before.now.ty) (sort e.now.ty) }
     requires turns { TurnsInto (sort t.now) (sort own.now) }
-    requires before { Suits (typed_module checked.now) (map variable locals.now) (typed_expr before.now) }
-    requires suits { Suits (typed_module checked.now) (map variable locals.now) (typed_expr e.now) }
-    requires room { HasRoom (setting checked.now locals.now frame) b.old }
+    requires before { Suits (setting_of site).source (setting_of site).variables (typed_expr before.now) }
+    requires suits { Suits (setting_of site).source (setting_of site).variables (typed_expr e.now) }
+    requires room { HasRoom (setting_of site) b.old }
     ensures kept { Extends b.old b.new }
-    ensures computes { IfOk result (λ r. ComputesAs (setting checked.now locals.now frame) op (sort t.now) (sort own.now) (typed_expr before.now) (typed_expr e.now) b.old b.new r.0) }
+    ensures computes { IfOk result (λ r. ComputesAs (setting_of site.entry) op (sort t.now) (sort own.now) (typed_expr before.now) (typed_expr e.now) b.old b.new r.0) }
     ensures shaped { Keeps b.old b.new }
-    ensures kinds { KeepsKindsIf (IsAmong (typed_module checked.now)) b.old b.new }
+    ensures kinds { KeepsKindsIf (IsAmong (setting_of site.entry).source) b.old b.new }
+    ensures lined { OnOk result (LinedParts (setting_of site.entry) site.entry.line (typed_expr before.now ∷ typed_expr e.now ∷ []) b.old b.new) }
 {
-    let result = emit_two_parts(b, alloc, checked, locals, frame, op, t, before, e, line)?;
-    emit_own(b, alloc, t, own, result, line)
+    let result = emit_two_parts(b, site, op, t, before, e)?;
+    emit_own(b, site.alloc, t, own, result, site.line)
 }
 
 /// Changes a variable by an operation in a type (Python Language Reference, "Augmented assignment statements"): it is read, then
-/// the operand is evaluated, and the result is turned into the variable's own type.
+/// the operand is evaluated, and the result is turned into the variable's own type. All of it but the operand has the line of the
+/// statement.
 pub(crate) fn emit_update(
     b: &mut Emitter,
-    alloc: Global,
-    checked: &Checked,
-    locals: &[Var],
-    frame: Frame,
+    site: Site,
     target: &Target,
     op: BinOp,
     e: &TExpr,
     t: &Ty,
-    line: usize,
 ) -> Result<(), Memory>
-    requires fits { VariableUpdates (typed_module checked.now) (map variable locals.now) None (typed_target target.now) op (sort t.now) (type_of (typed_expr e.now)) }
-    requires suits { Suits (typed_module checked.now) (map variable locals.now) (typed_expr e.now) }
-    requires room { HasRoom (setting checked.now locals.now frame) b.old }
+    requires fits { VariableUpdates (setting_of site).source (setting_of site).variables None (typed_target target.now) op (sort t.now) (type_of (typed_expr e.now)) }
+    requires suits { Suits (setting_of site).source (setting_of site).variables (typed_expr e.now) }
+    requires room { HasRoom (setting_of site) b.old }
     ensures kept { Extends b.old b.new }
-    ensures works { OnOk result ((gives : Option Sort) → Works (setting checked.now locals.now frame) gives (means_update (setting checked.now locals.now frame) (typed_target target.now) op (typed_expr e.now) (sort t.now)) b.old b.new []) }
+    ensures works { OnOk result ((gives : Option Sort) → Works (setting_of site.entry) gives (means_update (setting_of site.entry) (typed_target target.now) op (typed_expr e.now) (sort t.now)) b.old b.new []) }
     ensures shaped { Keeps b.old b.new }
-    ensures kinds { KeepsKindsIf (IsAmong (typed_module checked.now)) b.old b.new }
+    ensures kinds { KeepsKindsIf (IsAmong (setting_of site.entry).source) b.old b.new }
+    ensures lined { OnOk result (LinedPieces (setting_of site.entry) site.entry.line (value_piece (typed_expr e.now) ∷ []) b.old b.new) }
 {
-    let own = variable_type(checked, locals, target);
-    let before = reading(target, own, e.span);
+    let own = variable_type(site, target);
+    let place = Span {
+        line: site.line,
+        ..e.span
+    };
+    let before = reading(target, own, place);
     let op = updating(op, t);
-    let value = emit_changed(
-        b, alloc, checked, locals, frame, op, t, own, &before, e, line,
-    )?;
-    emit_set(b, alloc, checked, frame, target, value, line)
+    let value = emit_changed(b, site, op, t, own, &before, e)?;
+    emit_set(b, site, target, value)
 }
 
 // The value that is returned, in a register. Without one it is None.
-fn emit_returned(
-    b: &mut Emitter,
-    alloc: Global,
-    checked: &Checked,
-    locals: &[Var],
-    frame: Frame,
-    value: &Option<TExpr>,
-    line: usize,
-) -> Result<Reg, Memory>
-    requires suits { ReturnSuits (typed_module checked.now) (map variable locals.now) (Some (returned_type (maybe_typed value.now))) (maybe_typed value.now) }
-    requires room { HasRoom (setting checked.now locals.now frame) b.old }
+fn emit_returned(b: &mut Emitter, site: Site, value: &Option<TExpr>) -> Result<Reg, Memory>
+    requires suits { ReturnSuits (setting_of site).source (setting_of site).variables (Some (returned_type (maybe_typed value.now))) (maybe_typed value.now) }
+    requires room { HasRoom (setting_of site) b.old }
     ensures kept { Extends b.old b.new }
-    ensures computes { IfOk result (λ r. ComputesReturned (setting checked.now locals.now frame) (maybe_typed value.now) b.old b.new r.0) }
+    ensures computes { IfOk result (λ r. ComputesReturned (setting_of site.entry) (maybe_typed value.now) b.old b.new r.0) }
     ensures shaped { Keeps b.old b.new }
-    ensures kinds { KeepsKindsIf (IsAmong (typed_module checked.now)) b.old b.new }
+    ensures kinds { KeepsKindsIf (IsAmong (setting_of site.entry).source) b.old b.new }
+    ensures lined { OnOk result (LinedPieces (setting_of site.entry) site.entry.line (returned_pieces (maybe_typed value.now)) b.old b.new) }
 {
     match value {
-        Some(e) => emit_expression(b, alloc, checked, locals, frame, e, line),
-        None => b.literal(RType::Ref, Lit::PyNone, line),
+        Some(e) => emit_expression(b, site, e),
+        None => b.literal(RType::Ref, Lit::PyNone, site.line),
     }
 }
 
 /// Returns (Python Language Reference, "The return statement").
-pub(crate) fn emit_return(
-    b: &mut Emitter,
-    alloc: Global,
-    checked: &Checked,
-    locals: &[Var],
-    frame: Frame,
-    value: &Option<TExpr>,
-    line: usize,
-) -> Result<(), Memory>
-    requires suits { ReturnSuits (typed_module checked.now) (map variable locals.now) (Some (returned_type (maybe_typed value.now))) (maybe_typed value.now) }
-    requires room { HasRoom (setting checked.now locals.now frame) b.old }
-    requires alone { frame.ret ≡ None }
+pub(crate) fn emit_return(b: &mut Emitter, site: Site, value: &Option<TExpr>) -> Result<(), Memory>
+    requires suits { ReturnSuits (setting_of site).source (setting_of site).variables (Some (returned_type (maybe_typed value.now))) (maybe_typed value.now) }
+    requires room { HasRoom (setting_of site) b.old }
+    requires alone { site.frame.ret ≡ None }
     ensures kept { Extends b.old b.new }
-    ensures works { OnOk result (Works (setting checked.now locals.now frame) (Some (returned_type (maybe_typed value.now))) (means_return (setting checked.now locals.now frame) (maybe_typed value.now)) b.old b.new []) }
+    ensures works { OnOk result (Works (setting_of site.entry) (Some (returned_type (maybe_typed value.now))) (means_return (setting_of site.entry) (maybe_typed value.now)) b.old b.new []) }
     ensures shaped { Keeps b.old b.new }
-    ensures kinds { KeepsKindsIf (IsAround (typed_module checked.now) (Some (returned_type (maybe_typed value.now)))) b.old b.new }
+    ensures kinds { KeepsKindsIf (IsAround (setting_of site.entry).source (Some (returned_type (maybe_typed value.now)))) b.old b.new }
+    ensures lined { OnOk result (LinedPieces (setting_of site.entry) site.entry.line (returned_pieces (maybe_typed value.now)) b.old b.new) }
 {
-    let r = emit_returned(b, alloc, checked, locals, frame, value, line)?;
+    let r = emit_returned(b, site, value)?;
     b.close(Last::Return(r))?;
     Ok(())
 }

@@ -1,28 +1,29 @@
 //! The code of statements.
-ghost use Rattle.std.specs.Prelude.{◌≡◌, [], map, Option, None, IfOk, OnOk};
+ghost use Rattle.std.specs.Prelude.{◌≡◌, [], map, Option, None, IfOk, OnOk, ℕ};
 ghost use Rattle.std.specs.Option.{option_map, option_copied};
 ghost use Rattle.py_typed.specs.Sorts.{Sort, sort};
-ghost use Rattle.py_typed.specs.Statements.{TypedSuite, typed_module, typed_stmt, typed_suite, typed_arm, arms_of, variable};
+ghost use Rattle.py_typed.specs.Statements.{TypedSuite, typed_stmt, typed_suite, typed_arm, arms_of};
 ghost use Rattle.ir_core.specs.Building.{Extends};
-ghost use Rattle.ir_builder_frames.specs.Settings.{setting};
 ghost use Rattle.ir_builder_frames.specs.Matching.{HasRoom};
 ghost use Rattle.ir_builder_frames.specs.Shaped.{Keeps};
 ghost use Rattle.ir_builder_frames.specs.Kinds.{IsAmong, KeepsKindsIf};
+ghost use Rattle.ir_builder_expressions.specs.Site.{setting_of};
 ghost use Rattle.ir_builder_loops_and_jumps.specs.Means.{means_loop, means_statement, means_suite};
 ghost use Rattle.ir_builder_loops_and_jumps.specs.Around.{Begins};
 ghost use Rattle.ir_builder_loops_and_jumps.specs.Runs.{Emitted};
 ghost use Rattle.ir_builder_loops_and_jumps.specs.Tested.{Tested};
 ghost use Rattle.ir_builder_statements.specs.Suiting.{LoopSuits, StatementSuits, SuiteSuits, ArmsSuit};
 ghost use Rattle.ir_builder_statements.specs.Kinds.{IsAround};
+ghost use Rattle.ir_builder_statements.specs.Lined.{arm_pieces, head_pieces, LinedPieces, LinedStatement, LinedSuite};
 
 use crate::alone::emit_alone;
 use crate::branch::{emit_split, end_arm, end_loop, join};
 use crate::exits::leave_by;
 use crate::simple::{emit_assignment, emit_return, emit_update};
-use ir_builder_frames::{Emitter, Frame};
+use ir_builder_expressions::Site;
+use ir_builder_frames::Emitter;
 use ir_builder_loops_and_jumps::{Exit, LoopStart, Way};
-use py_typed::{Checked, TExpr, TStmt, TStmtKind, Ty, Var};
-use std::alloc::Global;
+use py_typed::{TExpr, TStmt, TStmtKind, Ty};
 use value_core::{Many, Memory};
 
 /// Emits statements one after another. The exits by which they are left are added to a list. `gives` is the type of the
@@ -31,25 +32,23 @@ use value_core::{Many, Memory};
 #[cycle(statement)]
 pub fn emit_block(
     b: &mut Emitter,
-    alloc: Global,
-    checked: &Checked,
-    locals: &[Var],
-    frame: Frame,
+    site: Site,
     gives: Option<&Ty>,
     looping: bool,
     body: &[TStmt],
     exits: &mut Vec<Exit>,
 ) -> Result<(), Memory>
-    requires suits { SuiteSuits (typed_module checked.now) (map variable locals.now) (option_map sort (option_copied gives)) looping (typed_suite body.now) }
-    requires room { HasRoom (setting checked.now locals.now frame) b.old }
-    requires alone { frame.ret ≡ None }
+    requires suits { SuiteSuits (setting_of site).source (setting_of site).variables (option_map sort (option_copied gives)) looping (typed_suite body.now) }
+    requires room { HasRoom (setting_of site) b.old }
+    requires alone { site.frame.ret ≡ None }
     ensures kept { Extends b.old b.new }
-    ensures emitted { OnOk result (Emitted (setting checked.now locals.now frame) (option_map sort (option_copied gives.entry)) looping (means_suite (setting checked.now locals.now frame) (typed_suite body.now)) b.old b.new exits.old.items exits.new.items) }
+    ensures emitted { OnOk result (Emitted (setting_of site.entry) (option_map sort (option_copied gives.entry)) looping (means_suite (setting_of site.entry) (typed_suite body.now)) b.old b.new exits.old.items exits.new.items) }
     ensures shaped { OnOk result (Keeps b.old b.new) }
-    ensures kinds { OnOk result (KeepsKindsIf (IsAround (typed_module checked.now) (option_map sort (option_copied gives.entry))) b.old b.new) }
+    ensures kinds { OnOk result (KeepsKindsIf (IsAround (setting_of site.entry).source (option_map sort (option_copied gives.entry))) b.old b.new) }
+    ensures lined { OnOk result (LinedSuite (setting_of site.entry) (typed_suite body.now) b.old b.new) }
 {
     for s in body {
-        emit_statement(b, alloc, checked, locals, frame, gives, looping, s, exits)?;
+        emit_statement(b, site, gives, looping, s, exits)?;
     }
     Ok(())
 }
@@ -58,47 +57,42 @@ pub fn emit_block(
 #[cycle(statement)]
 fn emit_statement(
     b: &mut Emitter,
-    alloc: Global,
-    checked: &Checked,
-    locals: &[Var],
-    frame: Frame,
+    site: Site,
     gives: Option<&Ty>,
     looping: bool,
     s: &TStmt,
     exits: &mut Vec<Exit>,
 ) -> Result<(), Memory>
-    requires suits { StatementSuits (typed_module checked.now) (map variable locals.now) (option_map sort (option_copied gives)) looping (typed_stmt s.now) }
-    requires room { HasRoom (setting checked.now locals.now frame) b.old }
-    requires alone { frame.ret ≡ None }
+    requires suits { StatementSuits (setting_of site).source (setting_of site).variables (option_map sort (option_copied gives)) looping (typed_stmt s.now) }
+    requires room { HasRoom (setting_of site) b.old }
+    requires alone { site.frame.ret ≡ None }
     ensures kept { Extends b.old b.new }
-    ensures emitted { OnOk result (Emitted (setting checked.now locals.now frame) (option_map sort (option_copied gives.entry)) looping (means_statement (setting checked.now locals.now frame) (typed_stmt s.now)) b.old b.new exits.old.items exits.new.items) }
+    ensures emitted { OnOk result (Emitted (setting_of site.entry) (option_map sort (option_copied gives.entry)) looping (means_statement (setting_of site.entry) (typed_stmt s.now)) b.old b.new exits.old.items exits.new.items) }
     ensures shaped { OnOk result (Keeps b.old b.new) }
-    ensures kinds { OnOk result (KeepsKindsIf (IsAround (typed_module checked.now) (option_map sort (option_copied gives.entry))) b.old b.new) }
+    ensures kinds { OnOk result (KeepsKindsIf (IsAround (setting_of site.entry).source (option_map sort (option_copied gives.entry))) b.old b.new) }
+    ensures lined { OnOk result (LinedStatement (setting_of site.entry) (typed_stmt s.now) b.old b.new) }
 {
-    let line = s.line;
+    let site = Site {
+        line: s.line,
+        ..site
+    };
     match &s.kind {
-        TStmtKind::Expr(e) => emit_alone(b, alloc, checked, locals, frame, e, line),
+        TStmtKind::Expr(e) => emit_alone(b, site, e),
         TStmtKind::Assign(targets, e) => {
             let targets = targets.as_slice();
-            emit_assignment(b, alloc, checked, locals, frame, targets, e, line)
+            emit_assignment(b, site, targets, e)
         }
-        TStmtKind::Aug(target, op, e, t) => {
-            emit_update(b, alloc, checked, locals, frame, target, *op, e, t, line)
-        }
+        TStmtKind::Aug(target, op, e, t) => emit_update(b, site, target, *op, e, t),
         TStmtKind::If(arms, other) => {
             let arms = arms.as_slice();
             let other = other.as_slice();
-            emit_if(
-                b, alloc, checked, locals, frame, gives, looping, s, arms, other, exits,
-            )
+            emit_if(b, site, gives, looping, s, arms, other, exits)
         }
         TStmtKind::While(_, body) => {
             let body = body.as_slice();
-            emit_loop(
-                b, alloc, checked, locals, frame, gives, looping, s, body, exits,
-            )
+            emit_loop(b, site, gives, looping, s, body, exits)
         }
-        TStmtKind::Return(value) => emit_return(b, alloc, checked, locals, frame, value, line),
+        TStmtKind::Return(value) => emit_return(b, site, value),
         TStmtKind::Break => leave_by(b, Way::Break, exits),
         TStmtKind::Continue => leave_by(b, Way::Continue, exits),
         TStmtKind::Pass => Ok(()),
@@ -110,10 +104,7 @@ fn emit_statement(
 #[cycle(statement)]
 fn emit_if(
     b: &mut Emitter,
-    alloc: Global,
-    checked: &Checked,
-    locals: &[Var],
-    frame: Frame,
+    site: Site,
     gives: Option<&Ty>,
     looping: bool,
     s: &TStmt,
@@ -122,22 +113,19 @@ fn emit_if(
     exits: &mut Vec<Exit>,
 ) -> Result<(), Memory>
     requires is { s.now.kind ≡ TStmtKind.If arms.now other.now }
-    requires arms_suit { ArmsSuit (typed_module checked.now) (map variable locals.now) (option_map sort (option_copied gives)) looping (arms_of (map typed_arm arms.now)) }
-    requires other_suits { SuiteSuits (typed_module checked.now) (map variable locals.now) (option_map sort (option_copied gives)) looping (typed_suite other.now) }
-    requires room { HasRoom (setting checked.now locals.now frame) b.old }
-    requires alone { frame.ret ≡ None }
+    requires arms_suit { ArmsSuit (setting_of site).source (setting_of site).variables (option_map sort (option_copied gives)) looping (arms_of (map typed_arm arms.now)) }
+    requires other_suits { SuiteSuits (setting_of site).source (setting_of site).variables (option_map sort (option_copied gives)) looping (typed_suite other.now) }
+    requires room { HasRoom (setting_of site) b.old }
+    requires alone { site.frame.ret ≡ None }
     ensures kept { Extends b.old b.new }
-    ensures emitted { OnOk result (Emitted (setting checked.now locals.now frame) (option_map sort (option_copied gives.entry)) looping (means_statement (setting checked.now locals.now frame) (typed_stmt s.now)) b.old b.new exits.old.items exits.new.items) }
+    ensures emitted { OnOk result (Emitted (setting_of site.entry) (option_map sort (option_copied gives.entry)) looping (means_statement (setting_of site.entry) (typed_stmt s.now)) b.old b.new exits.old.items exits.new.items) }
     ensures shaped { OnOk result (Keeps b.old b.new) }
-    ensures kinds { OnOk result (KeepsKindsIf (IsAround (typed_module checked.now) (option_map sort (option_copied gives.entry))) b.old b.new) }
+    ensures kinds { OnOk result (KeepsKindsIf (IsAround (setting_of site.entry).source (option_map sort (option_copied gives.entry))) b.old b.new) }
+    ensures lined { OnOk result (LinedStatement (setting_of site.entry) (typed_stmt s.now) b.old b.new) }
 {
-    let mut inner = Vec::new(alloc);
-    emit_arms(
-        b, alloc, checked, locals, frame, gives, looping, arms, &mut inner,
-    )?;
-    emit_block(
-        b, alloc, checked, locals, frame, gives, looping, other, &mut inner,
-    )?;
+    let mut inner = Vec::new(site.alloc);
+    emit_arms(b, site, gives, looping, arms, &mut inner)?;
+    emit_block(b, site, gives, looping, other, &mut inner)?;
     join(b, &inner, exits)
 }
 
@@ -145,55 +133,45 @@ fn emit_if(
 #[cycle(statement)]
 fn emit_arms(
     b: &mut Emitter,
-    alloc: Global,
-    checked: &Checked,
-    locals: &[Var],
-    frame: Frame,
+    site: Site,
     gives: Option<&Ty>,
     looping: bool,
     arms: &[(TExpr, Many<TStmt>)],
     exits: &mut Vec<Exit>,
 ) -> Result<(), Memory>
     requires none { exits.old.items ≡ [] }
-    requires suits { ArmsSuit (typed_module checked.now) (map variable locals.now) (option_map sort (option_copied gives)) looping (arms_of (map typed_arm arms.now)) }
-    requires room { HasRoom (setting checked.now locals.now frame) b.old }
-    requires alone { frame.ret ≡ None }
+    requires suits { ArmsSuit (setting_of site).source (setting_of site).variables (option_map sort (option_copied gives)) looping (arms_of (map typed_arm arms.now)) }
+    requires room { HasRoom (setting_of site) b.old }
+    requires alone { site.frame.ret ≡ None }
     ensures kept { Extends b.old b.new }
-    ensures tested { OnOk result (Tested (setting checked.now locals.now frame) (option_map sort (option_copied gives.entry)) looping [] arms.now b.old b.new exits.new.items) }
+    ensures tested { OnOk result (Tested (setting_of site.entry) (option_map sort (option_copied gives.entry)) looping [] arms.now b.old b.new exits.new.items) }
     ensures shaped { OnOk result (Keeps b.old b.new) }
-    ensures kinds { OnOk result (KeepsKindsIf (IsAround (typed_module checked.now) (option_map sort (option_copied gives.entry))) b.old b.new) }
+    ensures kinds { OnOk result (KeepsKindsIf (IsAround (setting_of site.entry).source (option_map sort (option_copied gives.entry))) b.old b.new) }
+    ensures lined { OnOk result ((l : ℕ) → LinedPieces (setting_of site.entry) l (arm_pieces (arms_of (map typed_arm arms.now))) b.old b.new) }
 {
     for (e, body) in arms {
-        let test = emit_split(b, alloc, checked, locals, frame, e)?;
+        let test = emit_split(b, site, e)?;
         let body = body.as_slice();
-        emit_block(
-            b, alloc, checked, locals, frame, gives, looping, body, exits,
-        )?;
+        emit_block(b, site, gives, looping, body, exits)?;
         end_arm(b, test, exits)?;
     }
     Ok(())
 }
 
 // Begins the loop `s`: what comes before its body.
-fn begin_loop(
-    b: &mut Emitter,
-    alloc: Global,
-    checked: &Checked,
-    locals: &[Var],
-    frame: Frame,
-    s: &TStmt,
-) -> Result<LoopStart, Memory>
-    requires suits { (gives : Option Sort) × (body : TypedSuite) × LoopSuits (typed_module checked.now) (map variable locals.now) gives (typed_stmt s.now) body }
-    requires room { HasRoom (setting checked.now locals.now frame) b.old }
+fn begin_loop(b: &mut Emitter, site: Site, s: &TStmt) -> Result<LoopStart, Memory>
+    requires suits { (gives : Option Sort) × (body : TypedSuite) × LoopSuits (setting_of site).source (setting_of site).variables gives (typed_stmt s.now) body }
+    requires room { HasRoom (setting_of site) b.old }
     ensures kept { Extends b.old b.new }
-    ensures begins { IfOk result (λ o. Begins (setting checked.now locals.now frame) (means_loop (setting checked.now locals.now frame) (typed_stmt s.now)) b.old b.new o) }
+    ensures begins { IfOk result (λ o. Begins (setting_of site.entry) (means_loop (setting_of site.entry) (typed_stmt s.now)) b.old b.new o) }
     ensures shaped { Keeps b.old b.new }
-    ensures kinds { KeepsKindsIf (IsAmong (typed_module checked.now)) b.old b.new }
+    ensures kinds { KeepsKindsIf (IsAmong (setting_of site.entry).source) b.old b.new }
+    ensures lined { OnOk result ((l : ℕ) → LinedPieces (setting_of site.entry) l (head_pieces (typed_stmt s.now)) b.old b.new) }
 {
     match &s.kind {
         TStmtKind::While(e, _) => {
             let head = b.step_on()?;
-            let test = emit_split(b, alloc, checked, locals, frame, e)?;
+            let test = emit_split(b, site, e)?;
             Ok(LoopStart { head, test })
         }
         _ => unreachable!(),
@@ -204,29 +182,25 @@ fn begin_loop(
 #[cycle(statement)]
 fn emit_loop(
     b: &mut Emitter,
-    alloc: Global,
-    checked: &Checked,
-    locals: &[Var],
-    frame: Frame,
+    site: Site,
     gives: Option<&Ty>,
     looping: bool,
     s: &TStmt,
     body: &[TStmt],
     exits: &mut Vec<Exit>,
 ) -> Result<(), Memory>
-    requires suits { LoopSuits (typed_module checked.now) (map variable locals.now) (option_map sort (option_copied gives)) (typed_stmt s.now) (typed_suite body.now) }
-    requires room { HasRoom (setting checked.now locals.now frame) b.old }
-    requires alone { frame.ret ≡ None }
+    requires suits { LoopSuits (setting_of site).source (setting_of site).variables (option_map sort (option_copied gives)) (typed_stmt s.now) (typed_suite body.now) }
+    requires room { HasRoom (setting_of site) b.old }
+    requires alone { site.frame.ret ≡ None }
     ensures kept { Extends b.old b.new }
-    ensures emitted { OnOk result (Emitted (setting checked.now locals.now frame) (option_map sort (option_copied gives.entry)) looping (means_statement (setting checked.now locals.now frame) (typed_stmt s.now)) b.old b.new exits.old.items exits.new.items) }
+    ensures emitted { OnOk result (Emitted (setting_of site.entry) (option_map sort (option_copied gives.entry)) looping (means_statement (setting_of site.entry) (typed_stmt s.now)) b.old b.new exits.old.items exits.new.items) }
     ensures shaped { OnOk result (Keeps b.old b.new) }
-    ensures kinds { OnOk result (KeepsKindsIf (IsAround (typed_module checked.now) (option_map sort (option_copied gives.entry))) b.old b.new) }
+    ensures kinds { OnOk result (KeepsKindsIf (IsAround (setting_of site.entry).source (option_map sort (option_copied gives.entry))) b.old b.new) }
+    ensures lined { OnOk result (LinedStatement (setting_of site.entry) (typed_stmt s.now) b.old b.new) }
 {
-    let mut inner = Vec::new(alloc);
-    let start = begin_loop(b, alloc, checked, locals, frame, s)?;
-    emit_block(
-        b, alloc, checked, locals, frame, gives, true, body, &mut inner,
-    )?;
+    let mut inner = Vec::new(site.alloc);
+    let start = begin_loop(b, site, s)?;
+    emit_block(b, site, gives, true, body, &mut inner)?;
     let next = b.step_on()?;
     end_loop(b, start, next, &inner, exits, s.line)
 }

@@ -1,20 +1,23 @@
 //! Variables that statements read and set.
-ghost use Rattle.std.specs.Prelude.{◌≡◌, true, List, map, None, OnOk};
+ghost use Rattle.std.specs.Prelude.{◌≡◌, true, List, None, OnOk};
 ghost use Rattle.py_typed.specs.Sorts.{Sort, sort};
 ghost use Rattle.py_typed.specs.Expressions.{typed_expr};
-ghost use Rattle.py_typed.specs.Statements.{TypedModule, Variable, typed_module, typed_target, variable};
+ghost use Rattle.py_typed.specs.Statements.{TypedModule, Variable, typed_target, variable};
 ghost use Rattle.ir_core.specs.Building.{Extends};
 ghost use Rattle.ir_builder_frames.specs.Shaped.{Keeps};
 ghost use Rattle.ir_builder_frames.specs.Kinds.{IsAmong, AreAlike, KeepsKindsIf};
+ghost use Rattle.ir_builder_expressions.specs.Site.{setting_of};
 ghost use Rattle.ir_builder_expressions.specs.Parts.{is_scalar};
 ghost use Rattle.ir_builder_statements.specs.Suiting.{IsVariable};
 ghost use Rattle.ir_builder_statements.specs.Parts.{HasFlag, SetsLocal, SetsGlobal, TakesGlobal, TakesRegister, SetsVariable, reading_of};
+ghost use Rattle.ir_builder_frames.specs.Lines.{OwnLines};
 
 use c_core::{GlobalPrim, Prim};
+use ir_builder_expressions::Site;
 use ir_builder_frames::{Emitter, Frame};
 use ir_core::{Lit, Op, PArg, Reg};
 use py_syntax::Span;
-use py_typed::{Checked, TExpr, TKind, Target, Ty, Var};
+use py_typed::{TExpr, TKind, Target, Ty, Var};
 use std::alloc::Global;
 use value_core::{Many, Memory};
 
@@ -33,13 +36,13 @@ fn simple_type(t: &Ty) -> Ty
 }
 
 /// The type of the variable that a target is.
-pub(crate) fn variable_type<'a>(checked: &'a Checked, locals: &'a [Var], target: &Target) -> &'a Ty
-    requires { (u : Sort) × IsVariable (typed_module checked.now) (map variable locals.now) None (typed_target target.now) u }
-    ensures { IsVariable (typed_module checked.now) (map variable locals.now) None (typed_target target.now) (sort result.now) }
+pub(crate) fn variable_type<'a>(site: Site<'a>, target: &Target) -> &'a Ty
+    requires { (u : Sort) × IsVariable (setting_of site).source (setting_of site).variables None (typed_target target.now) u }
+    ensures { IsVariable (setting_of site.entry).source (setting_of site.entry).variables None (typed_target target.now) (sort result.now) }
 {
     match target {
-        Target::Local(k) => &locals[*k].ty,
-        Target::Global(i) => &checked.globals.as_slice()[*i].ty,
+        Target::Local(k) => &site.locals[*k].ty,
+        Target::Global(i) => &site.checked.globals.as_slice()[*i].ty,
         _ => unreachable!(),
     }
 }
@@ -67,6 +70,7 @@ fn set_local(b: &mut Emitter, frame: Frame, k: usize, r: Reg, line: usize) -> Re
     ensures sets { OnOk result (SetsLocal frame k r.0 b.old b.new) }
     ensures shaped { Keeps b.old b.new }
     ensures kinds { KeepsKindsIf (λ g. AreAlike b.old.regs (record { 0 = k }) r) b.old b.new }
+    ensures lined { OwnLines line b.old b.new }
 {
     b.push(Op::Move(Reg(k), r), line)?;
     if k < frame.locals.params {
@@ -77,46 +81,36 @@ fn set_local(b: &mut Emitter, frame: Frame, k: usize, r: Reg, line: usize) -> Re
 }
 
 // Puts a value into a variable of the module.
-fn set_global(
-    b: &mut Emitter,
-    alloc: Global,
-    checked: &Checked,
-    i: usize,
-    r: Reg,
-    line: usize,
-) -> Result<(), Memory>
-    requires { TakesGlobal (typed_module checked.now) i r.0 b.old }
+fn set_global(b: &mut Emitter, site: Site, i: usize, r: Reg) -> Result<(), Memory>
+    requires { TakesGlobal (setting_of site).source i r.0 b.old }
     ensures kept { Extends b.old b.new }
-    ensures sets { OnOk result (SetsGlobal (typed_module checked.now) i r.0 b.old b.new) }
+    ensures sets { OnOk result (SetsGlobal (setting_of site.entry).source i r.0 b.old b.new) }
     ensures shaped { Keeps b.old b.new }
-    ensures kinds { KeepsKindsIf (IsAmong (typed_module checked.now)) b.old b.new }
+    ensures kinds { KeepsKindsIf (IsAmong (setting_of site.entry).source) b.old b.new }
+    ensures lined { OwnLines site.entry.line b.old b.new }
 {
-    let name = checked.globals.as_slice()[i].name.clone()?;
-    let mut args = Many::new(alloc);
+    let name = site.checked.globals.as_slice()[i].name.clone()?;
+    let mut args = Many::new(site.alloc);
     args.push(PArg::Global(name))?;
     args.push(PArg::Var(r))?;
-    b.push(Op::Prim(None, Prim::Global(GlobalPrim::Set), args), line)
+    b.push(
+        Op::Prim(None, Prim::Global(GlobalPrim::Set), args),
+        site.line,
+    )
 }
 
 /// Puts the value of a register into a variable of its type.
-pub(crate) fn emit_set(
-    b: &mut Emitter,
-    alloc: Global,
-    checked: &Checked,
-    frame: Frame,
-    target: &Target,
-    r: Reg,
-    line: usize,
-) -> Result<(), Memory>
-    requires { TakesRegister (typed_module checked.now) frame (typed_target target.now) r.0 b.old }
+pub(crate) fn emit_set(b: &mut Emitter, site: Site, target: &Target, r: Reg) -> Result<(), Memory>
+    requires { TakesRegister (setting_of site).source site.frame (typed_target target.now) r.0 b.old }
     ensures kept { Extends b.old b.new }
-    ensures sets { OnOk result (SetsVariable (typed_module checked.now) frame (typed_target target.now) r.0 b.old b.new) }
+    ensures sets { OnOk result (SetsVariable (setting_of site.entry).source site.entry.frame (typed_target target.now) r.0 b.old b.new) }
     ensures shaped { Keeps b.old b.new }
-    ensures kinds { KeepsKindsIf (IsAmong (typed_module checked.now)) b.old b.new }
+    ensures kinds { KeepsKindsIf (IsAmong (setting_of site.entry).source) b.old b.new }
+    ensures lined { OwnLines site.entry.line b.old b.new }
 {
     match target {
-        Target::Local(k) => set_local(b, frame, *k, r, line),
-        Target::Global(i) => set_global(b, alloc, checked, *i, r, line),
+        Target::Local(k) => set_local(b, site.frame, *k, r, site.line),
+        Target::Global(i) => set_global(b, site, *i, r),
         _ => unreachable!(),
     }
 }

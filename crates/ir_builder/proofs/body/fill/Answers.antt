@@ -13,11 +13,13 @@ loop-k-preserved c =
         filled = rw w.b-is (filled_set _ _ _ _ _ _ (sym c.is_open.ensures ∙ w.if-is_open.true) low c.loop-k.invariant.filled w.patch.ensures.set);
         shaped = rw w.b-is (λ n m p s. w.patch.ensures.shaped n m (lt, p) (c.loop-k.invariant.shaped n m p s));
         kinds = rw w.b-is (λ g h. w.patch.ensures.kinds g tt (c.loop-k.invariant.kinds g h));
+        lined = rw w.b-is (λ l k i x other at. c.loop-k.invariant.lined l k i x other (w.patch.ensures.lined l tt k i x other at));
       }
       | else-is_open w ↦ record {
         filled = rw w.b-is (filled_past _ _ _ _ _ (sym c.is_open.ensures ∙ w.if-is_open.false) low (omega arith) c.loop-k.invariant.filled);
         shaped = rw w.b-is c.loop-k.invariant.shaped;
         kinds = rw w.b-is c.loop-k.invariant.kinds;
+        lined = rw w.b-is c.loop-k.invariant.lined;
       }
     ]
 

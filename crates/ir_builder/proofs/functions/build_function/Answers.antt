@@ -25,7 +25,8 @@ emit_body-requires-clause-room c =
 pub returns : goal.returns
 returns c =
     let bodied = rw (c.as_slice-2.ensures, c.as_slice-3.ensures) at c.in_ok-emit_body.ensures.bodied in
+    let lined = rw (c.as_slice-2.ensures, c.as_slice-3.ensures) at c.in_ok-emit_body.ensures.lined in
     function_is (typed_module c.args.checked.now) (typed_func c.args.f.now) c.requires.function c.in_ok-variables.variables.items c.len-count.result c.args.f.now.params c.in_ok-vars.vars c.register_type-ret.result c.end_of.result c.begin-b.result c.add_flags.new.b c.push.new.self c.emit_body.new.b c.in_ok-name.name c.finish.result c.named.result
     (rw c.as_slice.ensures at c.in_ok-variables.ensures)
     (c.len-count.ensures ∙ sym (map_length variable c.args.f.now.locals))
-    c.in_ok-vars.ensures c.register_type-ret.ensures c.end_of.ensures c.begin-b.ensures c.in_ok-add_flags.ensures.added c.in_ok-add_flags.ensures.shaped c.in_ok-add_flags.ensures.kinds c.in_ok-push.ensures.pushed c.in_ok-push.ensures.shaped c.in_ok-push.ensures.kinds bodied c.in_ok-emit_body.ensures.shaped c.in_ok-emit_body.ensures.kinds c.in_ok-emit_body.ensures.few c.finish.ensures.names refl c.finish.ensures.is (let same : c.in_ok-name.name ≡ c.args.f.now.name = search rules in same) c.named.ensures
+    c.in_ok-vars.ensures c.register_type-ret.ensures c.end_of.ensures c.begin-b.ensures c.in_ok-add_flags.ensures.added c.in_ok-add_flags.ensures.shaped c.in_ok-add_flags.ensures.kinds c.in_ok-push.ensures.pushed c.in_ok-push.ensures.shaped c.in_ok-push.ensures.kinds c.in_ok-push.ensures.lined bodied c.in_ok-emit_body.ensures.shaped c.in_ok-emit_body.ensures.kinds lined c.in_ok-emit_body.ensures.few c.finish.ensures.names refl c.finish.ensures.is (let same : c.in_ok-name.name ≡ c.args.f.now.name = search rules in same) c.named.ensures

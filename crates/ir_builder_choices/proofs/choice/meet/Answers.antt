@@ -1,4 +1,4 @@
-use Rattle.std.proofs.Common.{arith}
+use Rattle.ir_builder_choices.proofs.Common.{arith}
 use Rattle.ir_builder_choices.proofs.BuildLemmas.{meets_by}
 use Rattle.ir_builder_choices.proofs.choice.meet.Goals as goal
 

@@ -1,4 +1,4 @@
-use Rattle.ir_builder_frames.proofs.HeldLemmas.{ok_join}
+use Rattle.ir_builder_choices.proofs.Common.{ok_join}
 use Rattle.ir_builder_choices.proofs.BuildLemmas.{brings_by}
 use Rattle.ir_builder_choices.proofs.choice.turn.Goals as goal
 

@@ -1,5 +1,4 @@
-use Rattle.ir_core.specs.declared.code.Reg.{Reg}
-use Rattle.ir_builder_frames.proofs.HeldLemmas.{ok_map}
+use Rattle.ir_builder_comparisons.proofs.Common.{Reg, ok_map}
 use Rattle.ir_builder_comparisons.proofs.TruthLemmas.{compared_finds}
 use Rattle.ir_builder_comparisons.proofs.comparisons.emit_compared_truth.Goals as goal
 

@@ -1,9 +1,4 @@
-use Rattle.std.proofs.Common.{ap}
-use Rattle.ir_core.specs.declared.code.Reg.{Reg}
-use Rattle.ir_builder_frames.proofs.HeldLemmas.{ok_map}
-use Rattle.ir_builder_operations.specs.declared.operation.Test.TheVariants.{Equal, Less, AtMost}
-use Rattle.ir_builder_operations.specs.Rows.{tested}
-use Rattle.ir_builder_comparisons.specs.Comparing.{ordered}
+use Rattle.ir_builder_comparisons.proofs.Common.{ap, Reg, ok_map, Equal, Less, AtMost, tested, ordered}
 use Rattle.ir_builder_comparisons.proofs.ComparisonLemmas.{straight, turned, only_equal}
 use Rattle.ir_builder_comparisons.proofs.comparisons.emit_comparison.Goals as goal
 

@@ -1,8 +1,5 @@
+use Rattle.ir_builder_comparisons.proofs.Common.{Reg, ok_map, compared_sort, tested, compares, as_two}
 use Rattle.py_typed.specs.Sorts.{Bool}
-use Rattle.ir_core.specs.declared.code.Reg.{Reg}
-use Rattle.ir_builder_frames.proofs.HeldLemmas.{ok_map}
-use Rattle.ir_builder_operations.specs.Rows.{compared_sort, tested, compares}
-use Rattle.ir_builder_operations.proofs.PartLemmas.{as_two}
 use Rattle.ir_builder_comparisons.proofs.comparisons.emit_test.Goals as goal
 
 pub returns-clause-made : goal.returns-clause-made

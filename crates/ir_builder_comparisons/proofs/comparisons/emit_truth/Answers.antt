@@ -1,9 +1,4 @@
-use Rattle.std.proofs.Common.{sym, ◌∙◌, subst}
-use Rattle.py_typed.specs.Sorts.{sort}
-use Rattle.ir_core.specs.declared.code.Reg.{Reg}
-use Rattle.ir_builder_frames.specs.Settings.{rtype_of}
-use Rattle.ir_builder_frames.specs.Placing.{HasType}
-use Rattle.ir_builder_frames.proofs.HeldLemmas.{ok_map}
+use Rattle.ir_builder_comparisons.proofs.Common.{sym, ◌∙◌, subst, sort, Reg, rtype_of, HasType, ok_map}
 use Rattle.ir_builder_comparisons.proofs.TruthLemmas.{compared_type, truth_at, bool_stays}
 use Rattle.ir_builder_comparisons.proofs.comparisons.emit_truth.Goals as goal
 

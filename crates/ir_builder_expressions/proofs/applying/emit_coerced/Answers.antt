@@ -1,6 +1,4 @@
-use Rattle.std.proofs.Common.{sym, ◌∙◌}
-use Rattle.py_typed.specs.Sorts.{sort}
-use Rattle.py_typed.specs.Expressions.{typed_expr}
+use Rattle.ir_builder_expressions.proofs.Common.{sym, ◌∙◌, sort, typed_expr}
 use Rattle.ir_builder_expressions.proofs.NumberLemmas.{native_stays}
 use Rattle.ir_builder_expressions.proofs.applying.emit_coerced.Goals as goal
 

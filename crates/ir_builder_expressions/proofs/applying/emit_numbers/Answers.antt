@@ -1,8 +1,4 @@
-use Rattle.py_typed.specs.Sorts.{sort}
-use Rattle.py_typed.specs.Expressions.{typed_expr}
-use Rattle.ir_core.specs.declared.code.Reg.{Reg}
-use Rattle.ir_builder_frames.proofs.HeldLemmas.{ok_map, type_kept}
-use Rattle.ir_builder_expressions.specs.Parts.{part_sort}
+use Rattle.ir_builder_expressions.proofs.Common.{sort, typed_expr, Reg, ok_map, type_kept, part_sort}
 use Rattle.ir_builder_expressions.proofs.NumberLemmas.{arithmetic_ready, arithmetic_attempts, numbers_attempt}
 use Rattle.ir_builder_expressions.proofs.applying.emit_numbers.Goals as goal
 

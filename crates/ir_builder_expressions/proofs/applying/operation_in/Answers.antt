@@ -1,7 +1,4 @@
-use Rattle.std.proofs.Common.{refl}
-use Rattle.py_typed.proofs.ExpressionLemmas.{typed_node-Neg, typed_node-Not, typed_node-Truth, typed_node-Arith, typed_node-Coerce, typed_node-Concat, typed_node-At, typed_node-Len, typed_node-ToStr}
-use Rattle.ir_builder_expressions.specs.declared.applying.Unary.TheVariants.{Negated, Inverted, Tested, Counted, Written, Coerced}
-use Rattle.ir_builder_expressions.specs.declared.applying.Binary.TheVariants.{Arithmetic, Joined, Indexed}
+use Rattle.ir_builder_expressions.proofs.Common.{refl, typed_node-Neg, typed_node-Not, typed_node-Truth, typed_node-Arith, typed_node-Coerce, typed_node-Concat, typed_node-At, typed_node-Len, typed_node-ToStr, Negated, Inverted, Tested, Counted, Written, Coerced, Arithmetic, Joined, Indexed}
 use Rattle.ir_builder_expressions.proofs.AppliedLemmas.{one_found, two_found}
 use Rattle.ir_builder_expressions.proofs.UnsuitedLemmas.{none_left}
 use Rattle.ir_builder_expressions.proofs.ArmLemmas.{is_node}

@@ -1,8 +1,4 @@
-use Rattle.std.proofs.Common.{arith, List, subst, sym}
-use Rattle.ir_core.specs.Building.{Building}
-use Rattle.ir_builder_frames.proofs.HeldLemmas.{extends_trans}
-use Rattle.ir_builder_expressions.specs.declared.chain.Link.{Link}
-use Rattle.ir_builder_expressions.specs.Linking.{Pending, Ended}
+use Rattle.ir_builder_expressions.proofs.Common.{arith, List, subst, sym, Building, extends_trans, Link, Pending, Ended}
 use Rattle.ir_builder_expressions.proofs.LinkLemmas.{Last, pending_last, pending_extends, met_pending, met_flag, met_grows, keeps_both, ended_snoc}
 use Rattle.ir_builder_expressions.proofs.chain.meet_links.Goals as goal
 
@@ -40,4 +36,5 @@ loop-link-preserved c =
           c.loop-link.invariant.ends e q (subst Q (sym c.in-Some.ensures) (ended_snoc ls l b d c.loop-link.r.0 e q met h));
       shaped = keeps_both c.args.b.now b d c.loop-link.invariant.more grows.1 c.loop-link.invariant.shaped c.meet_link.ensures.shaped;
       kinds = λ g h. c.meet_link.ensures.kinds g (c.loop-link.invariant.kinds g h);
+      lined = λ k i x other at. c.loop-link.invariant.lined k i x other (c.meet_link.ensures.lined k i x other at);
     }

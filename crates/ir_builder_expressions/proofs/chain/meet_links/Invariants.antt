@@ -1,10 +1,6 @@
-use Rattle.std.proofs.Common.{ℕ, ◌≤◌, length}
-use Rattle.ir_core.specs.Building.{Building}
+use Rattle.ir_builder_expressions.proofs.Common.{ℕ, ◌≤◌, length, Building, HasType, Keeps, KeepsKinds, Pending, Ended}
 use Rattle.ir_core.specs.declared.code.RType.TheVariants.{Bool}
-use Rattle.ir_builder_frames.specs.Placing.{HasType}
-use Rattle.ir_builder_frames.specs.Shaped.{Keeps}
-use Rattle.ir_builder_frames.specs.Kinds.{KeepsKinds}
-use Rattle.ir_builder_expressions.specs.Linking.{Pending, Ended}
+use Rattle.ir_builder_frames.specs.Lines.{OwnLines}
 use Rattle.ir_builder_expressions.proofs.chain.meet_links.Given as goal
 
 abbrev pub invariant-loop-link : goal.invariant-loop-link
@@ -16,6 +12,7 @@ invariant-loop-link l = record {
   ends : (c : Building) (q : ℕ) → Ended l.rest l.b l.r.0 c q → Ended l.fn.links l.fn.b l.fn.last.0 c q;
   shaped : Keeps l.fn.b l.b;
   kinds : KeepsKinds l.fn.b l.b;
+  lined : OwnLines l.fn.line l.fn.b l.b;
 }
 
 abbrev pub decreases-loop-link : goal.decreases-loop-link

@@ -1,4 +1,4 @@
-use Rattle.ir_builder_expressions.specs.Comparing.{kind_sort}
+use Rattle.ir_builder_expressions.proofs.Common.{kind_sort}
 use Rattle.ir_builder_expressions.proofs.PairLemmas.{number_brought, text_brought}
 use Rattle.ir_builder_expressions.proofs.comparing.emit_brought.Goals as goal
 

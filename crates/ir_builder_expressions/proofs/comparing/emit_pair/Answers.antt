@@ -1,6 +1,4 @@
-use Rattle.ir_core.specs.declared.code.Reg.{Reg}
-use Rattle.ir_builder_frames.proofs.HeldLemmas.{ok_map}
-use Rattle.ir_builder_expressions.specs.Comparing.{kind_sort}
+use Rattle.ir_builder_expressions.proofs.Common.{Reg, ok_map, kind_sort}
 use Rattle.ir_builder_expressions.proofs.PairLemmas.{left_brought, right_brought, pair_compared}
 use Rattle.ir_builder_expressions.proofs.comparing.emit_pair.Goals as goal
 

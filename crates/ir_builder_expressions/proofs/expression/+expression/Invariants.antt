@@ -1,8 +1,8 @@
-use Rattle.std.proofs.Common.{◌+◌, ◌-◌, ◌*◌, drop}
-use Rattle.ir_builder_frames.specs.Settings.{setting}
+use Rattle.ir_builder_expressions.proofs.Common.{◌+◌, ◌-◌, ◌*◌, drop, setting_of}
 use Rattle.ir_builder_expressions.proofs.WeightLemmas.{weight_of, weight_of_arm, weight_of_all, weight_of_chain}
 use Rattle.ir_builder_expressions.proofs.ArgumentLemmas.{Passing}
 use Rattle.ir_builder_expressions.proofs.GoingLemmas.{Going}
+use Rattle.ir_builder_expressions.proofs.LinedLemmas.{LinedRest, listed_of, operands_of_all}
 use Rattle.ir_builder_expressions.proofs.expression.+expression.Given as goal
 
 abbrev pub decreases-emit_expression : goal.decreases-emit_expression
@@ -36,7 +36,13 @@ abbrev pub decreases-emit_chain : goal.decreases-emit_chain
 decreases-emit_chain l = weight_of_chain l.rest.now * 4 + 3
 
 abbrev pub invariant-emit_arguments-loop-e : goal.invariant-emit_arguments-loop-e
-invariant-emit_arguments-loop-e l = Passing (setting l.checked l.locals l.frame) l.args l.e-index l.fn.b l.b l.regs
+invariant-emit_arguments-loop-e l = record {
+  passing : Passing (setting_of l.site) l.args l.e-index l.fn.b l.b l.regs;
+  lined : LinedRest (setting_of l.site) l.site.line (listed_of l.args) (listed_of (drop l.e-index l.args)) l.fn.b l.b;
+}
 
 abbrev pub invariant-emit_chain-loop-op : goal.invariant-emit_chain-loop-op
-invariant-emit_chain-loop-op l = Going (setting l.checked l.locals l.frame) l.fn.first l.rest (drop l.op-index l.more) l.fn.b l.b l.links l.left l.holds
+invariant-emit_chain-loop-op l = record {
+  going : Going (setting_of l.site) l.fn.first l.rest (drop l.op-index l.more) l.fn.b l.b l.links l.left l.holds;
+  lined : LinedRest (setting_of l.site) l.site.line (operands_of_all l.rest) (operands_of_all (drop l.op-index l.more)) l.fn.b l.b;
+}

@@ -1,6 +1,5 @@
-use Rattle.std.proofs.Common.{refl}
+use Rattle.ir_builder_expressions.proofs.Common.{refl, extends_trans, type_kept}
 use Rattle.ir_core.specs.declared.code.RType.TheVariants.{Bool}
-use Rattle.ir_builder_frames.proofs.HeldLemmas.{extends_trans, type_kept}
 use Rattle.ir_builder_expressions.proofs.ReadingLemmas.{tests_set}
 use Rattle.ir_builder_expressions.proofs.local.emit_flag_test.Goals as goal
 

@@ -1,11 +1,9 @@
-use Rattle.std.proofs.Common.{map, sym, ap, ◌∙◌}
-use Rattle.py_typed.specs.declared.checked.Var.{Var}
-use Rattle.py_typed.specs.Statements.{variable}
+use Rattle.ir_builder_expressions.proofs.Common.{map, sym, ap, ◌∙◌, Var, variable}
 use Rattle.ir_builder_expressions.proofs.ReadingLemmas.{parameter_read, variable_read}
 use Rattle.ir_builder_expressions.proofs.local.emit_local.Goals as goal
 
-pub returns-then-i-frame-clause-emitted : goal.returns-then-i-frame-clause-emitted
-returns-then-i-frame-clause-emitted c = parameter_read (map variable c.args.locals.now) c.args.frame c.args.i _ c.if-i-frame.true c.requires.room
+pub returns-then-i-site-clause-emitted : goal.returns-then-i-site-clause-emitted
+returns-then-i-site-clause-emitted c = parameter_read (map variable c.args.site.locals.now) c.args.site.frame c.args.i _ c.if-i-site.true c.requires.room
 
 pub returns-clause-emitted : goal.returns-clause-emitted
-returns-clause-emitted c = variable_read c.args.locals.now c.args.frame c.args.i c.index-locals-i.result _ _ c.flag-flag.result.0 c.as_str.result.now c.requires.there c.index-locals-i.is c.if-i-frame.false c.flag-flag.ensures (c.as_str.ensures ∙ sym (ap (λ (v : Var). v.name) c.index-locals-i.is)) c.requires.room c.in_ok-emit_flag_test.ensures.tests
+returns-clause-emitted c = variable_read c.args.site.locals.now c.args.site.frame c.args.i c.index-site-i.result _ _ c.flag-flag.result.0 c.as_str.result.now c.requires.there c.index-site-i.is c.if-i-site.false c.flag-flag.ensures (c.as_str.ensures ∙ sym (ap (λ (v : Var). v.name) c.index-site-i.is)) c.requires.room c.in_ok-emit_flag_test.ensures.tests

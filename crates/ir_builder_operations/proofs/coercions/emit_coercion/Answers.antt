@@ -1,7 +1,4 @@
-use Rattle.std.proofs.Common.{sym, ◌∙◌}
-use Rattle.py_typed.specs.Sorts.{sort}
-use Rattle.ir_core.specs.declared.code.Reg.{Reg}
-use Rattle.ir_builder_frames.proofs.HeldLemmas.{ok_map}
+use Rattle.ir_builder_operations.proofs.Common.{sym, ◌∙◌, sort, Reg, ok_map}
 use Rattle.ir_builder_operations.proofs.CoercionLemmas.{coercion_ready, coercion_attempts, coercion_stays}
 use Rattle.ir_builder_operations.proofs.coercions.emit_coercion.Goals as goal
 

@@ -1,8 +1,4 @@
-use Rattle.py_typed.specs.Sorts.{Str}
-use Rattle.source_meaning.specs.State.{State, look}
-use Rattle.source_meaning.specs.Operations.{next_line}
-use Rattle.ir_core.specs.declared.code.Reg.{Reg}
-use Rattle.ir_builder_frames.proofs.HeldLemmas.{ok_map}
+use Rattle.ir_builder_operations.proofs.Common.{Str, State, look, next_line, Reg, ok_map}
 use Rattle.ir_builder_operations.proofs.PartLemmas.{as_none}
 use Rattle.ir_builder_operations.proofs.input.emit_input.Goals as goal
 

@@ -1,11 +1,4 @@
-use Rattle.std.proofs.Common.{sym, ap, ◌∙◌}
-use Rattle.std.specs.Prelude.{pos, ◌*ℤ◌}
-use Rattle.std.specs.Fmt.{signed_decimal}
-use Rattle.std.specs.Int.{w64, w128}
-use Rattle.std.proofs.lemmas.Int.{to_z-of_z}
-use Rattle.value_core.specs.Arithmetic.{is_short}
-use Rattle.ir_core.specs.declared.code.Reg.{Reg}
-use Rattle.ir_builder_frames.proofs.HeldLemmas.{ok_map}
+use Rattle.ir_builder_operations.proofs.Common.{sym, ap, ◌∙◌, pos, ◌*ℤ◌, signed_decimal, w64, w128, to_z-of_z, is_short, Reg, ok_map}
 use Rattle.ir_builder_operations.proofs.LiteralLemmas.{short_makes, decimal_makes, twice_fits, decimal_answers}
 use Rattle.ir_builder_operations.proofs.numbers.emit_int.Goals as goal
 

@@ -1,7 +1,4 @@
-use Rattle.std.specs.Int.{w64}
-use Rattle.std.proofs.lemmas.Int.{to_z-of_z}
-use Rattle.ir_core.specs.declared.code.Reg.{Reg}
-use Rattle.ir_builder_frames.proofs.HeldLemmas.{ok_map}
+use Rattle.ir_builder_operations.proofs.Common.{w64, to_z-of_z, Reg, ok_map}
 use Rattle.ir_builder_operations.proofs.LiteralLemmas.{native_makes}
 use Rattle.ir_builder_operations.proofs.numbers.emit_native.Goals as goal
 

@@ -1,5 +1,5 @@
-use Rattle.std.proofs.Common.{◌≡◌, map, take}
-use Rattle.ir_core.specs.declared.code.PArg.TheVariants.{Var}
+use Rattle.ir_builder_operations.proofs.Common.{◌≡◌, take, Var}
+use Rattle.std.proofs.Common.{map}
 use Rattle.ir_builder_operations.proofs.operation.arguments.Given as goal
 
 abbrev pub invariant-loop-r : goal.invariant-loop-r

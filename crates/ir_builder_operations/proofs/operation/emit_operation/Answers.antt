@@ -1,8 +1,4 @@
-use Rattle.std.proofs.Common.{sym, subst, length, inl}
-use Rattle.ir_core.specs.declared.code.Reg.{Reg}
-use Rattle.ir_builder_frames.specs.Shaped.{AreBelow}
-use Rattle.ir_builder_frames.proofs.HeldLemmas.{ok_map}
-use Rattle.ir_builder_operations.specs.Rows.{operands_of}
+use Rattle.ir_builder_operations.proofs.Common.{sym, subst, length, inl, Reg, AreBelow, ok_map, operands_of}
 use Rattle.ir_builder_operations.proofs.OperationLemmas.{operation_attempts, operation_answers, operands_below}
 use Rattle.ir_builder_operations.proofs.operation.emit_operation.Goals as goal
 

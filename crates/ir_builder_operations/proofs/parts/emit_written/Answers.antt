@@ -1,6 +1,4 @@
-use Rattle.std.proofs.Common.{◌≡◌, sym, ap, ◌∙◌, subst, List, [], ◌∷◌, ◌++◌, inl, ℕ}
-use Rattle.ir_core.specs.declared.code.PArg.{PArg}
-use Rattle.ir_core.specs.declared.code.PArg.TheVariants.{Text}
+use Rattle.ir_builder_operations.proofs.Common.{◌≡◌, sym, ap, ◌∙◌, subst, List, [], ◌∷◌, ◌++◌, inl, ℕ, PArg, Text}
 use Rattle.ir_builder_frames.specs.Kinds.{Answers}
 use Rattle.ir_builder_frames.proofs.KindLemmas.{primitive_kinds}
 use Rattle.ir_builder_operations.proofs.parts.emit_written.Goals as goal

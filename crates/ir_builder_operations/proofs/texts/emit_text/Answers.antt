@@ -1,5 +1,4 @@
-use Rattle.ir_core.specs.declared.code.Reg.{Reg}
-use Rattle.ir_builder_frames.proofs.HeldLemmas.{ok_map}
+use Rattle.ir_builder_operations.proofs.Common.{Reg, ok_map}
 use Rattle.ir_builder_operations.proofs.LiteralLemmas.{text_makes, text_answers}
 use Rattle.ir_builder_operations.proofs.texts.emit_text.Goals as goal
 

@@ -2,6 +2,9 @@ use Rattle.ir_builder_statements.proofs.Common.{◌≡◌, ◌∙◌, ap, length
 use Rattle.ir_builder_loops_and_jumps.specs.Around.{looping_to}
 use Rattle.ir_core.specs.declared.code.RType.TheVariants.{Bool}
 use Rattle.ir_builder_statements.proofs.PartLemmas.{open_kept, open_tested, still_open}
+use Rattle.ir_builder_frames.specs.Lines.{OwnLines}
+use Rattle.ir_builder_loops_and_jumps.specs.Around.{EndsLoop}
+use Rattle.ir_builder_statements.proofs.LinedLemmas.{loop_around}
 use Rattle.ir_builder_statements.proofs.branch.end_loop.Goals as goal
 
 pub patch_all-requires : goal.patch_all-requires
@@ -50,3 +53,22 @@ returns-clause-kinds c = λ g is h.
     let x = extends_trans _ _ _ c.in_ok-push.ensures.kept c.in_ok-close.ensures.kept in
     c.patch_all.ensures.kinds g
     (c.patch.ensures.kinds g (type_kept c.args.b.now c.close.new.self c.args.start.test.condition.0 Bool x is) (c.in_ok-close.ensures.kinds g tt (c.in_ok-push.ensures.kinds g tt h)))
+
+pub returns-clause-lined : goal.returns-clause-lined
+returns-clause-lined c =
+    let l = c.args.line in
+    let ends : EndsLoop c.args.b.now c.patch_all.new.b c.args.start c.args.next c.args.inner.now c.args.exits.now.items c.pass_on.new.exits.items = record {
+      turned = c.push.new.self;
+      line = l;
+      turns = c.in_ok-push.ensures.pushed;
+      closed = c.close.new.self;
+      closes = c.in_ok-close.ensures.closed;
+      exit = c.here-exit.result;
+      behind = c.here-exit.ensures;
+      passed = c.in_ok-pass_on.ensures;
+      tested = c.patch.new.self;
+      set = c.patch.ensures.set;
+      jumps = c.patch_all.ensures.jumps;
+    } in
+    let lines : OwnLines l c.args.b.now c.patch_all.new.b = λ k i x other at. c.in_ok-push.ensures.lined k i x other (c.in_ok-close.ensures.lined l tt k i x other (c.patch.ensures.lined l tt k i x other (c.patch_all.ensures.lined l k i x other at))) in
+    loop_around l c.args.b.now c.patch_all.new.b c.args.start c.args.next c.args.inner.now _ _ ends c.requires.open c.requires.start c.requires.next c.requires.opens lines

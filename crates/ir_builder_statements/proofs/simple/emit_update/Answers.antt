@@ -1,17 +1,21 @@
-use Rattle.ir_builder_statements.proofs.Common.{subst, sym, sort, type_of, typed_expr, typed_target, Setting, setting, extends_trans, on_ok_map, Binary, BinarySuits, Suits, type_at, ComputesAs, update_binary}
+use Rattle.ir_builder_expressions.specs.Site.{setting_of}
+use Rattle.ir_builder_statements.proofs.Common.{subst, sym, sort, type_of, typed_expr, typed_target, Setting, extends_trans, on_ok_map, Binary, BinarySuits, Suits, type_at, ComputesAs, update_binary}
 use Rattle.ir_builder_statements.proofs.AssignLemmas.{own_suits, reading_suits, updated_simple, update_turns, update_fits, update_code, update_takes}
+use Rattle.py_syntax.specs.declared.token.Span.{Span}
+use Rattle.ir_builder_expressions.proofs.LinedLemmas.{always, around_by}
+use Rattle.ir_builder_statements.proofs.LinedLemmas.{update_pieces}
 use Rattle.ir_builder_statements.proofs.simple.emit_update.Goals as goal
 
 pub reading-before-requires-clause-simple : goal.reading-before-requires-clause-simple
 reading-before-requires-clause-simple c =
-    let x : Setting = setting c.args.checked.now c.args.locals.now c.args.frame in
+    let x : Setting = setting_of c.args.site in
     let own = sort c.variable_type-own.result.now in
     let suits = own_suits x.source x.variables (typed_target c.args.target.now) c.args.op own (sort c.args.t.now) (type_of (typed_expr c.args.e.now)) c.variable_type-own.ensures c.requires.fits in
     updated_simple x.source x.variables c.args.op own (sort c.args.t.now) (type_of (typed_expr c.args.e.now)) suits
 
 pub emit_changed-requires-clause-fits : goal.emit_changed-requires-clause-fits
 emit_changed-requires-clause-fits c =
-    let x : Setting = setting c.args.checked.now c.args.locals.now c.args.frame in
+    let x : Setting = setting_of c.args.site in
     let own = sort c.variable_type-own.result.now in
     let t = sort c.args.t.now in
     let w = type_of (typed_expr c.args.e.now) in
@@ -22,7 +26,7 @@ emit_changed-requires-clause-fits c =
 
 pub emit_changed-requires-clause-turns : goal.emit_changed-requires-clause-turns
 emit_changed-requires-clause-turns c =
-    let x : Setting = setting c.args.checked.now c.args.locals.now c.args.frame in
+    let x : Setting = setting_of c.args.site in
     let own = sort c.variable_type-own.result.now in
     let t = sort c.args.t.now in
     let w = type_of (typed_expr c.args.e.now) in
@@ -30,17 +34,17 @@ emit_changed-requires-clause-turns c =
 
 pub emit_changed-requires-clause-before : goal.emit_changed-requires-clause-before
 emit_changed-requires-clause-before c =
-    let x : Setting = setting c.args.checked.now c.args.locals.now c.args.frame in
+    let x : Setting = setting_of c.args.site in
     let own = sort c.variable_type-own.result.now in
     let t = sort c.args.t.now in
     let w = type_of (typed_expr c.args.e.now) in
     let suits = own_suits x.source x.variables (typed_target c.args.target.now) c.args.op own t w c.variable_type-own.ensures c.requires.fits in
     let simple = updated_simple x.source x.variables c.args.op own t w suits in
-    subst (Suits x.source x.variables) (sym c.reading-before.ensures.reads) (reading_suits x.source x.variables (typed_target c.args.target.now) own c.args.e.now.span simple c.variable_type-own.ensures)
+    subst (Suits x.source x.variables) (sym c.reading-before.ensures.reads) (reading_suits x.source x.variables (typed_target c.args.target.now) own (record { line = c.args.site.line; col = c.args.e.now.span.col }) simple c.variable_type-own.ensures)
 
 pub emit_set-requires : goal.emit_set-requires
 emit_set-requires c =
-    let x : Setting = setting c.args.checked.now c.args.locals.now c.args.frame in
+    let x : Setting = setting_of c.args.site in
     let own = sort c.variable_type-own.result.now in
     let t = sort c.args.t.now in
     let w = type_of (typed_expr c.args.e.now) in
@@ -52,14 +56,21 @@ returns-clause-kept c = extends_trans _ _ _ c.in_ok-value.ensures.kept c.emit_se
 
 pub returns-clause-works : goal.returns-clause-works
 returns-clause-works c =
-    let x : Setting = setting c.args.checked.now c.args.locals.now c.args.frame in
+    let x : Setting = setting_of c.args.site in
     let own = sort c.variable_type-own.result.now in
     let t = sort c.args.t.now in
     let e = typed_expr c.args.e.now in
     let before = typed_expr c.reading-before.result in
     let suits = own_suits x.source x.variables (typed_target c.args.target.now) c.args.op own t (type_of e) c.variable_type-own.ensures c.requires.fits in
     let P : Binary → Type 0 = λ z. ComputesAs x z t own before e c.args.b.now c.emit_changed.new.b c.in_ok-value.value.0 in
-    on_ok_map _ _ _ (update_code x (typed_target c.args.target.now) c.args.op own t before e c.args.e.now.span c.reading-before.ensures.reads c.variable_type-own.ensures suits _ _ _ c.in_ok-value.value c.requires.room (subst P c.updating-op.ensures c.in_ok-value.ensures.computes)) c.emit_set.ensures.sets
+    on_ok_map _ _ _ (update_code x (typed_target c.args.target.now) c.args.op own t before e (record { line = c.args.site.line; col = c.args.e.now.span.col }) c.reading-before.ensures.reads c.variable_type-own.ensures suits _ _ _ c.in_ok-value.value c.requires.room (subst P c.updating-op.ensures c.in_ok-value.ensures.computes)) c.emit_set.ensures.sets
 
 pub returns-clause-kinds : goal.returns-clause-kinds
 returns-clause-kinds c g among h = c.emit_set.ensures.kinds g among (c.in_ok-value.ensures.kinds g among h)
+
+pub returns-clause-lined : goal.returns-clause-lined
+returns-clause-lined c =
+    let x : Setting = setting_of c.args.site in
+    let own = sort c.variable_type-own.result.now in
+    let place : Span = record { line = c.args.site.line; col = c.args.e.now.span.col } in
+    always _ _ (update_pieces x (typed_expr c.reading-before.result) (typed_expr c.args.e.now) (typed_target c.args.target.now) own place _ _ _ c.reading-before.ensures.reads c.in_ok-value.ensures.lined (around_by c.args.site.line _ _ c.emit_set.ensures.kept c.emit_set.ensures.lined))

@@ -5,7 +5,7 @@ use Rattle.ir_builder_statements.proofs.variables.set_global.Goals as goal
 use Rattle.ir_builder_statements.proofs.variables.set_global.Goals.{After-push-3}
 
 -- the variable that is named, and the arguments
-named_there : (c : After-push-3) → c.index-as_slice-i.result ≡ get_or c.args.checked.now.globals c.args.i c.index-as_slice-i.result
+named_there : (c : After-push-3) → c.index-as_slice-i.result ≡ get_or c.args.site.checked.now.globals c.args.i c.index-as_slice-i.result
 named_there c = c.index-as_slice-i.is ∙ ap (λ (l : List Var). get_or l c.args.i c.index-as_slice-i.result) c.as_slice.ensures
 
 arguments_are : (c : After-push-3) → c.push-2.new.self ≡ stored c.index-as_slice-i.result.name c.args.r
@@ -17,9 +17,9 @@ arguments_are c =
 pub returns-clause-sets : goal.returns-clause-sets
 returns-clause-sets c =
     let k = (goal.at.returns-clause-sets c).After-push-3 in
-    on_ok_map _ _ _ (global_sets (typed_module c.args.checked.now) c.args.checked.now.globals c.args.i c.index-as_slice-i.result c.args.r _ _ _ refl (named_there k) (arguments_are k)) c.push-3.ensures.pushed
+    on_ok_map _ _ _ (global_sets (typed_module c.args.site.checked.now) c.args.site.checked.now.globals c.args.i c.index-as_slice-i.result c.args.r _ _ _ refl (named_there k) (arguments_are k)) c.push-3.ensures.pushed
 
 pub returns-clause-kinds : goal.returns-clause-kinds
 returns-clause-kinds c = λ g among h.
     let k = (goal.at.returns-clause-kinds c).After-push-3 in
-    c.push-3.ensures.kinds g (inr (global_fits (typed_module c.args.checked.now) g c.args.checked.now.globals c.args.i c.index-as_slice-i.result c.args.r _ c.args.b.now refl (named_there k) (arguments_are k) among c.requires)) h
+    c.push-3.ensures.kinds g (inr (global_fits (typed_module c.args.site.checked.now) g c.args.site.checked.now.globals c.args.i c.index-as_slice-i.result c.args.r _ c.args.b.now refl (named_there k) (arguments_are k) among c.requires)) h

@@ -1,4 +1,4 @@
-use Rattle.std.proofs.Common.{arith}
+use Rattle.ir_builder_frames.proofs.Common.{arith}
 use Rattle.ir_builder_frames.proofs.HeldLemmas.{adds}
 use Rattle.ir_builder_frames.proofs.KindLemmas.{call_kinds}
 use Rattle.ir_builder_frames.proofs.ShapeLemmas.{call_fits}

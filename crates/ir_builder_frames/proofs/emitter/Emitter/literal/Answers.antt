@@ -1,4 +1,4 @@
-use Rattle.std.proofs.Common.{arith, refl}
+use Rattle.ir_builder_frames.proofs.Common.{arith, refl}
 use Rattle.ir_builder_frames.proofs.HeldLemmas.{adds}
 use Rattle.ir_builder_frames.proofs.KindLemmas.{literal_kinds}
 use Rattle.ir_builder_frames.proofs.emitter.Emitter.literal.Goals as goal

@@ -1,10 +1,9 @@
-use Rattle.std.proofs.Common.{◌∙◌, ap, sym, length, arith}
-use Rattle.ir_core.specs.Building.{Building}
-use Rattle.ir_core.specs.declared.code.Last.TheVariants.{Goto, Unreachable}
+use Rattle.ir_builder_frames.proofs.Common.{◌∙◌, ap, sym, length, arith, Building, Goto, Unreachable}
 use Rattle.ir_builder_frames.proofs.HeldLemmas.{closes}
 use Rattle.ir_builder_frames.proofs.PatchLemmas.{closes_later, with_last_length}
 use Rattle.ir_builder_frames.proofs.ShapeLemmas.{close_shaped, patch_shaped}
 use Rattle.ir_builder_frames.proofs.KindLemmas.{close_kinds, patch_kinds}
+use Rattle.ir_builder_frames.proofs.LineLemmas.{closed_lines, patched_lines, lines_trans}
 use Rattle.ir_builder_frames.proofs.emitter.Emitter.step_on.Goals as goal
 
 pub returns-clause-kept : goal.returns-clause-kept
@@ -27,3 +26,7 @@ returns-clause-shaped c =
 pub returns-clause-kinds : goal.returns-clause-kinds
 returns-clause-kinds c =
     rw (← c.self.view_is) (λ g h. patch_kinds g _ _ _ (Goto c.here-next.result) c.set_last.ensures tt (close_kinds g _ _ Unreachable c.in_ok-before.ensures.ok tt h))
+
+pub returns-clause-lined : goal.returns-clause-lined
+returns-clause-lined c =
+    rw (← c.self.view_is) (λ l. lines_trans l _ _ _ (closed_lines l _ _ Unreachable c.in_ok-before.ensures.ok tt) (patched_lines l _ _ _ (Goto c.here-next.result) c.set_last.ensures tt))

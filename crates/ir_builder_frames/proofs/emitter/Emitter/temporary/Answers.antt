@@ -1,7 +1,8 @@
-use Rattle.std.proofs.Common.{arith}
+use Rattle.ir_builder_frames.proofs.Common.{arith}
 use Rattle.ir_builder_frames.proofs.HeldLemmas.{added_extends, same_extends, declares, ok_join, either_way}
 use Rattle.ir_builder_frames.proofs.KindLemmas.{add_kinds_either}
 use Rattle.ir_builder_frames.proofs.NameLemmas.{named_either}
+use Rattle.ir_builder_frames.proofs.LineLemmas.{added_lines, same_lines}
 use Rattle.ir_builder_frames.proofs.emitter.Emitter.temporary.Goals as goal
 
 pub invariant_of-self : goal.invariant_of-self
@@ -19,3 +20,6 @@ returns-clause-declared c = rw (← c.self.view_is) (ok_join c.add_reg.result _ 
 
 pub returns-clause-kinds : goal.returns-clause-kinds
 returns-clause-kinds c = rw (← c.self.view_is) (add_kinds_either c.add_reg.result _ _ c.in_ok-name.name c.args.t c.in_ok-name.number c.in_ok-name.ensures.name c.add_reg.ensures.ok c.add_reg.ensures.err)
+
+pub returns-clause-lined : goal.returns-clause-lined
+returns-clause-lined c = rw (← c.self.view_is) (λ l. either_way c.add_reg.result _ _ _ (added_lines l _ _ c.in_ok-name.name c.args.t) (same_lines l _ _) c.add_reg.ensures.ok c.add_reg.ensures.err)
