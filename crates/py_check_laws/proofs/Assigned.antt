@@ -21,7 +21,7 @@ use Rattle.py_check_values.specs.Aims.{Aim}
 use Rattle.py_check_values.specs.Assignments.{binding_fault, as_bound, assignment, first_barred, first_unwritten, items_for, items_fault, unpacking_fault}
 use Rattle.py_check_places.specs.Places.{Known, bind_names}
 use Rattle.py_check_places.specs.Shapes.{is_row, is_flat, leaves, target_names, some_parts, parts_for}
-use Rattle.py_check_targets.specs.Targets.{is_placed, targets_of, are_placed, parts_fault, several_fault, one_assigned, value_assigned, act_of, assigned, annotation_fault, given_after, given, target_of, written_back, of_operation, updated, next_part, more_parts, single_aim, beyond, aims}
+use Rattle.py_check_targets.specs.Targets.{is_placed, targets_of, are_placed, parts_fault, several_fault, asked_fault, taking_fault, one_assigned, value_assigned, act_of, assigned, annotation_fault, given_after, given, target_of, written_back, of_operation, updated, next_part, more_parts, single_aim, beyond, aims}
 use Rattle.py_check_places.specs.Shapes.{bind_target}
 use Rattle.py_check_loops.specs.Loops.{Course, course_type, course_items, are_names, head_fault, head}
 use Rattle.py_check_loops.specs.Loops as loops
@@ -108,22 +108,31 @@ one_by classes [] v e h = absurd (cc)
 one_by classes (a ∷ []) v e h = let r = unless_ok (binding_fault classes a (type_of v)) (as_bound a v) e h in ((a, refl, r.0), r.1)
 one_by classes (a ∷ b ∷ l) v e h = absurd (cc)
 
-value_by : (classes : List ClassEntry) (several : Bool) (l : List Aim) (v e : TypedExpr) → value_assigned classes several l v ≡ Ok e → BoundTo classes several l (type_of v) × (as_value several l v ≡ e)
-value_by classes true l v e h = let r = unless_ok (several_fault classes l (type_of v)) v e h in (several_bound classes l (type_of v) r.0, r.1)
-value_by classes false l v e h = one_by classes l v e h
+-- several targets take a value that fits what it was asked for too
+abbrev pub FitsAsked : List ClassEntry → Bool → Option Sort → List Aim → Sort → Type 0
+FitsAsked classes true asked l t = asked_fault classes (length l) asked t ≡ None
+FitsAsked classes false asked l t = Unit {0}
+
+value_by : (classes : List ClassEntry) (several : Bool) (asked : Option Sort) (l : List Aim) (v e : TypedExpr) → value_assigned classes several asked l v ≡ Ok e → BoundTo classes several l (type_of v) × FitsAsked classes several asked l (type_of v) × (as_value several l v ≡ e)
+value_by classes true asked l v e h =
+    let r = unless_ok (taking_fault classes asked l (type_of v)) v e h in
+    let f = first_none (several_fault classes l (type_of v)) (asked_fault classes (length l) asked (type_of v)) r.0 in
+    (several_bound classes l (type_of v) f.0, f.1, r.1)
+value_by classes false asked l v e h = let r = one_by classes l v e h in (r.0, tt, r.1)
 
 -- an assignment that holds
-pub record Assigned (classes : List ClassEntry) (target : ExprTree) (l : List Aim) (v : TypedExpr) (a : TypedAct) : Type 0 where
+pub record Assigned (classes : List ClassEntry) (target : ExprTree) (asked : Option Sort) (l : List Aim) (v : TypedExpr) (a : TypedAct) : Type 0 where
   pub placed : are_placed (is_flat target) l ≡ true
   pub bound : BoundTo classes (is_row target) l (type_of v)
+  pub fits : FitsAsked classes (is_row target) asked l (type_of v)
   pub is : act.Assign (targets_of l) (as_value (is_row target) l v) ≡ a
 
-pub assigned_is : (classes : List ClassEntry) (target : ExprTree) (p : List Aim × TypedExpr) (a : TypedAct) → assigned classes target p ≡ Ok a → Assigned classes target p.0 p.1 a
-assigned_is classes target p a h =
-    let r = if_then (are_placed (is_flat target) p.0) (act_of (targets_of p.0) (value_assigned classes (is_row target) p.0 p.1)) no_target a h in
-    let q = act_given (targets_of p.0) (value_assigned classes (is_row target) p.0 p.1) a r.1 in
-    let v = value_by classes (is_row target) p.0 p.1 q.0 q.1 in
-    record { placed = r.0; bound = v.0; is = ap (act.Assign (targets_of p.0)) v.1 ∙ q.2 }
+pub assigned_is : (classes : List ClassEntry) (target : ExprTree) (asked : Option Sort) (p : List Aim × TypedExpr) (a : TypedAct) → assigned classes target asked p ≡ Ok a → Assigned classes target asked p.0 p.1 a
+assigned_is classes target asked p a h =
+    let r = if_then (are_placed (is_flat target) p.0) (act_of (targets_of p.0) (value_assigned classes (is_row target) asked p.0 p.1)) no_target a h in
+    let q = act_given (targets_of p.0) (value_assigned classes (is_row target) asked p.0 p.1) a r.1 in
+    let v = value_by classes (is_row target) asked p.0 p.1 q.0 q.1 in
+    record { placed = r.0; bound = v.0; fits = v.1; is = ap (act.Assign (targets_of p.0)) v.2 ∙ q.2 }
 
 -- ---- an annotation with a value
 

@@ -35,8 +35,8 @@ use Rattle.py_check_places.specs.Places.{Known, is_bound, locals_among, with_nam
 use Rattle.py_check_places.specs.Shapes.{is_row, is_item, leaves}
 use Rattle.py_check_expressions_laws.specs.WellTyped.{Within}
 use Rattle.py_check_expressions_laws.proofs.Inside.{within_none, within_append}
-use Rattle.py_check_targets.specs.Targets.{target_of, targets_of, variable_aim, name_aim, seen_aim, read_aim, assigned, given, updated, typed_at, target_aims, next_part, more_parts, beyond, bound_aims}
-use Rattle.py_check_assignments.specs.Assignments.{value_for, assigns, annotated_value, annotates, updates_one, updates_row, updates}
+use Rattle.py_check_targets.specs.Targets.{target_of, targets_of, variable_aim, name_aim, seen_aim, read_aim, assigned, given, updated, typed_at, target_aims, next_part, more_parts, beyond, aims_behind}
+use Rattle.py_check_assignments.specs.Assignments.{value_for, assigns, annotated_value, annotates, updates_one, updates_row, updates, asked_for}
 use Rattle.py_check_loops.specs.Loops.{Course, loop_of}
 use Rattle.py_check_loops.specs.Heads.{for_head, in_for}
 use Rattle.py_check_exceptions.specs.Handlers.{name_target, handler_head, in_handler}
@@ -47,7 +47,7 @@ use Rattle.py_check.proofs.Bound.{named, leaf_bindings, target_leaves}
 use Rattle.py_check_laws.proofs.Given.{made_given, both_given, rule_given, row_given}
 use Rattle.py_check_laws.proofs.Assigned.{assigned_is, given_is, updated_is}
 use Rattle.py_check_laws.proofs.Names.{within_itself}
-use Rattle.py_check_laws.proofs.Looked.{looked_at}
+use Rattle.py_check_laws.proofs.Looked.{looked_behind}
 use Rattle.py_check_laws.proofs.Aims.{AimAt, AimsOf}
 use Rattle.py_check_laws.proofs.Exceptions.{NameAt, head_given}
 use Rattle.py_check_laws.proofs.Shapes.{loop_binds, definition_shape, no_part_given, locals_two, read_aim_at, one_target}
@@ -116,11 +116,11 @@ module _ (C : Context) where
   assign_binds : (k : Known) (span : Span) (target e : ExprTree) (a : TypedAct) → (assigns C k span target e).got ≡ Some a → Binds (target_bindings target) (typed.bound_in a)
   assign_binds k span target e a h =
       let value = value_for C k target e in
-      let targets = bound_aims C k target (option_map type_of value.got) in
-      let r = rule_given span (assigned C.classes target) (both targets value) a h in
+      let targets = aims_behind C k target (option_map type_of value.got) in
+      let r = rule_given span (assigned C.classes target (asked_for C k target)) (both targets value) a h in
       let b = both_given targets value r.0 r.1 in
-      let d = assigned_is C.classes target r.0 a r.2 in
-      let looked = looked_at C k target r.0.0 (option_map type_of value.got) (type_of r.0.1) b.0 (ap (option_map type_of) b.1) in
+      let d = assigned_is C.classes target (asked_for C k target) r.0 a r.2 in
+      let looked = looked_behind C k target r.0.0 (option_map type_of value.got) (type_of r.0.1) b.0 (ap (option_map type_of) b.1) in
       subst (λ z. Binds (target_bindings target) (typed.bound_in z)) d.is (targets_bind k target r.0.0 looked.parts looked.aims)
 
   annotated_binds : (k : Known) (span : Span) (x : Option (List ℕ)) (target mark e : ExprTree) (a : TypedAct) → name_in target ≡ x → (annotates C k span x target mark (Some e)).got ≡ Some a → Binds (marked (name_in target) target mark) (typed.bound_in a)
@@ -157,11 +157,11 @@ module _ (C : Context) where
           (subst (λ bs. Binds bs (bound_by u.target)) (sym (one_target C target q))
           (one_binds aim u.target u.more (locals_among C (leaf_bindings target)) u.aimed (aim_binds k target aim (read_aim_at C k (name_in target) target r.0.0 b.0 u.placed))))
 
-  pub for_binds : (k : Known) (span : Span) (target e : ExprTree) (body : Suite) (p : List TypedTarget × Course) → (for_head C k span target e).got ≡ Some p → (t : TypedSuite) → Binds (suite_bindings body) (typed.bound_suite t) → Binds (target_bindings target ++ suite_bindings body) (bound_by_all p.0 ++ typed.bound_suite t)
-  for_binds k span target e body p h t inner =
-      let hp = head_parts C k span target e p h in
-      let looked = head_looked C k target e p hp in
-      two_bind (target_bindings target) (suite_bindings body) (bound_by_all p.0) (typed.bound_suite t) (subst (λ z. Binds (target_bindings target) (bound_by_all z)) hp.targets (targets_bind k target hp.aims looked.parts looked.aims)) inner
+  pub for_binds : (k : Known) (s : StmtTree) (span : Span) (target e : ExprTree) (body : Suite) (p : List TypedTarget × Course) → (for_head C k s span target e).got ≡ Some p → (t : TypedSuite) → Binds (suite_bindings body) (typed.bound_suite t) → Binds (target_bindings target ++ suite_bindings body) (bound_by_all p.0 ++ typed.bound_suite t)
+  for_binds k s span target e body p h t inner =
+      let hp = head_parts C k s span target e p h in
+      let looked = head_looked C k s target e p hp in
+      two_bind (target_bindings target) (suite_bindings body) (bound_by_all p.0) (typed.bound_suite t) (subst (λ z. Binds (target_bindings target) (bound_by_all z)) hp.targets (targets_bind (entering C k s) target hp.aims looked.parts looked.aims)) inner
 
   -- ---- except clauses
 
@@ -219,14 +219,15 @@ module _ (C : Context) where
           let b = both_given s t q.0 q.1 in
           subst (λ z. Binds (suite_bindings body) (typed.bound_in z)) q.2 (block_binds (around_loop around) (where_test C l true e) body (and_right (Rattle.py_check_expressions_laws.specs.Bare.is_bare e) (is_bare_suite C.meaning body) bare) q.0.1 b.1)
       act_binds around k span (node.For target e body) bare a h =
-          let s = for_head C k span target e in
-          let l = in_for C k (node.at (node.For target e body) span) span target e in
+          let here = node.at (node.For target e body) span in
+          let s = for_head C k here span target e in
+          let l = in_for C k here span target e in
           let t = block C r (around_loop around) l body in
           let q = made_given (λ (p : (List TypedTarget × Course) × List TypedStmt). loop_of p.0.0 p.0.1 (suite_of p.1)) (both s t) a h in
           let b = both_given s t q.0 q.1 in
           subst (λ z. Binds (target_bindings target ++ suite_bindings body) (typed.bound_in z)) q.2
           (subst (Binds (target_bindings target ++ suite_bindings body)) (sym (loop_binds q.0.0.0 q.0.0.1 (suite_of q.0.1)))
-          (for_binds k span target e body q.0.0 b.0 (suite_of q.0.1) (block_binds (around_loop around) l body bare q.0.1 b.1)))
+          (for_binds k here span target e body q.0.0 b.0 (suite_of q.0.1) (block_binds (around_loop around) l body bare q.0.1 b.1)))
       act_binds around k span (node.Try body handlers last) bare a h =
           let names = outside_try C k (node.at (node.Try body handlers last) span) in
           let end = block_after C k body in

@@ -28,13 +28,13 @@ use Rattle.py_check_values.specs.Aims.{Aim, held, first, barred, unwritten, misp
 use Rattle.py_check_values.specs.Assignments.{binding_fault, as_bound, items_for}
 use Rattle.py_check_places.specs.Places.{Known, is_plain, bind_name, bind_names}
 use Rattle.py_check_places.specs.Shapes.{is_row, leaves, target_names, bind_target}
-use Rattle.py_check_targets.specs.Targets.{target_of, targets_of, assigned, target_aims, aims_behind, bound_aims}
-use Rattle.py_check_assignments.specs.Assignments.{value_for, assigns, binds}
+use Rattle.py_check_targets.specs.Targets.{target_of, targets_of, assigned, aims_behind}
+use Rattle.py_check_assignments.specs.Assignments.{value_for, assigns, binds, asked_for}
 use Rattle.py_check_expressions_laws.specs.WellTyped as law
 use Rattle.py_check_expressions_laws.specs.WellTyped.{Describes, Within}
 use Rattle.py_check_expressions_laws.proofs.Stands.{coerced_stands}
 use Rattle.py_check_laws.specs.Variables.{sort_in}
-use Rattle.py_check_laws.proofs.Looked.{LookedAt, looked_at, is_chosen}
+use Rattle.py_check_laws.proofs.Looked.{LookedAt, looked_behind}
 use Rattle.py_check_laws.specs.WellTyped.{are_targets, IsScope}
 use Rattle.py_check_laws.proofs.Given.{some_is, both_given, rule_given}
 use Rattle.py_check.proofs.Bound.{leaves_one, single_bound}
@@ -43,7 +43,7 @@ use Rattle.py_check_laws.proofs.Assigned.{row_bound, items_are, BoundTo, as_valu
 use Rattle.py_check_laws.proofs.Whole.{bound_same}
 use Rattle.py_check_laws.proofs.Names.{within_kept}
 use Rattle.py_check_laws.proofs.Aims.{AimAt, AimsOf, aim_held, aim_first, first_name, held_aimed, first_aimed, aimed_bound}
-use Rattle.py_check_laws.proofs.Values.{scene, held_value, fault_fits, stands_type, parts_type, chosen_stands}
+use Rattle.py_check_laws.proofs.Values.{scene, held_value, fault_fits, stands_type, parts_type, given_stands}
 use Rattle.py_check_laws.proofs.Towers.{no_tower}
 use Rattle.py_check_laws.proofs.Targets.{not_true, own_plain, own_coerced, given_start, TargetStands, held_stands, variable_stands, bind_first, open_unset, open_variable, first_open, RowStands, rows}
 use Rattle.py_check_laws.proofs.Closed.{scope_there}
@@ -208,15 +208,14 @@ module _ (means : List ℕ → Meaning) (signatures : List (Option Signature)) (
       → Good loops handling others (binds here k span target e).names a
   good_assign loops handling k span target e sc wt we E a h others w =
       let value = value_for here k target e in
-      let late = aims_behind here k target (option_map type_of value.got) in
-      let targets = bound_aims here k target (option_map type_of value.got) in
-      let r = rule_given span (assigned m.classes.classes target) (both targets value) a h in
+      let targets = aims_behind here k target (option_map type_of value.got) in
+      let r = rule_given span (assigned m.classes.classes target (asked_for here k target)) (both targets value) a h in
       let b = both_given targets value r.0 r.1 in
-      let d = assigned_is m.classes.classes target r.0 a r.2 in
+      let d = assigned_is m.classes.classes target (asked_for here k target) r.0 a r.2 in
       let ok = is_some (assigns here k span target e).got in
       let D = described_before here k.types (binds here k span target e).types m locals (follows_target here ok k target (option_map type_of value.got)) E in
-      let looked = looked_at here k target r.0.0 (option_map type_of value.got) (type_of r.0.1) b.0 (ap (option_map type_of) b.1) in
-      let sv = chosen_stands means signatures m locals init k D target wt late r.0.0 (is_chosen (is_row target) (target_aims here k target) late r.0.0 b.0) e we r.0.1 d.bound b.1 others w in
+      let looked = looked_behind here k target r.0.0 (option_map type_of value.got) (type_of r.0.1) b.0 (ap (option_map type_of) b.1) in
+      let sv = given_stands means signatures m locals init k D target wt r.0.0 (option_map type_of value.got) b.0 e we r.0.1 d.bound d.fits b.1 others w in
       let same = bound_same here k target ok (option_map type_of value.got) (type_of r.0.1) (some_is (assigns here k span target e).got a h) (ap (option_map type_of) b.1) in
       subst (Good loops handling others (binds here k span target e).names) d.is
       (assign_by loops handling k target sc r.0.0 r.0.1 looked wt D (binds here k span target e) same E others w sv (is_row target) refl d.bound)

@@ -31,8 +31,8 @@ use Rattle.py_check_values.specs.Aims.{Aim, held, first, barred, unwritten, misp
 use Rattle.py_check_values.specs.Assignments.{binding_fault, as_bound, items_for}
 use Rattle.py_check_places.specs.Places.{Known, is_bound, variable_at, bind_variable, bind_name, bind_names}
 use Rattle.py_check_places.specs.Shapes.{is_row, is_item, leaves, target_names, bind_target}
-use Rattle.py_check_targets.specs.Targets.{target_of, targets_of, asked_by, assigned, annotation_fault, declared, given, updated, name_aim, seen_aim, read_aim, typed_at, target_aims, aims_behind, bound_aims}
-use Rattle.py_check_assignments.specs.Assignments.{asked, value_for, assigns, binds, declares, annotated_value, gives_value, annotates, binds_annotated, updates_one, updates_row, updates}
+use Rattle.py_check_targets.specs.Targets.{target_of, targets_of, asked_by, assigned, annotation_fault, declared, given, updated, name_aim, seen_aim, read_aim, typed_at, target_aims, aims_behind}
+use Rattle.py_check_assignments.specs.Assignments.{asked, value_for, assigns, binds, declares, annotated_value, gives_value, annotates, binds_annotated, updates_one, updates_row, updates, asked_for}
 use Rattle.py_check_expressions_laws.specs.WellTyped as law
 use Rattle.py_check_expressions_laws.specs.WellTyped.{Describes, Within}
 use Rattle.py_check_expressions_laws.proofs.Stands.{coerced_stands}
@@ -43,13 +43,13 @@ use Rattle.py_check_laws.specs.Narrowing.{is_own, is_own_name}
 use Rattle.py_check_laws.specs.Variables.{sort_in}
 use Rattle.py_check_laws.specs.WellTyped.{are_targets, IsScope}
 use Rattle.py_check_laws.proofs.Given.{some_is, both_given, rule_given, unless_ok}
-use Rattle.py_check_laws.proofs.Looked.{LookedAt, looked_at, is_chosen}
+use Rattle.py_check_laws.proofs.Looked.{LookedAt, looked_behind}
 use Rattle.py_check_laws.proofs.Assigned.{row_bound, items_are, BoundTo, as_value, assigned_is, given_is, updated_is}
 use Rattle.py_check_laws.proofs.Whole.{bound_same}
 use Rattle.py_check_laws.proofs.Names.{within_itself, within_less}
 use Rattle.py_check_laws.proofs.Aims.{AimAt, aim_held, aim_first, first_name, held_aimed, first_aimed}
 use Rattle.py_check_laws.proofs.Shapes.{no_part_given, read_aim_at}
-use Rattle.py_check_laws.proofs.Values.{scene, held_value, fault_fits, parts_type, value_stands, chosen_stands}
+use Rattle.py_check_laws.proofs.Values.{scene, held_value, fault_fits, parts_type, single_stands, given_stands}
 use Rattle.py_check_laws.proofs.Targets.{given_start, held_stands, variable_stands, first_open, rows}
 use Rattle.py_check_laws.proofs.Bound.{described_before, single, first_type_there, not_single, only_valued, single_aim_of}
 use Rattle.py_check_laws.proofs.Updated.{name_written, asked_same}
@@ -140,15 +140,14 @@ module _ (means : List ℕ → Meaning) (signatures : List (Option Signature)) (
   pub less_assign : (k : Known) (span : Span) (target e : ExprTree) → IsScope here k.types → are_targets (leaves target) ≡ true → law.is_written e ≡ true → Describes here (binds here k span target e).types m locals → (a : TypedAct) → (assigns here k span target e).got ≡ Some a → Less k.names (binds here k span target e).names a
   less_assign k span target e sc wt we E a h =
       let value = value_for here k target e in
-      let late = aims_behind here k target (option_map type_of value.got) in
-      let targets = bound_aims here k target (option_map type_of value.got) in
-      let r = rule_given span (assigned m.classes.classes target) (both targets value) a h in
+      let targets = aims_behind here k target (option_map type_of value.got) in
+      let r = rule_given span (assigned m.classes.classes target (asked_for here k target)) (both targets value) a h in
       let b = both_given targets value r.0 r.1 in
-      let d = assigned_is m.classes.classes target r.0 a r.2 in
+      let d = assigned_is m.classes.classes target (asked_for here k target) r.0 a r.2 in
       let ok = is_some (assigns here k span target e).got in
       let D = described_before here k.types (binds here k span target e).types m locals (follows_target here ok k target (option_map type_of value.got)) E in
-      let looked = looked_at here k target r.0.0 (option_map type_of value.got) (type_of r.0.1) b.0 (ap (option_map type_of) b.1) in
-      let sv = chosen_stands means signatures m locals init k D target wt late r.0.0 (is_chosen (is_row target) (target_aims here k target) late r.0.0 b.0) e we r.0.1 d.bound b.1 k.names (within_itself k.names) in
+      let looked = looked_behind here k target r.0.0 (option_map type_of value.got) (type_of r.0.1) b.0 (ap (option_map type_of) b.1) in
+      let sv = given_stands means signatures m locals init k D target wt r.0.0 (option_map type_of value.got) b.0 e we r.0.1 d.bound d.fits b.1 k.names (within_itself k.names) in
       let own = (keeps here k.types (asked_by (is_row target) (target_aims here k target).got) k.names e).each r.0.1 b.1 in
       let same = bound_same here k target ok (option_map type_of value.got) (type_of r.0.1) (some_is (assigns here k span target e).got a h) (ap (option_map type_of) b.1) in
       subst (Less k.names (binds here k span target e).names) d.is (less_by k target sc r.0.0 r.0.1 looked wt D (binds here k span target e) same E sv own (is_row target) refl d.bound)
@@ -172,7 +171,7 @@ module _ (means : List ℕ → Meaning) (signatures : List (Option Signature)) (
       let D = described_before here k.types end.types m locals (follows_target here (is_some s.got) k target (option_map type_of (annotated_value here k x e).got)) E in
       let at_name : AimAt here k (name_in target) target aim = subst (λ o. AimAt here k o target aim) (sym n) c.0 in
       let wt = name_written target x n in
-      let sv = value_stands means signatures m locals init k D (target ∷ []) (and_from (law.is_written target) true wt refl) false (aim ∷ []) None (record { here = at_name; rest = tt }) e we v (aim, refl, g.right)
+      let sv = single_stands means signatures m locals init k D (target ∷ []) (and_from (law.is_written target) true wt refl) (aim ∷ []) None (record { here = at_name; rest = tt }) e we v (aim, refl, g.right)
       (ap (λ z. (typed_at here k z e).got) (sym (asked_same k x (means x) aim c.0)) ∙ b.1) k.names (within_itself k.names) in
       let own = (keeps here k.types (asked (variable_at k (means x))) k.names e).each v b.1 in
       subst (Less k.names end.names) g.is

@@ -228,7 +228,7 @@ module _ (means : List ℕ → Meaning) (signatures : List (Option Signature)) (
           left_or (flow.breaks_suite body) (telling.breaks_suite ts) l.names (where_test here l false e).names left (telling.facts false q.0.0 ++ left) shape.breaks wl (test_less here l e (and_left (is_bare e) (is_bare_suite means body) bare) q.0.0 b.0 left wl false))
       less_act around k span (node.For target e body) sc E ws bare a h =
           let here_stmt = node.at (node.For target e body) span in
-          let s = for_head here k span target e in
+          let s = for_head here k here_stmt span target e in
           let t = block here r (around_loop around) (in_for here k here_stmt span target e) body in
           let q = made_given (λ (p : (List TypedTarget × Course) × List TypedStmt). loop_of p.0.0 p.0.1 (suite_of p.1)) (both s t) a h in
           let ts = suite_of q.0.1 in
@@ -290,17 +290,17 @@ module _ (means : List ℕ → Meaning) (signatures : List (Option Signature)) (
 
   -- where the body of a `for` begins
   pub less_for : (r : ReturnSort) (around : Around) (k : Known) (span : Span) (target e : ExprTree) (body : Suite) → IsScope here k.types → Describes here (in_for here k (node.at (node.For target e body) span) span target e).types m locals → law.is_written e ≡ true → is_bare_suite means body ≡ true
-      → (targets : List TypedTarget) (over : Course) (item : Sort) → (for_head here k span target e).got ≡ Some (targets, over) → course_items over ≡ Some item
+      → (targets : List TypedTarget) (over : Course) (item : Sort) → (for_head here k (node.at (node.For target e body) span) span target e).got ≡ Some (targets, over) → course_items over ≡ Some item
       → (ts : List TypedStmt) → (block here r (around_loop around) (in_for here k (node.at (node.For target e body) span) span target e) body).got ≡ Some ts → (known : List ℕ) → Within known k.names
       → Within (stmt.in_loop_from m locals init result known targets item (suite_of ts)) (in_for here k (node.at (node.For target e body) span) span target e).names
   less_for r around k span target e body sc E we bare targets over item h is ts g known w =
       let s = node.at (node.For target e body) span in
       let l = in_for here k s span target e in
-      let ok = is_some (for_head here k span target e).got in
+      let ok = is_some (for_head here k s span target e).got in
       let D = described_before here k.types l.types m locals (follows_target here ok (entering here k s) target (some_items (course here k e).got)) E in
-      let hp = head_parts here k span target e (targets, over) h in
+      let hp = head_parts here k s span target e (targets, over) h in
       let same : hp.headed.item ≡ item = same_Some hp.headed.item item (sym hp.headed.items ∙ ap course_items hp.is ∙ is) in
-      let binds = for_binds here k span target e body (targets, over) h (suite_of ts) (block_binds here r (around_loop around) l body bare ts g) in
+      let binds = for_binds here k s span target e body (targets, over) h (suite_of ts) (block_binds here r (around_loop around) l body bare ts g) in
       subst (λ z. Within (stmt.in_loop_from m locals init result known targets z (suite_of ts)) l.names) same
       (less_head means signatures m locals init result k D sc s span target e we (targets, over) h hp E (suite_of ts) known
       (within_without (bound_by_all targets ++ telling.bound_suite (suite_of ts)) (locals_in here s) known k.names binds w))
@@ -315,11 +315,11 @@ less_in C r around k body m locals init result sc D ws bare ts g known w =
     (λ sc D g. less_block C.meaning C.signatures m locals init result r around k body sc D ws bare ts g known w) sc D g
 
 pub less_for_in : (C : Context) (r : ReturnSort) (around : Around) (k : Known) (span : Span) (target e : ExprTree) (body : Suite) (m : TypedModule) (locals : List Variable) (init : Option ℕ) (result : Option Sort) → IsScope C k.types → Describes C (in_for C k (node.at (node.For target e body) span) span target e).types m locals
-    → law.is_written e ≡ true → is_bare_suite C.meaning body ≡ true → (targets : List TypedTarget) (over : Course) (item : Sort) → (for_head C k span target e).got ≡ Some (targets, over) → course_items over ≡ Some item
+    → law.is_written e ≡ true → is_bare_suite C.meaning body ≡ true → (targets : List TypedTarget) (over : Course) (item : Sort) → (for_head C k (node.at (node.For target e body) span) span target e).got ≡ Some (targets, over) → course_items over ≡ Some item
     → (ts : List TypedStmt) → (block C r (around_loop around) (in_for C k (node.at (node.For target e body) span) span target e) body).got ≡ Some ts → (known : List ℕ) → Within known k.names
     → Within (stmt.in_loop_from m locals init result known targets item (suite_of ts)) (in_for C k (node.at (node.For target e body) span) span target e).names
 less_for_in C r around k span target e body m locals init result sc D we bare targets over item h is ts g known w =
     let s = node.at (node.For target e body) span in
-    subst (λ c. IsScope (at_classes C c) k.types → Describes (at_classes C c) (in_for (at_classes C c) k s span target e).types m locals → (for_head (at_classes C c) k span target e).got ≡ Some (targets, over)
+    subst (λ c. IsScope (at_classes C c) k.types → Describes (at_classes C c) (in_for (at_classes C c) k s span target e).types m locals → (for_head (at_classes C c) k s span target e).got ≡ Some (targets, over)
     → (block (at_classes C c) r (around_loop around) (in_for (at_classes C c) k s span target e) body).got ≡ Some ts → Within (stmt.in_loop_from m locals init result known targets item (suite_of ts)) (in_for (at_classes C c) k s span target e).names) D.classes
     (λ sc D h g. less_for C.meaning C.signatures m locals init result r around k span target e body sc D we bare targets over item h is ts g known w) sc D h g

@@ -37,7 +37,7 @@ use Rattle.py_check_laws.proofs.Looked.{LookedAt, looked_behind}
 use Rattle.py_check_laws.specs.WellTyped.{IsScope}
 use Rattle.py_check_laws.proofs.Given.{some_is, made_given, both_given, rule_given}
 use Rattle.py_check.proofs.Bound.{leaves_one, single_bound}
-use Rattle.py_check.proofs.Kept.{Follows, follows_itself, is_open}
+use Rattle.py_check.proofs.Kept.{follows_itself}
 use Rattle.py_check_laws.proofs.Assigned.{row_bound, items_are, BoundTo, Headed, head_is}
 use Rattle.py_check_laws.proofs.Whole.{bound_same}
 use Rattle.py_check_laws.proofs.Names.{within_kept}
@@ -52,18 +52,18 @@ name_is_written (at (tree.Name y) span) x h = refl
 name_is_written _ x h = absurd (cc)
 
 -- the parts of a head that is typed
-pub record HeadParts (C : Context) (k : Known) (target e : ExprTree) (p : List TypedTarget × Course) : Type 0 where
+pub record HeadParts (C : Context) (k : Known) (s : StmtTree) (target e : ExprTree) (p : List TypedTarget × Course) : Type 0 where
   pub aims : List Aim
   pub course : Course
-  pub seen : (aims_behind C k target (some_items (Rattle.py_check_loops.specs.Loops.course C k e).got)).got ≡ Some aims
+  pub seen : (aims_behind C (entering C k s) target (some_items (Rattle.py_check_loops.specs.Loops.course C k e).got)).got ≡ Some aims
   pub over : (Rattle.py_check_loops.specs.Loops.course C k e).got ≡ Some course
   pub headed : Headed C.classes target aims course
   pub targets : targets_of aims ≡ p.0
   pub is : course ≡ p.1
 
-pub head_parts : (C : Context) (k : Known) (span : Span) (target e : ExprTree) (p : List TypedTarget × Course) → (for_head C k span target e).got ≡ Some p → HeadParts C k target e p
-head_parts C k span target e p h =
-    let targets = aims_behind C k target (some_items (course C k e).got) in
+pub head_parts : (C : Context) (k : Known) (s : StmtTree) (span : Span) (target e : ExprTree) (p : List TypedTarget × Course) → (for_head C k s span target e).got ≡ Some p → HeadParts C k s target e p
+head_parts C k s span target e p h =
+    let targets = aims_behind C (entering C k s) target (some_items (course C k e).got) in
     let parts = both targets (course C k e) in
     let q = made_given (λ (z : List Aim × Course). (targets_of z.0, z.1)) (rule span (head C.classes (is_flat target) (is_row target)) parts) p h in
     let g = rule_given span (head C.classes (is_flat target) (is_row target)) parts q.0 q.1 in
@@ -79,8 +79,8 @@ head_parts C k span target e p h =
       is = ap (λ (z : List Aim × Course). z.1) d.1 ∙ ap (λ (z : List TypedTarget × Course). z.1) q.2;
     }
 
-pub head_looked : (C : Context) (k : Known) (target e : ExprTree) (p : List TypedTarget × Course) → (h : HeadParts C k target e p) → LookedAt C k target h.aims h.headed.item
-head_looked C k target e p h = looked_behind C k target h.aims (some_items (course C k e).got) h.headed.item h.seen (ap some_items h.over ∙ h.headed.items)
+pub head_looked : (C : Context) (k : Known) (s : StmtTree) (target e : ExprTree) (p : List TypedTarget × Course) → (h : HeadParts C k s target e p) → LookedAt C (entering C k s) target h.aims h.headed.item
+head_looked C k s target e p h = looked_behind C (entering C k s) target h.aims (some_items (course C k e).got) h.headed.item h.seen (ap some_items h.over ∙ h.headed.items)
 
 module _ (means : List ℕ → Meaning) (signatures : List (Option Signature)) (m : TypedModule) (locals : List Variable) (init : Option ℕ) (result : Option Sort) where
   abbrev here : Context
@@ -183,50 +183,49 @@ module _ (means : List ℕ → Meaning) (signatures : List (Option Signature)) (
       }
 
   -- a head with one target
-  single_head : (k : Known) → Describes here k.types m locals → IsScope here k.types → (inner : Known) → inner.types ≡ k.types → (target : ExprTree) (a : Aim) → AimAt here k (name_in target) target a → is_name_aim a ≡ true → (item : Sort) → binding_fault m.classes.classes a item ≡ None
+  single_head : (inner : Known) → Describes here inner.types m locals → IsScope here inner.types → (target : ExprTree) (a : Aim) → AimAt here inner (name_in target) target a → is_name_aim a ≡ true → (item : Sort) → binding_fault m.classes.classes a item ≡ None
       → Describes here (bind_name here true inner (name_in target) (Some item)).types m locals → (body : TypedSuite) (others : List ℕ) → Within inner.names (without (bound_by_all (targets_of (a ∷ [])) ++ bound_suite body) others)
       → HeadStands others (targets_of (a ∷ [])) item body (bind_name here true inner (name_in target) (Some item)).names
-  single_head k D sc inner same target (held t s) a n item f E body others w =
-      let d = aim_held here k target t s a in
-      let x = held_named k target t s d n in
-      let st = held_stands means signatures m locals init result k D target (λ q. absurd (no_none (name_in target) x.0 x.1 q)) t s d others (λ q. absurd (no_none (name_in target) x.0 x.1 q)) in
+  single_head inner D sc target (held t s) a n item f E body others w =
+      let d = aim_held here inner target t s a in
+      let x = held_named inner target t s d n in
+      let st = held_stands means signatures m locals init result inner D target (λ q. absurd (no_none (name_in target) x.0 x.1 q)) t s d others (λ q. absurd (no_none (name_in target) x.0 x.1 q)) in
       let own : TargetStands means signatures m locals init result others t (stmt.target_type m locals init result t) = subst (TargetStands means signatures m locals init result others t) (sym st.type) st in
-      one_head others (bind_name here true inner (name_in target) (Some item)).names t item body (aimed_name target t (held_aimed here k target t s d) (no_none (name_in target) x.0 x.1)) own
+      one_head others (bind_name here true inner (name_in target) (Some item)).names t item body (aimed_name target t (held_aimed here inner target t s d) (no_none (name_in target) x.0 x.1)) own
       (ap (fits m.classes.classes item) st.type ∙ fault_fits means signatures m locals init s item f)
-      (aimed_bound here target t (held_aimed here k target t s d) true inner (Some item) item (without (bound_by_all (t ∷ []) ++ bound_suite body) others) w (λ q. not_true (may_be_none item) q))
-  single_head k D sc inner same target (first t y) a n item f E body others w =
-      let d = aim_first here k target t y a in
-      let x = first_name here k target t y a in
-      let o = first_open means signatures m locals init result k target t y d x in
+      (aimed_bound here target t (held_aimed here inner target t s d) true inner (Some item) item (without (bound_by_all (t ∷ []) ++ bound_suite body) others) w (λ q. not_true (may_be_none item) q))
+  single_head inner D sc target (first t y) a n item f E body others w =
+      let d = aim_first here inner target t y a in
+      let x = first_name here inner target t y a in
+      let o = first_open means signatures m locals init result inner target t y d x in
       let e = bind_name here true inner (name_in target) (Some item) in
       let r : sort_in e.types (means y) ≡ Rattle.py_check_context.specs.Context.has item =
       ap (λ (q : Option (List ℕ)). sort_in (bind_name here true inner q (Some item)).types (means y)) x
-      ∙ first_type_there means signatures m locals init result inner (subst (IsScope here) (sym same) sc) y item (ap (λ V. is_open V (means y)) same ∙ o) in
-      let st = variable_stands means signatures m locals init result e.types E target t k d item (λ z q. ap (λ v. sort_in e.types (means v)) (same_Some z y (sym q ∙ x)) ∙ r) others in
+      ∙ first_type_there means signatures m locals init result inner sc y item o in
+      let st = variable_stands means signatures m locals init result e.types E target t inner d item (λ z q. ap (λ v. sort_in e.types (means v)) (same_Some z y (sym q ∙ x)) ∙ r) others in
       let own : TargetStands means signatures m locals init result others t (stmt.target_type m locals init result t) = subst (TargetStands means signatures m locals init result others t) (sym st.type) st in
-      one_head others e.names t item body (aimed_name target t (first_aimed here k target t d) (no_none (name_in target) y x)) own (ap (fits m.classes.classes item) st.type ∙ fits_itself m.classes.classes item)
-      (aimed_bound here target t (first_aimed here k target t d) true inner (Some item) item (without (bound_by_all (t ∷ []) ++ bound_suite body) others) w (λ q. not_true (may_be_none item) q))
-  single_head k D sc inner same target (barred y) a n item f E body others w = absurd (cc)
-  single_head k D sc inner same target (unwritten s) a n item f E body others w = absurd (cc)
-  single_head k D sc inner same target (misplaced s) a n item f E body others w = absurd (cc)
+      one_head others e.names t item body (aimed_name target t (first_aimed here inner target t d) (no_none (name_in target) y x)) own (ap (fits m.classes.classes item) st.type ∙ fits_itself m.classes.classes item)
+      (aimed_bound here target t (first_aimed here inner target t d) true inner (Some item) item (without (bound_by_all (t ∷ []) ++ bound_suite body) others) w (λ q. not_true (may_be_none item) q))
+  single_head inner D sc target (barred y) a n item f E body others w = absurd (cc)
+  single_head inner D sc target (unwritten s) a n item f E body others w = absurd (cc)
+  single_head inner D sc target (misplaced s) a n item f E body others w = absurd (cc)
 
-  -- A HEAD whose targets are looked at in one place, and bound in another one with the same types
-  head_by : (k : Known) → Describes here k.types m locals → IsScope here k.types → (inner : Known) → inner.types ≡ k.types → (target : ExprTree) (l : List Aim) (item : Sort) → LookedAt here k target l item → list_all is_name_aim l ≡ true → is_value_type (length m.classes.classes) item ≡ true
+  -- A HEAD, whose targets are looked at and bound where the loop is entered
+  head_by : (inner : Known) → Describes here inner.types m locals → IsScope here inner.types → (target : ExprTree) (l : List Aim) (item : Sort) → LookedAt here inner target l item → list_all is_name_aim l ≡ true → is_value_type (length m.classes.classes) item ≡ true
       → (end : Known) → end ≡ bind_target here true inner target (Some item) → Describes here end.types m locals → (body : TypedSuite) (others : List ℕ) → Within inner.names (without (bound_by_all (targets_of l) ++ bound_suite body) others) → (c : Bool) → is_row target ≡ c → BoundTo m.classes.classes c l item → HeadStands others (targets_of l) item body end.names
-  head_by k D sc inner same target l item looked names v end p E body others w false q r =
+  head_by inner D sc target l item looked names v end p E body others w false q r =
       let b : end ≡ bind_name here true inner (name_in target) (Some item) = p ∙ single_bound here true inner target (Some item) q in
       let one = leaves_one target q in
       subst (λ z. HeadStands others (targets_of z) item body end.names) (sym r.1)
       (subst (λ (z : Known). HeadStands others (targets_of (r.0 ∷ [])) item body z.names) (sym b)
-      (single_head k D sc inner same target r.0 (single_aim_of means signatures m locals init result k target l r.0 looked.parts r.1 one looked.aims) (and_left (is_name_aim r.0) true (subst (λ z. list_all is_name_aim z ≡ true) r.1 names)) item r.2 (subst (λ (z : Known). Describes here z.types m locals) b E) body others
+      (single_head inner D sc target r.0 (single_aim_of means signatures m locals init result inner target l r.0 looked.parts r.1 one looked.aims) (and_left (is_name_aim r.0) true (subst (λ z. list_all is_name_aim z ≡ true) r.1 names)) item r.2 (subst (λ (z : Known). Describes here z.types m locals) b E) body others
       (subst (λ z. Within inner.names (without (bound_by_all (targets_of z) ++ bound_suite body) others)) r.1 w)))
-  head_by k D sc inner same target l item looked names v end p E body others w true q r =
+  head_by inner D sc target l item looked names v end p E body others w true q r =
       let i = items_are item (length l) r.parts r.items in
       let b : end ≡ bind_names here true inner (target_names target) r.parts = p ∙ row_bound here true inner target item r.parts q (ap (items_for item) (sym looked.many) ∙ r.items) in
-      let a = are_named k (leaves target) l looked.parts looked.aims names r.refused r.itemless in
+      let a = are_named inner (leaves target) l looked.parts looked.aims names r.refused r.itemless in
       let inside = without (bound_by_all (targets_of l) ++ bound_suite body) others in
-      let g = rows means signatures m locals init result k D (leaves target) l looked.parts r.parts (looked.fair r.parts q r.items) [] inner inside (subst (Follows k.types) (sym same) (follows_itself k.types)) (subst (IsScope here) (sym same) sc)
-      (subst (λ V. Rattle.py_check_laws.proofs.Targets.Given here k.types V []) (sym same) (given_start here k.types)) w (inr a.named) looked.aims a.written r.refused r.itemless r.fit i.3 (subst (λ (z : Known). Describes here z.types m locals) b E) in
+      let g = rows means signatures m locals init result inner D (leaves target) l looked.parts r.parts (looked.fair r.parts q r.items) [] inner inside (follows_itself inner.types) sc (given_start here inner.types) w (inr a.named) looked.aims a.written r.refused r.itemless r.fit i.3 (subst (λ (z : Known). Describes here z.types m locals) b E) in
       subst (λ (z : Known). HeadStands others (targets_of l) item body z.names) (sym b)
       (by i.0 i.1 r.parts i.2 a.names g)
     where
@@ -238,14 +237,14 @@ module _ (means : List ℕ → Meaning) (signatures : List (Option Signature)) (
           (subst (λ z. stmt.parts_fit m locals init result (targets_of l) z ≡ true) (sym p) g.fit)
           (subst (λ z. Within (bind_names here true inner (target_names target) parts).names (after_parts (without (bound_by_all (targets_of l) ++ bound_suite body) others) (targets_of l) z)) (sym p) g.names)
 
-  pub good_head : (k : Known) → Describes here k.types m locals → IsScope here k.types → (s : StmtTree) (span : Span) (target e : ExprTree) → law.is_written e ≡ true → (p : List TypedTarget × Course) (g : (for_head here k span target e).got ≡ Some p) → (h : HeadParts here k target e p) → Describes here (in_for here k s span target e).types m locals → (body : TypedSuite) (others : List ℕ)
+  pub good_head : (k : Known) → Describes here k.types m locals → IsScope here k.types → (s : StmtTree) (span : Span) (target e : ExprTree) → law.is_written e ≡ true → (p : List TypedTarget × Course) (g : (for_head here k s span target e).got ≡ Some p) → (h : HeadParts here k s target e p) → Describes here (in_for here k s span target e).types m locals → (body : TypedSuite) (others : List ℕ)
       → Within (entering here k s).names (without (bound_by_all p.0 ++ bound_suite body) others) → HeadStands others p.0 h.headed.item body (in_for here k s span target e).names
   good_head k D sc s span target e we p g h E body others w =
       let l = entering here k s in
-      let same = bound_same here l target (is_some (for_head here k span target e).got) (some_items (course here k e).got) h.headed.item (some_is (for_head here k span target e).got p g) (ap some_items h.over ∙ h.headed.items) in
+      let same = bound_same here l target (is_some (for_head here k s span target e).got) (some_items (course here k e).got) h.headed.item (some_is (for_head here k s span target e).got p g) (ap some_items h.over ∙ h.headed.items) in
       let c = course_stands means signatures m locals init result k D e we h.course h.over k.names (λ x z. z) in
       subst (λ z. HeadStands others z h.headed.item body (in_for here k s span target e).names) h.targets
-      (head_by k D sc l refl target h.aims h.headed.item (head_looked here k target e p h) (and_right (is_flat target) (list_all is_name_aim h.aims) h.headed.names) (item_type means signatures m locals init result k.names h.course h.headed.item c h.headed.items)
+      (head_by l D sc target h.aims h.headed.item (head_looked here k s target e p h) (and_right (is_flat target) (list_all is_name_aim h.aims) h.headed.names) (item_type means signatures m locals init result k.names h.course h.headed.item c h.headed.items)
       (in_for here k s span target e) same E body others (subst (λ z. Within l.names (without (bound_by_all z ++ bound_suite body) others)) (sym h.targets) w) (is_row target) refl h.headed.bound)
 
   -- ---- whole loops

@@ -129,8 +129,9 @@ module _ (C : Context) (r : ReturnSort) where
         let t = block C r (around_loop around) (where_test C l true test) body in
         suite_marks (around_loop around) (where_test C l true test) body (none_behind s.said t.said h)
     act_marks around k span (node.For target v body) h =
-        let s = for_head C k span target v in
-        let l = in_for C k (node.at (node.For target v body) span) span target v in
+        let here = node.at (node.For target v body) span in
+        let s = for_head C k here span target v in
+        let l = in_for C k here span target v in
         let t = block C r (around_loop around) l body in
         marks_two C.meaning (target_bindings target) (suite_bindings body) (target_marks C.meaning target) (suite_marks (around_loop around) l body (none_behind s.said t.said h))
     act_marks around k span (node.Try body handlers last) h =

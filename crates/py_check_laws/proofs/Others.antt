@@ -140,7 +140,7 @@ module _ (C : Context) (x : List ℕ) (V : VarSorts) (scope : IsScope C V) where
     other_node k span (node.For target e body) h =
         let s = node.at (node.For target e body) span in
         let q = absent_two (target_bindings target) (suite_bindings body) h in
-        other_block (in_for C k s span target e) body q.1 ∙ other_target (is_some (for_head C k span target e).got) (entering C k s) target (some_items (course C k e).got) q.0
+        other_block (in_for C k s span target e) body q.1 ∙ other_target (is_some (for_head C k s span target e).got) (entering C k s) target (some_items (course C k e).got) q.0
     other_node k span (node.Try body handlers last) h =
         let names = outside_try C k (node.at (node.Try body handlers last) span) in
         let end = block_after C k body in

@@ -1,6 +1,5 @@
 -- What is typed has said nothing: of annotations, of targets, and of what a `for` goes over.
 use Rattle.std.proofs.Common.{ℕ, Bool, true, false, ◌||◌, List, [], ◌∷◌, Option, Some, None, refl, if◌then◌else◌}
-use Rattle.std.specs.Prelude.{is_some}
 use Rattle.py_syntax.specs.declared.token.Span.{Span}
 use Rattle.py_syntax.specs.Expressions as e
 use Rattle.py_syntax.specs.Expressions.{ExprTree, ExprNode, ExprTrees, Arguments}
@@ -23,7 +22,7 @@ use Rattle.py_check_expressions_laws.proofs.Layers.{quiet_arguments}
 use Rattle.py_check_values.specs.Aims.{Aim}
 use Rattle.py_check_places.specs.Places.{Known}
 use Rattle.py_check_places.specs.Shapes.{is_item, is_row, leaves, parts_of}
-use Rattle.py_check_targets.specs.Targets.{value_aim, seen_aim, asked_sort, next_part, more_parts, typed_at, single_aim, beyond, aims, target_aims, aims_behind, bound_aims}
+use Rattle.py_check_targets.specs.Targets.{value_aim, seen_aim, next_part, more_parts, typed_at, single_aim, beyond, aims, target_aims, aims_behind}
 use Rattle.py_check_loops.specs.Loops.{value, range_arguments, range_call, span_of, course_by, course}
 
 pub quiet_if : {A : Type 0} (b : Bool) (s t : Seen A) → IsQuiet s → IsQuiet t → IsQuiet (if b then s else t)
@@ -100,9 +99,6 @@ module _ (C : Context) where
 
   pub quiet_behind_value : (k : Known) (target : ExprTree) (t : Option Sort) → IsQuiet (aims_behind C k target t)
   quiet_behind_value k target t = quiet_aims k (Some (parts_of (is_row target) (Rattle.std.specs.Prelude.length (leaves target)) t)) (leaves target)
-
-  pub quiet_bound : (k : Known) (target : ExprTree) (t : Option Sort) → IsQuiet (bound_aims C k target t)
-  quiet_bound k target t = quiet_if (is_some (asked_sort (is_row target) (target_aims C k target).got)) (target_aims C k target) (aims_behind C k target t) (quiet_targets k target) (quiet_behind_value k target t)
 
   -- ---- what is gone over
 

@@ -33,8 +33,8 @@ use Rattle.py_check_values.specs.Aims.{Aim, held, first, barred, unwritten, misp
 use Rattle.py_check_values.specs.Assignments.{binding_fault, items_for}
 use Rattle.py_check_places.specs.Places.{Known, with_names, is_unset, fix, first_type, bind_variable, bind_name, bind_names, where_test, entering, Way, setting_out, behind_arm}
 use Rattle.py_check_places.specs.Shapes.{is_row, is_flat, leaves, target_names, bind_target}
-use Rattle.py_check_targets.specs.Targets.{variable_aim, name_aim, targets_of, assigned, typed_at, target_aims, aims_behind, bound_aims}
-use Rattle.py_check_assignments.specs.Assignments.{value_for, assigns, binds, annotates_name, annotates, value_sort, binds_annotated}
+use Rattle.py_check_targets.specs.Targets.{variable_aim, name_aim, targets_of, assigned, typed_at, target_aims, aims_behind}
+use Rattle.py_check_assignments.specs.Assignments.{value_for, assigns, binds, annotates_name, annotates, value_sort, binds_annotated, asked_for}
 use Rattle.py_check_loops.specs.Loops.{Course, course, head, loop_of}
 use Rattle.py_check_loops.specs.Heads.{some_items, for_head, in_for}
 use Rattle.py_check_exceptions.specs.Handlers.{handler_head, in_handler}
@@ -44,7 +44,7 @@ use Rattle.py_check_expressions_laws.specs.WellTyped as law
 use Rattle.py_check_expressions_laws.specs.WellTyped.{IsDeclared, Describes, Within}
 use Rattle.py_check_expressions_laws.proofs.Types.{clash}
 use Rattle.py_check_expressions_laws.proofs.Inside.{either}
-use Rattle.py_check_laws.proofs.Looked.{LookedAt, looked_at, looked_behind, is_chosen}
+use Rattle.py_check_laws.proofs.Looked.{LookedAt, looked_behind}
 use Rattle.py_check_laws.specs.WellTyped.{is_filled, maybe_written, are_targets, is_stmt_written, is_act_written, is_suite_written, are_arms_written, has_clause, are_handlers_written, is_last_written, IsScope}
 use Rattle.py_check_laws.proofs.Given.{some_is, made_given, both_given, rule_given, row_given}
 use Rattle.py_check.proofs.Bound.{single_bound, name_no_row, closed_variable}
@@ -53,7 +53,7 @@ use Rattle.py_check_laws.proofs.Assigned.{row_bound, items_are, RowBound, BoundT
 use Rattle.py_check_laws.proofs.Whole.{definition_after, bound_same}
 use Rattle.py_check_laws.proofs.Aims.{AimAt, AimsOf}
 use Rattle.py_check_laws.proofs.Shapes.{definition_shape, no_part_given}
-use Rattle.py_check_laws.proofs.Values.{scene, values_listed, stands_type, parts_type, chosen_stands}
+use Rattle.py_check_laws.proofs.Values.{scene, values_listed, stands_type, parts_type, given_stands}
 use Rattle.py_check_laws.proofs.Closed.{scope_there, scope_on, AllClosed, closed_both, closed_on, target_closed, name_closed, IsMarked, marked_front, marked_behind}
 use Rattle.py_check_laws.proofs.Courses.{course_stands, item_type}
 
@@ -134,27 +134,27 @@ module _ (C : Context) (n : ℕ) where
       by (Some y) = valued_variable n ok k v (C.meaning y) (Some t) (λ o s e. of_type ok s e)
 
   -- a name that takes a value's type
-  name_valued : (k place : Known) → k.types ≡ place.types → Valued n k.types → (e : ExprTree) (x : Option (List ℕ)) (a : Aim) → AimAt C place x e a → (t : Sort) → binding_fault C.classes a t ≡ None → (is_nothing t ≡ false → is_value_type n t ≡ true) → Valued n (bind_name C true k x (Some t)).types
-  name_valued k place same v e None a h t f value = v
-  name_valued k place same v e (Some x) (held u s) h t f value =
-      valued_variable n true k v (C.meaning x) (Some t) (λ o r q. clash (is_open k.types (C.meaning x)) o (ap (λ V. is_open V (C.meaning x)) same ∙ aim_set place x (C.meaning x) u s h))
-  name_valued k place same v e (Some x) (first u y) h t f value = valued_variable n true k v (C.meaning x) (Some t) (λ o r q. first_value n t r value (not_none t y f) q)
-  name_valued k place same v e (Some x) (barred y) h t f value = absurd (cc)
-  name_valued k place same v e (Some x) (unwritten s) h t f value = absurd (cc)
-  name_valued k place same v e (Some x) (misplaced s) h t f value = absurd (cc)
+  name_valued : (k : Known) → Valued n k.types → (e : ExprTree) (x : Option (List ℕ)) (a : Aim) → AimAt C k x e a → (t : Sort) → binding_fault C.classes a t ≡ None → (is_nothing t ≡ false → is_value_type n t ≡ true) → Valued n (bind_name C true k x (Some t)).types
+  name_valued k v e None a h t f value = v
+  name_valued k v e (Some x) (held u s) h t f value =
+      valued_variable n true k v (C.meaning x) (Some t) (λ o r q. clash (is_open k.types (C.meaning x)) o (aim_set k x (C.meaning x) u s h))
+  name_valued k v e (Some x) (first u y) h t f value = valued_variable n true k v (C.meaning x) (Some t) (λ o r q. first_value n t r value (not_none t y f) q)
+  name_valued k v e (Some x) (barred y) h t f value = absurd (cc)
+  name_valued k v e (Some x) (unwritten s) h t f value = absurd (cc)
+  name_valued k v e (Some x) (misplaced s) h t f value = absurd (cc)
 
-  aims_single : (place : Known) (target : ExprTree) (l : List Aim) (a : Aim) (ts : Option (List Sort)) → l ≡ a ∷ [] → leaves target ≡ target ∷ [] → AimsOf C place ts (leaves target) l → AimAt C place (name_in target) target a
-  aims_single place target l a ts q p h = (subst (λ z. AimsOf C place ts z (a ∷ [])) p (subst (AimsOf C place ts (leaves target)) q h)).here
+  aims_single : (k : Known) (target : ExprTree) (l : List Aim) (a : Aim) (ts : Option (List Sort)) → l ≡ a ∷ [] → leaves target ≡ target ∷ [] → AimsOf C k ts (leaves target) l → AimAt C k (name_in target) target a
+  aims_single k target l a ts q p h = (subst (λ z. AimsOf C k ts z (a ∷ [])) p (subst (AimsOf C k ts (leaves target)) q h)).here
 
-  -- THE NAMES of a target behind a value of a type, for which it was looked at with the same types
-  target_valued : (k place : Known) → k.types ≡ place.types → Valued n k.types → (target : ExprTree) (l : List Aim) (t : Sort) → LookedAt C place target l t → BoundTo C.classes (is_row target) l t → (is_nothing t ≡ false → is_value_type n t ≡ true)
+  -- THE NAMES of a target behind a value of a type
+  target_valued : (k : Known) → Valued n k.types → (target : ExprTree) (l : List Aim) (t : Sort) → LookedAt C k target l t → BoundTo C.classes (is_row target) l t → (is_nothing t ≡ false → is_value_type n t ≡ true)
       → ((ts : Sorts) → t ≡ sort.TupleOf ts → are_value_types n ts ≡ true) → Valued n (bind_target C true k target (Some t)).types
-  target_valued k place same v target l t looked r value parts = by (is_row target) refl r
+  target_valued k v target l t looked r value parts = by (is_row target) refl r
     where
       by : (b : Bool) → is_row target ≡ b → BoundTo C.classes b l t → Valued n (bind_target C true k target (Some t)).types
       by false q r =
           subst (λ (z : Known). Valued n z.types) (sym (single_bound C true k target (Some t) q))
-          (name_valued k place same v target (name_in target) r.0 (aims_single place target l r.0 looked.parts r.1 (Rattle.py_check_laws.proofs.Assigned.leaves_one target q) looked.aims) t r.2 value)
+          (name_valued k v target (name_in target) r.0 (aims_single k target l r.0 looked.parts r.1 (Rattle.py_check_laws.proofs.Assigned.leaves_one target q) looked.aims) t r.2 value)
       by true q r =
           let i = items_are t (length l) r.parts r.items in
           subst (λ (z : Known). Valued n z.types) (sym (row_bound C true k target t r.parts q (ap (items_for t) (sym looked.many) ∙ r.items)))
@@ -189,15 +189,14 @@ module _ (means : List ℕ → Meaning) (signatures : List (Option Signature)) (
   settled_assign : (k : Known) → Describes here k.types m locals → IsScope here k.types → (span : Span) (target e : ExprTree) → list_all law.is_written (leaves target) ≡ true → law.is_written e ≡ true → (a : TypedAct) → (assigns here k span target e).got ≡ Some a → Settled (binds here k span target e).types (target_bindings target)
   settled_assign k D s span target e wt we a h =
       let value = value_for here k target e in
-      let late = aims_behind here k target (option_map type_of value.got) in
-      let targets = bound_aims here k target (option_map type_of value.got) in
-      let r = rule_given span (assigned m.classes.classes target) (both targets value) a h in
+      let targets = aims_behind here k target (option_map type_of value.got) in
+      let r = rule_given span (assigned m.classes.classes target (asked_for here k target)) (both targets value) a h in
       let b = both_given targets value r.0 r.1 in
-      let d = assigned_is m.classes.classes target r.0 a r.2 in
-      let v = chosen_stands means signatures m locals init k D target wt late r.0.0 (is_chosen (is_row target) (target_aims here k target) late r.0.0 b.0) e we r.0.1 d.bound b.1 k.names (λ x q. q) in
+      let d = assigned_is m.classes.classes target (asked_for here k target) r.0 a r.2 in
+      let v = given_stands means signatures m locals init k D target wt r.0.0 (option_map type_of value.got) b.0 e we r.0.1 d.bound d.fits b.1 k.names (λ x q. q) in
       record {
         valued = subst (λ (l : Known). Valued size l.types) (sym (bound_same here k target (is_some (assigns here k span target e).got) (option_map type_of value.got) (type_of r.0.1) (some_is (assigns here k span target e).got a h) (ap (option_map type_of) b.1)))
-            (target_valued here size k k refl (valued_here k.types D) target r.0.0 (type_of r.0.1) (looked_at here k target r.0.0 (option_map type_of value.got) (type_of r.0.1) b.0 (ap (option_map type_of) b.1)) d.bound (stands_type means signatures m locals init k.names r.0.1 v) (λ ts q. parts_type means signatures m locals init k.names r.0.1 ts v q));
+            (target_valued here size k (valued_here k.types D) target r.0.0 (type_of r.0.1) (looked_behind here k target r.0.0 (option_map type_of value.got) (type_of r.0.1) b.0 (ap (option_map type_of) b.1)) d.bound (stands_type means signatures m locals init k.names r.0.1 v) (λ ts q. parts_type means signatures m locals init k.names r.0.1 ts v q));
         closed = target_closed here (is_some (assigns here k span target e).got) k s target (option_map type_of value.got);
       }
 
@@ -225,21 +224,21 @@ module _ (means : List ℕ → Meaning) (signatures : List (Option Signature)) (
   settled_update : (k : Known) → Describes here k.types m locals → IsScope here k.types → (target : ExprTree) → Settled (bind_target here false k target None).types (target_bindings target)
   settled_update k D s target = record { valued = valued_names here size false k (valued_here k.types D) (target_names target) [] refl; closed = target_closed here false k s target None }
 
-  settled_head : (k : Known) → Describes here k.types m locals → IsScope here k.types → (s : StmtTree) (span : Span) (target e : ExprTree) → law.is_written e ≡ true → (p : List TypedTarget × Course) → (for_head here k span target e).got ≡ Some p → Settled (in_for here k s span target e).types (target_bindings target)
+  settled_head : (k : Known) → Describes here k.types m locals → IsScope here k.types → (s : StmtTree) (span : Span) (target e : ExprTree) → law.is_written e ≡ true → (p : List TypedTarget × Course) → (for_head here k s span target e).got ≡ Some p → Settled (in_for here k s span target e).types (target_bindings target)
   settled_head k D sc s span target e we p h =
-      let targets = aims_behind here k target (some_items (course here k e).got) in
+      let l = entering here k s in
+      let targets = aims_behind here l target (some_items (course here k e).got) in
       let parts = both targets (course here k e) in
       let q = made_given (λ (z : List Aim × Course). (targets_of z.0, z.1)) (rule span (head m.classes.classes (is_flat target) (is_row target)) parts) p h in
       let g = rule_given span (head m.classes.classes (is_flat target) (is_row target)) parts q.0 q.1 in
       let b = both_given targets (course here k e) g.0 g.1 in
       let d = head_is m.classes.classes target g.0 q.0 g.2 in
-      let l = entering here k s in
       let c = course_stands means signatures m locals init None k D e we g.0.1 b.1 k.names (λ x z. z) in
       let v : is_value_type size d.0.item ≡ true = item_type means signatures m locals init None k.names g.0.1 d.0.item c d.0.items in
       record {
-        valued = subst (λ (z : Known). Valued size z.types) (sym (bound_same here l target (is_some (for_head here k span target e).got) (some_items (course here k e).got) d.0.item (some_is (for_head here k span target e).got p h) (ap some_items b.1 ∙ d.0.items)))
-            (target_valued here size l k refl (valued_here k.types D) target g.0.0 d.0.item (looked_behind here k target g.0.0 (some_items (course here k e).got) d.0.item b.0 (ap some_items b.1 ∙ d.0.items)) d.0.bound (λ z. v) (λ ts z. Rattle.py_check_laws.proofs.Values.third (Rattle.std.specs.Prelude.nat_lt 0 (length (listed_sorts ts))) (Rattle.std.specs.Prelude.nat_lt (length (listed_sorts ts)) 17) (are_value_types size ts) (subst (λ x. is_value_type size x ≡ true) z v)));
-        closed = target_closed here (is_some (for_head here k span target e).got) l sc target (some_items (course here k e).got);
+        valued = subst (λ (z : Known). Valued size z.types) (sym (bound_same here l target (is_some (for_head here k s span target e).got) (some_items (course here k e).got) d.0.item (some_is (for_head here k s span target e).got p h) (ap some_items b.1 ∙ d.0.items)))
+            (target_valued here size l (valued_here k.types D) target g.0.0 d.0.item (looked_behind here l target g.0.0 (some_items (course here k e).got) d.0.item b.0 (ap some_items b.1 ∙ d.0.items)) d.0.bound (λ z. v) (λ ts z. Rattle.py_check_laws.proofs.Values.third (Rattle.std.specs.Prelude.nat_lt 0 (length (listed_sorts ts))) (Rattle.std.specs.Prelude.nat_lt (length (listed_sorts ts)) 17) (are_value_types size ts) (subst (λ x. is_value_type size x ≡ true) z v)));
+        closed = target_closed here (is_some (for_head here k s span target e).got) l sc target (some_items (course here k e).got);
       }
 
   -- the name of an except clause, which takes an exception
@@ -325,7 +324,7 @@ module _ (means : List ℕ → Meaning) (signatures : List (Option Signature)) (
           settled_block (around_loop around) (where_test here l true e) body end g f written.2 q.0.1 b.1
       settled_act around k span (node.For target e body) end g f w a h =
           let st = node.at (node.For target e body) span in
-          let s = for_head here k span target e in
+          let s = for_head here k st span target e in
           let l = in_for here k st span target e in
           let t = block here r (around_loop around) l body in
           let q = made_given (λ p. loop_of p.0.0 p.0.1 (suite_of p.1)) (both s t) a h in

@@ -36,8 +36,8 @@ use Rattle.py_check_places.specs.Places.{Known, with_names, is_bound, locals_amo
 use Rattle.py_check_places.specs.Shapes.{is_row, is_item, is_flat, leaves}
 use Rattle.py_check_values.specs.Aims.{Aim, held, first, barred, unwritten, misplaced}
 use Rattle.py_check_calls.specs.Exceptions.{exception_made}
-use Rattle.py_check_targets.specs.Targets.{target_of, targets_of, is_placed, name_aim, seen_aim, read_aim, assigned, declared, given, updated, annotation_fault, typed_at, target_aims, next_part, more_parts, beyond, aims_behind, bound_aims}
-use Rattle.py_check_assignments.specs.Assignments.{value_for, assigns, annotated_value, annotates, updates_one, updates_row, updates}
+use Rattle.py_check_targets.specs.Targets.{target_of, targets_of, is_placed, name_aim, seen_aim, read_aim, assigned, declared, given, updated, annotation_fault, typed_at, target_aims, next_part, more_parts, beyond, aims_behind}
+use Rattle.py_check_assignments.specs.Assignments.{value_for, assigns, annotated_value, annotates, updates_one, updates_row, updates, asked_for}
 use Rattle.py_check_loops.specs.Loops.{Course, numbers, value, course, head, loop_over, loop_of}
 use Rattle.py_check_loops.specs.Heads.{for_head, in_for, some_items}
 use Rattle.py_check_exceptions.specs.Raises.{raises, asserts}
@@ -49,7 +49,7 @@ use Rattle.py_check_expressions_laws.proofs.Inside.{within_none, within_append, 
 use Rattle.py_check.proofs.Bound.{leaves_one, named, leaf_bindings, target_leaves}
 use Rattle.py_check_laws.proofs.Deleted.{deleted_item}
 use Rattle.std.specs.Option.{option_map}
-use Rattle.py_check_laws.proofs.Looked.{looked_at, looked_behind}
+use Rattle.py_check_laws.proofs.Looked.{looked_behind}
 use Rattle.py_check_laws.proofs.Given.{made_given, both_given, rule_given, row_given, unless_ok}
 use Rattle.py_check_laws.proofs.Assigned.{assigned_is, given_is, updated_is, head_is}
 use Rattle.py_check_laws.proofs.Names.{within_itself}
@@ -191,11 +191,11 @@ module _ (C : Context) where
   assign_shape : (k : Known) (span : Span) (target e : ExprTree) (a : TypedAct) → (assigns C k span target e).got ≡ Some a → ActShape (node.Assign target e) a
   assign_shape k span target e a h =
       let value = value_for C k target e in
-      let targets = bound_aims C k target (option_map type_of value.got) in
-      let r = rule_given span (assigned C.classes target) (both targets value) a h in
+      let targets = aims_behind C k target (option_map type_of value.got) in
+      let r = rule_given span (assigned C.classes target (asked_for C k target)) (both targets value) a h in
       let b = both_given targets value r.0 r.1 in
-      let d = assigned_is C.classes target r.0 a r.2 in
-      let looked = looked_at C k target r.0.0 (option_map type_of value.got) (type_of r.0.1) b.0 (ap (option_map type_of) b.1) in
+      let d = assigned_is C.classes target (asked_for C k target) r.0 a r.2 in
+      let looked = looked_behind C k target r.0.0 (option_map type_of value.got) (type_of r.0.1) b.0 (ap (option_map type_of) b.1) in
       subst (ActShape (node.Assign target e)) d.is (record { closes = refl; breaks = refl; bound = targets_within k target r.0.0 looked.parts looked.aims })
 
   named_within : (target mark : ExprTree) (x : List ℕ) (xs : List ℕ) → name_in target ≡ Some x → Within xs (locals_among C (leaf_bindings target)) → Within xs (locals_among C (marked (name_in target) target mark))
@@ -347,17 +347,18 @@ module _ (C : Context) where
     break_shape true span word n b a c d e h = plain_shape n b a c d e (same_Some b a h)
     break_shape false span word n b a c d e h = absurd (cc)
 
-    head_within : (k : Known) (span : Span) (target e : ExprTree) (p : List TypedTarget × Course) → (for_head C k span target e).got ≡ Some p → Within (bound_by_all p.0) (locals_among C (target_bindings target))
-    head_within k span target e p h =
+    head_within : (k : Known) (s : StmtTree) (span : Span) (target e : ExprTree) (p : List TypedTarget × Course) → (for_head C k s span target e).got ≡ Some p → Within (bound_by_all p.0) (locals_among C (target_bindings target))
+    head_within k s span target e p h =
         let over = course C k e in
-        let targets = aims_behind C k target (some_items over.got) in
+        let inner = entering C k s in
+        let targets = aims_behind C inner target (some_items over.got) in
         let parts = both targets over in
         let q = made_given (λ (z : List Aim × Course). (targets_of z.0, z.1)) (rule span (head C.classes (is_flat target) (is_row target)) parts) p h in
         let g = rule_given span (head C.classes (is_flat target) (is_row target)) parts q.0 q.1 in
         let b = both_given targets over g.0 g.1 in
         let d = head_is C.classes target g.0 q.0 g.2 in
-        let looked = looked_behind C k target g.0.0 (some_items over.got) d.0.item b.0 (ap some_items b.1 ∙ d.0.items) in
-        subst (λ (z : List TypedTarget × Course). Within (bound_by_all z.0) (locals_among C (target_bindings target))) (ap (λ (z : List Aim × Course). (targets_of z.0, z.1)) d.1 ∙ q.2) (targets_within k target g.0.0 looked.parts looked.aims)
+        let looked = looked_behind C inner target g.0.0 (some_items over.got) d.0.item b.0 (ap some_items b.1 ∙ d.0.items) in
+        subst (λ (z : List TypedTarget × Course). Within (bound_by_all z.0) (locals_among C (target_bindings target))) (ap (λ (z : List Aim × Course). (targets_of z.0, z.1)) d.1 ∙ q.2) (targets_within inner target g.0.0 looked.parts looked.aims)
 
     suite_step : (s : StmtTree) (more : Suite) (same : Seen (List TypedStmt)) (one : Seen TypedStmt) (rest : Seen (List TypedStmt)) (ts : List TypedStmt) (b : Bool) → is_definition s ≡ b → (same.got ≡ Some ts → SuiteShape more (suite_of ts)) → ((t : TypedStmt) → one.got ≡ Some t → StmtShape s t)
         → ((l : List TypedStmt) → rest.got ≡ Some l → SuiteShape more (suite_of l)) → (if b then same else row_then one rest).got ≡ Some ts → SuiteShape (stmt_then s more) (suite_of ts)
@@ -402,12 +403,12 @@ module _ (C : Context) where
           subst (ActShape (node.While e body)) q.2 (while_shape e body q.0.0 (suite_of q.0.1) (ap is_true_literal (sym v.2) ∙ truth_literal e v.0 ((heads C l.types test l.names e).each v.0 v.1)) (shape_block (around_loop around) (where_test C l true e) body q.0.1 b.1))
       shape_act around k span (node.For target e body) a h =
           let here = node.at (node.For target e body) span in
-          let s = for_head C k span target e in
+          let s = for_head C k here span target e in
           let l = in_for C k here span target e in
           let t = block C r (around_loop around) l body in
           let q = made_given (λ p. loop_of p.0.0 p.0.1 (suite_of p.1)) (both s t) a h in
           let b = both_given s t q.0 q.1 in
-          subst (ActShape (node.For target e body)) q.2 (for_shape target e body q.0.0.0 q.0.0.1 (suite_of q.0.1) (head_within k span target e q.0.0 b.0) (shape_block (around_loop around) l body q.0.1 b.1))
+          subst (ActShape (node.For target e body)) q.2 (for_shape target e body q.0.0.0 q.0.0.1 (suite_of q.0.1) (head_within k here span target e q.0.0 b.0) (shape_block (around_loop around) l body q.0.1 b.1))
       shape_act around k span (node.Raise e) a h = raise_shape around.handling k span e a h
       shape_act around k span (node.Assert e text) a h = assert_shape k span e text a h
       shape_act around k span (node.Try body handlers last) a h =

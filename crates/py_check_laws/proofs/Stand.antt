@@ -323,15 +323,15 @@ module _ (means : List ℕ → Meaning) (signatures : List (Option Signature)) (
           })
       good_act around k span (node.For target e body) sc E ws pl a h others w =
           let here_stmt = node.at (node.For target e body) span in
-          let s = for_head here k span target e in
+          let s = for_head here k here_stmt span target e in
           let l = in_for here k here_stmt span target e in
           let t = block here r (around_loop around) l body in
           let q = made_given (λ p. loop_of p.0.0 p.0.1 (suite_of p.1)) (both s t) a h in
           let b = both_given s t q.0 q.1 in
           let wr = of_three (law.is_written e) (is_filled body) (is_suite_written body) ws in
           let end = block_after here l body in
-          let hp = head_parts here k span target e q.0.0 b.0 in
-          let looked = head_looked here k target e q.0.0 hp in
+          let hp = head_parts here k here_stmt span target e q.0.0 b.0 in
+          let looked = head_looked here k here_stmt target e q.0.0 hp in
           let shape = shape_block here r (around_loop around) l body q.0.1 b.1 in
           let fh = follows_target here (is_some s.got) (entering here k here_stmt) target (some_items (course here k e).got) in
           let El = described_before here l.types end.types m locals (follows_block here l body) E in
@@ -340,7 +340,7 @@ module _ (means : List ℕ → Meaning) (signatures : List (Option Signature)) (
           let gone = bound_by_all q.0.0.0 ++ telling.bound_suite ts in
           let bound : Within gone (locals_in here here_stmt) =
           subst (Within gone) (sym (locals_two here (target_bindings target) (suite_bindings body)))
-          (within_append (bound_by_all q.0.0.0) (telling.bound_suite ts) (locals_among here (target_bindings target)) (locals_among here (suite_bindings body)) (subst (λ z. Within (bound_by_all z) (locals_among here (target_bindings target))) hp.targets (targets_within here k target hp.aims looked.parts looked.aims)) shape.bound) in
+          (within_append (bound_by_all q.0.0.0) (telling.bound_suite ts) (locals_among here (target_bindings target)) (locals_among here (suite_bindings body)) (subst (λ z. Within (bound_by_all z) (locals_among here (target_bindings target))) hp.targets (targets_within here (entering here k here_stmt) target hp.aims looked.parts looked.aims)) shape.bound) in
           let wl = within_without (locals_in here here_stmt) gone k.names others bound w in
           let hd = good_head means signatures m locals init result k D sc here_stmt span target e wr.0 q.0.0 b.0 hp El ts others wl in
           let g = good_block (around_loop around) l body (scope_on here k.types l.types fh sc) E wr.2 pl q.0.1 b.1 (stmt.in_loop_from m locals init result others q.0.0.0 hp.headed.item ts) hd.start in

@@ -25,8 +25,8 @@ use Rattle.py_check_values.specs.Returns as ret
 use Rattle.py_check_values.specs.Returns.{ReturnSort, due, value_return, bare_return}
 use Rattle.py_check_places.specs.Places.{Known, is_bound, entering}
 use Rattle.py_check_places.specs.Shapes.{is_row, is_item, is_flat, bind_target}
-use Rattle.py_check_targets.specs.Targets.{assigned, declared, given, updated, name_aim, seen_aim, read_aim, typed_at, target_aims, aims_behind, bound_aims, targets_of}
-use Rattle.py_check_assignments.specs.Assignments.{value_for, assigns, annotated_value, annotates, updates_one, updates_row, updates}
+use Rattle.py_check_targets.specs.Targets.{assigned, declared, given, updated, name_aim, seen_aim, read_aim, typed_at, target_aims, aims_behind, targets_of}
+use Rattle.py_check_assignments.specs.Assignments.{value_for, assigns, annotated_value, annotates, updates_one, updates_row, updates, asked_for}
 use Rattle.py_check_loops.specs.Loops.{Course, course, head}
 use Rattle.py_check_loops.specs.Heads.{some_items}
 use Rattle.py_check_statements.specs.Deletions.{deletion}
@@ -38,7 +38,7 @@ use Rattle.py_check_statements.specs.declared.bodies.Around.{Around}
 use Rattle.py_check_expressions.proofs.Quiet.{IsQuiet, quiet_both, quiet_made, quiet_typing}
 use Rattle.py_check_expressions_laws.proofs.Layers.{Layer, IsOwn, behind_layer, judged_own, rule_layer}
 use Rattle.py_check_laws.specs.Entries.{is_for}
-use Rattle.py_check_laws.proofs.QuietParts.{quiet_annotation, quiet_seen, quiet_targets, quiet_behind_value, quiet_bound, quiet_course}
+use Rattle.py_check_laws.proofs.QuietParts.{quiet_annotation, quiet_seen, quiet_targets, quiet_behind_value, quiet_course}
 
 -- ---- a `for`: its own entry in front of those of its body
 
@@ -72,8 +72,8 @@ module _ (C : Context) where
   assign_layer : (k : Known) (span : Span) (target e : ExprTree) → Layer (λ place. (assigns C k place target e).said) span
   assign_layer k span target e =
       let value = value_for C k target e in
-      let targets = bound_aims C k target (option_map type_of value.got) in
-      rule_layer span (λ place. assigned C.classes target) (both targets value) (quiet_both targets value (quiet_bound C k target (option_map type_of value.got)) (quiet_typing C k.types _ k.names e))
+      let targets = aims_behind C k target (option_map type_of value.got) in
+      rule_layer span (λ place. assigned C.classes target (asked_for C k target)) (both targets value) (quiet_both targets value (quiet_behind_value C k target (option_map type_of value.got)) (quiet_typing C k.types _ k.names e))
 
   -- a part that is typed, and then the one entry
   refused_layer : {A : Type 0} (span : Span) (m : Message) (s : Seen A) → IsQuiet s → Layer (λ place. s.said ++ (with_part {A = A} {B = TypedAct} s.got (λ q. fails place m)).said) span
@@ -159,9 +159,10 @@ module _ (C : Context) where
     loop_front : (around : Around) (k : Known) (target e : ExprTree) (body : Suite) → InFront (λ place. (node_statement C r around k place (node.For target e body)).said)
     loop_front around k target e body =
         let over = course C k e in
-        let targets = aims_behind C k target (some_items over.got) in
-        headed_front (both targets over) (quiet_both targets over (quiet_behind_value C k target (some_items over.got)) (quiet_course C k e)) (head C.classes (is_flat target) (is_row target)) (λ (p : List Aim × Course). (targets_of p.0, p.1))
-        (λ ok. (block C r (around_loop around) (bind_target C ok (entering C k (node.at (node.For target e body) there)) target (some_items over.got)) body).said)
+        let entered = entering C k (node.at (node.For target e body) there) in
+        let targets = aims_behind C entered target (some_items over.got) in
+        headed_front (both targets over) (quiet_both targets over (quiet_behind_value C entered target (some_items over.got)) (quiet_course C k e)) (head C.classes (is_flat target) (is_row target)) (λ (p : List Aim × Course). (targets_of p.0, p.1))
+        (λ ok. (block C r (around_loop around) (bind_target C ok entered target (some_items over.got)) body).said)
       where
         there : Span
         there = record { line = 0; col = 0 }

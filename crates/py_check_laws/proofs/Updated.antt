@@ -58,7 +58,7 @@ use Rattle.py_check_laws.proofs.Names.{within_less}
 use Rattle.py_check_laws.proofs.Aims.{AimAt, Held, held_local, held_global, held_item, aim_held, aim_first, first_name, held_aimed, aimed_bound}
 use Rattle.py_check_laws.proofs.Literals.{heads}
 use Rattle.py_check_laws.proofs.Shapes.{no_part_given, read_aim_at}
-use Rattle.py_check_laws.proofs.Values.{scene, fault_fits, value_stands, stands_free}
+use Rattle.py_check_laws.proofs.Values.{scene, fault_fits, single_stands, stands_free}
 use Rattle.py_check_laws.proofs.Targets.{TargetStands, held_stands, first_open}
 use Rattle.py_check_laws.proofs.Bound.{described_before, Good, good_one}
 
@@ -192,7 +192,7 @@ module _ (means : List ℕ → Meaning) (signatures : List (Option Signature)) (
       let D = described_before here k.types (bind_target here (is_some s.got) k target (option_map type_of (annotated_value here k x e).got)).types m locals (follows_target here (is_some s.got) k target (option_map type_of (annotated_value here k x e).got)) E in
       let at_name : AimAt here k (name_in target) target aim = subst (λ o. AimAt here k o target aim) (sym n) c.0 in
       let wt = name_written target x n in
-      let sv = value_stands means signatures m locals init k D (target ∷ []) (and_from (law.is_written target) true wt refl) false (aim ∷ []) None (record { here = at_name; rest = tt }) e we v (aim, refl, g.right)
+      let sv = single_stands means signatures m locals init k D (target ∷ []) (and_from (law.is_written target) true wt refl) (aim ∷ []) None (record { here = at_name; rest = tt }) e we v (aim, refl, g.right)
       (ap (λ z. (typed_at here k z e).got) (sym (asked_same k x (means x) aim c.0)) ∙ b.1) others w in
       subst (Fine loops handling others (bind_target here (is_some s.got) k target (option_map type_of (annotated_value here k x e).got)).names) g.is
       (subst (λ (z : Known). Fine loops handling others z.names (act.Assign (target_of aim) (as_bound aim v))) (sym p)

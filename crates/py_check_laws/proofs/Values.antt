@@ -1,5 +1,5 @@
 -- Values that are typed at a place stand there, and so do the targets that they are bound to.
-use Rattle.std.proofs.Common.{◌≡◌, ℕ, zero, suc, ◌<◌, Bool, true, false, ◌&&◌, nat_lt, List, [], ◌∷◌, length, Option, Some, None, refl, ap, sym, ◌∙◌, subst, if◌then◌else◌, lt-ltb, arith, inl, inr}
+use Rattle.std.proofs.Common.{◌≡◌, ℕ, zero, suc, ◌<◌, Bool, true, false, ◌&&◌, nat_lt, List, [], ◌∷◌, length, Option, Some, None, refl, ap, ap₂, sym, ◌∙◌, subst, if◌then◌else◌, lt-ltb, eq-eqb, arith}
 use Rattle.std.proofs.lemmas.Bool.{and_from, or_left, or_right}
 use Rattle.std.proofs.lemmas.Option.{same_Some}
 use Rattle.std.specs.List.{list_all}
@@ -22,18 +22,19 @@ use Rattle.py_check_flow.specs.Bindings.{name_in}
 use Rattle.py_check_messages.specs.Seen.{Message, Seen}
 use Rattle.py_check_messages.specs.Messages.{wrong_assignment}
 use Rattle.py_check_values.specs.Aims.{Aim, held, first, barred, unwritten, misplaced}
-use Rattle.py_check_values.specs.Assignments.{binding_fault}
+use Rattle.py_check_values.specs.Assignments.{binding_fault, as_many, items_for}
 use Rattle.py_check_places.specs.Places.{Known}
-use Rattle.py_check_targets.specs.Targets.{is_written, held_sorts, tuple_sort, single_sort, asked_by, again_fault, parts_fault, typed_at, next_part, more_parts, beyond, target_aims}
+use Rattle.py_check_targets.specs.Targets.{is_written, held_sorts, tuple_sort, single_sort, asked_sort, asked_by, again_fault, unfit_fault, asked_fault, typed_at, next_part, more_parts, beyond, target_aims, aims_behind}
+use Rattle.py_check_targets.proofs.LookLemmas.{one_look}
+use Rattle.py_check_assignments.specs.Assignments.{asked_for, value_for}
 use Rattle.py_check_expressions_laws.specs.WellTyped as law
 use Rattle.py_check_expressions_laws.specs.WellTyped.{Describes, Within}
-use Rattle.py_check_expressions_laws.proofs.Types.{result_of_value, value_of_result}
+use Rattle.py_check_expressions_laws.proofs.Types.{result_of_value, value_of_result, listed}
 use Rattle.py_check_expressions_laws.proofs.Stands.{parts_of_stands, value_type}
 use Rattle.py_check_expressions_laws.proofs.Rows.{all_fits, is_sought, sought_of_asked}
 use Rattle.py_check_expressions_laws.proofs.Sound.{sound_typing}
-use Rattle.py_check_places.specs.Shapes.{is_row, leaves}
-use Rattle.py_check_laws.proofs.Looked.{Chosen}
-use Rattle.py_check_laws.proofs.Assigned.{items_are, RowBound, BoundTo, first_none}
+use Rattle.py_check_places.specs.Shapes.{is_row, leaves, some_parts, parts_of}
+use Rattle.py_check_laws.proofs.Assigned.{items_are, RowBound, BoundTo, FitsAsked, aims_length, first_none}
 use Rattle.py_check_laws.proofs.Aims.{AimAt, AimsOf, Held, held_local, held_global, held_item, aim_held, aims_are}
 
 pub of_three : (a b c : Bool) → (a && b && c) ≡ true → (a ≡ true) × (b ≡ true) × (c ≡ true)
@@ -153,30 +154,41 @@ module _ (means : List ℕ → Meaning) (signatures : List (Option Signature)) (
   sorts_sought k D (e ∷ es) w (unwritten s ∷ l) parts a ts h = absurd (cc)
   sorts_sought k D (e ∷ es) w (misplaced s ∷ l) parts a ts h = absurd (cc)
 
-  sorts_fit : (l : List Aim) (ts ss : List Sort) → held_sorts l ≡ Some ts → length ss ≡ length l → parts_fault m.classes.classes [] l ss ≡ None → all_fits m.classes.classes (sorts_of ss) (sorts_of ts) ≡ true
-  sorts_fit [] ts [] h n f = subst (λ z. all_fits m.classes.classes no_sorts (sorts_of z) ≡ true) (same_Some [] ts h) refl
-  sorts_fit [] ts (s ∷ ss) h n f = absurd (cc)
-  sorts_fit (a ∷ l) ts [] h n f = absurd (cc)
-  sorts_fit (held t r ∷ l) ts (s ∷ ss) h n f =
-      let q = some_sorts r (held_sorts l) ts h in
-      let p = first_none (again_fault m.classes.classes (Some r) s) (parts_fault m.classes.classes [] l ss) f in
-      subst (λ z. all_fits m.classes.classes (sorts_of (s ∷ ss)) (sorts_of z) ≡ true) q.2
-      (and_from (fits m.classes.classes s r) (all_fits m.classes.classes (sorts_of ss) (sorts_of q.0)) (part_fits m.classes.classes s r p.0) (sorts_fit l q.0 ss q.1 (one_less (length ss) (length l) n) p.1))
+  held_many : (l : List Aim) (ts : List Sort) → held_sorts l ≡ Some ts → length ts ≡ length l
+  held_many [] ts h = ap length (sym (same_Some [] ts h))
+  held_many (held t s ∷ l) ts h = let q = some_sorts s (held_sorts l) ts h in ap length (sym q.2) ∙ ap suc (held_many l q.0 q.1)
+  held_many (first t x ∷ l) ts h = absurd (cc)
+  held_many (barred x ∷ l) ts h = absurd (cc)
+  held_many (unwritten s ∷ l) ts h = absurd (cc)
+  held_many (misplaced s ∷ l) ts h = absurd (cc)
+
+  sorts_fit : (ts ss : List Sort) → length ss ≡ length ts → unfit_fault m.classes.classes ts ss ≡ None → all_fits m.classes.classes (sorts_of ss) (sorts_of ts) ≡ true
+  sorts_fit [] [] n f = refl
+  sorts_fit [] (s ∷ ss) n f = absurd (cc)
+  sorts_fit (t ∷ ts) [] n f = absurd (cc)
+  sorts_fit (t ∷ ts) (s ∷ ss) n f =
+      let p = first_none (again_fault m.classes.classes (Some t) s) (unfit_fault m.classes.classes ts ss) f in
+      and_from (fits m.classes.classes s t) (all_fits m.classes.classes (sorts_of ss) (sorts_of ts)) (part_fits m.classes.classes s t p.0) (sorts_fit ts ss (one_less (length ss) (length ts) n) p.1)
     where
       one_less : (a b : ℕ) → suc a ≡ suc b → a ≡ b
       one_less a b e = cc
-  sorts_fit (first t x ∷ l) ts (s ∷ ss) h n f = absurd (cc)
-  sorts_fit (barred x ∷ l) ts (s ∷ ss) h n f = absurd (cc)
-  sorts_fit (unwritten r ∷ l) ts (s ∷ ss) h n f = absurd (cc)
-  sorts_fit (misplaced r ∷ l) ts (s ∷ ss) h n f = absurd (cc)
 
-  row_stands : (k : Known) → Describes scene k.types m locals → (es : List ExprTree) → list_all law.is_written es ≡ true → (l : List Aim) (parts : Option (List Sort)) → AimsOf scene k parts es l → (e : ExprTree) → law.is_written e ≡ true → (v : TypedExpr) → RowBound m.classes.classes l (type_of v) → (o : Option (List Sort)) → held_sorts l ≡ o
-      → (typed_at scene k (wants_some (option_map tuple_sort o)) e).got ≡ Some v → (others : List ℕ) → Within k.names others → stands m locals init false others v ≡ true
-  row_stands k D es we l parts a e w v r None q g others wi = stands_free k D e w v g others wi
-  row_stands k D es we l parts a e w v r (Some ts) q g others wi =
-      let i = items_are (type_of v) (length l) r.parts r.items in
-      stands_parts k D e w (sorts_of ts) i.0 (sorts_sought k D es we l parts a ts q) v g i.1
-      (subst (λ z. all_fits m.classes.classes z (sorts_of ts) ≡ true) (ap sorts_of (sym i.2) ∙ sorts_again i.0) (sorts_fit l ts r.parts q i.3 r.fit)) others wi
+  -- the types that so many targets ask for, as the parts of their tuple
+  asked_parts : (ts : List Sort) (n : ℕ) → length ts ≡ n → items_for (tuple_sort ts) n ≡ Some ts
+  asked_parts ts n e =
+      ap (λ l. as_many l n) (listed ts) ∙ ap (λ b. if b then Some ts else None) (eq-eqb (length ts) n e)
+
+  -- a tuple whose parts fit what the targets ask for, or that was asked for nothing
+  row_stands : (k : Known) → Describes scene k.types m locals → (es : List ExprTree) → list_all law.is_written es ≡ true → (early : List Aim) → AimsOf scene k None es early → (n : ℕ) → length early ≡ n → (e : ExprTree) → law.is_written e ≡ true → (v : TypedExpr) (ss : List Sort) → items_for (type_of v) n ≡ Some ss → (o : Option (List Sort)) → held_sorts early ≡ o
+      → asked_fault m.classes.classes n (option_map tuple_sort o) (type_of v) ≡ None → (typed_at scene k (wants_some (option_map tuple_sort o)) e).got ≡ Some v → (others : List ℕ) → Within k.names others → stands m locals init false others v ≡ true
+  row_stands k D es we early a n many e w v ss items None q f g others wi = stands_free k D e w v g others wi
+  row_stands k D es we early a n many e w v ss items (Some ts) q f g others wi =
+      let i = items_are (type_of v) n ss items in
+      let as_asked = held_many early ts q ∙ many in
+      let unfit : unfit_fault m.classes.classes ts ss ≡ None =
+      ap₂ (λ (x y : Option (List Sort)). unfit_fault m.classes.classes (some_parts x) (some_parts y)) (sym (asked_parts ts n as_asked)) (sym items) ∙ f in
+      stands_parts k D e w (sorts_of ts) i.0 (sorts_sought k D es we early None a ts q) v g i.1
+      (subst (λ z. all_fits m.classes.classes z (sorts_of ts) ≡ true) (ap sorts_of (sym i.2) ∙ sorts_again i.0) (sorts_fit ts ss (i.3 ∙ sym as_asked) unfit)) others wi
 
   pub fault_fits : (t s : Sort) → again_fault m.classes.classes (Some t) s ≡ None → fits m.classes.classes s t ≡ true
   fault_fits t s h = by (fits m.classes.classes s t) h
@@ -193,27 +205,38 @@ module _ (means : List ℕ → Meaning) (signatures : List (Option Signature)) (
   one_stands k D t wt (unwritten s) a e w v f g others wi = absurd (cc)
   one_stands k D t wt (misplaced s) a e w v f g others wi = absurd (cc)
 
-  -- THE VALUE of an assignment stands, where its targets take it
-  pub value_stands : (k : Known) → Describes scene k.types m locals → (es : List ExprTree) → list_all law.is_written es ≡ true → (several : Bool) (l : List Aim) (parts : Option (List Sort)) → AimsOf scene k parts es l → (e : ExprTree) → law.is_written e ≡ true → (v : TypedExpr) → BoundTo m.classes.classes several l (type_of v)
-      → (typed_at scene k (asked_by several (Some l)) e).got ≡ Some v → (others : List ℕ) → Within k.names others → stands m locals init false others v ≡ true
-  value_stands k D es we true l parts a e w v r g others wi = row_stands k D es we l parts a e w v r (held_sorts l) refl g others wi
-  value_stands k D [] we false [] parts a e w v r g others wi = let clash = r.1 in absurd (cc)
-  value_stands k D [] we false (x ∷ l) parts a e w v r g others wi = absurd a
-  value_stands k D (t ∷ es) we false [] parts a e w v r g others wi = absurd a
-  value_stands k D (t ∷ es) we false (x ∷ []) parts a e w v r g others wi =
+  -- a value of one target stands, where that takes it
+  pub single_stands : (k : Known) → Describes scene k.types m locals → (es : List ExprTree) → list_all law.is_written es ≡ true → (l : List Aim) (parts : Option (List Sort)) → AimsOf scene k parts es l → (e : ExprTree) → law.is_written e ≡ true → (v : TypedExpr) → BoundTo m.classes.classes false l (type_of v)
+      → (typed_at scene k (asked_by false (Some l)) e).got ≡ Some v → (others : List ℕ) → Within k.names others → stands m locals init false others v ≡ true
+  single_stands k D [] we [] parts a e w v r g others wi = let clash = r.1 in absurd (cc)
+  single_stands k D [] we (x ∷ l) parts a e w v r g others wi = absurd a
+  single_stands k D (t ∷ es) we [] parts a e w v r g others wi = absurd a
+  single_stands k D (t ∷ es) we (x ∷ []) parts a e w v r g others wi =
       one_stands k D t (and_left (law.is_written t) (list_all law.is_written es) we) x a.here e w v (subst (λ z. binding_fault m.classes.classes z (type_of v) ≡ None) (sym (head_same r.1)) r.2) g others wi
     where
       head_same : {y : Aim} → x ∷ [] ≡ y ∷ [] → x ≡ y
       head_same h = cc
-  value_stands k D (t ∷ es) we false (x ∷ y ∷ l) parts a e w v r g others wi = let clash = r.1 in absurd (cc)
+  single_stands k D (t ∷ es) we (x ∷ y ∷ l) parts a e w v r g others wi = let clash = r.1 in absurd (cc)
 
-  -- and where its targets were looked at behind it, since they asked it for nothing
-  pub chosen_stands : (k : Known) → Describes scene k.types m locals → (target : ExprTree) → list_all law.is_written (leaves target) ≡ true → (late : Seen (List Aim)) (l : List Aim) → Chosen (is_row target) (target_aims scene k target) late l → (e : ExprTree) → law.is_written e ≡ true → (v : TypedExpr) → BoundTo m.classes.classes (is_row target) l (type_of v)
-      → (typed_at scene k (asked_by (is_row target) (target_aims scene k target).got) e).got ≡ Some v → (others : List ℕ) → Within k.names others → stands m locals init false others v ≡ true
-  chosen_stands k D target we late l (inl q) e w v r g others wi =
-      value_stands k D (leaves target) we (is_row target) l None (aims_are scene k None (leaves target) l q) e w v r (ap (λ o. (typed_at scene k (asked_by (is_row target) o) e).got) (sym q) ∙ g) others wi
-  chosen_stands k D target we late l (inr q) e w v r g others wi =
-      stands_free k D e w v (ap (λ o. (typed_at scene k (wants_some o) e).got) (sym q.0) ∙ g) others wi
+  -- THE VALUE of an assignment stands, where its targets take it, and it fits what several of them asked for
+  pub given_stands : (k : Known) → Describes scene k.types m locals → (target : ExprTree) → list_all law.is_written (leaves target) ≡ true → (l : List Aim) (t : Option Sort) → (aims_behind scene k target t).got ≡ Some l → (e : ExprTree) → law.is_written e ≡ true → (v : TypedExpr) → BoundTo m.classes.classes (is_row target) l (type_of v)
+      → FitsAsked m.classes.classes (is_row target) (asked_for scene k target) l (type_of v) → (value_for scene k target e).got ≡ Some v → (others : List ℕ) → Within k.names others → stands m locals init false others v ≡ true
+  given_stands k D target we l t h e w v r f g others wi = by (is_row target) refl r f
+    where
+      from : (o : Option (List Aim)) → (target_aims scene k target).got ≡ o → RowBound m.classes.classes l (type_of v) → asked_fault m.classes.classes (length l) (asked_sort true o) (type_of v) ≡ None → (typed_at scene k (asked_by true o) e).got ≡ Some v → stands m locals init false others v ≡ true
+      from None p r f g = stands_free k D e w v g others wi
+      from (Some early) p r f g =
+          let many = aims_length scene k None (leaves target) early p ∙ sym (aims_length scene k (Some (parts_of (is_row target) (length (leaves target)) t)) (leaves target) l h) in
+          row_stands k D (leaves target) we early (aims_are scene k None (leaves target) early p) (length l) many e w v r.parts r.items (held_sorts early) refl f g others wi
+
+      by : (b : Bool) → is_row target ≡ b → BoundTo m.classes.classes b l (type_of v) → FitsAsked m.classes.classes b (asked_for scene k target) l (type_of v) → stands m locals init false others v ≡ true
+      by false q r f =
+          let early : (target_aims scene k target).got ≡ Some l = ap (λ (s : Seen (List Aim)). s.got) (one_look scene k target t q) ∙ h in
+          single_stands k D (leaves target) we l None (aims_are scene k None (leaves target) l early) e w v r
+          (ap₂ (λ (b : Bool) (o : Option (List Aim)). (typed_at scene k (asked_by b o) e).got) (sym q) (sym early) ∙ g) others wi
+      by true q r f =
+          let o = (target_aims scene k target).got in
+          from o refl r (subst (λ b. asked_fault m.classes.classes (length l) (asked_sort b o) (type_of v) ≡ None) q f) (subst (λ b. (typed_at scene k (asked_by b o) e).got ≡ Some v) q g)
 
   -- of a type that a variable may have, where it is no None
   pub stands_type : (others : List ℕ) (v : TypedExpr) → stands m locals init false others v ≡ true → is_nothing (type_of v) ≡ false → is_value_type (length m.classes.classes) (type_of v) ≡ true

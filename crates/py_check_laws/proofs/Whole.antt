@@ -41,8 +41,8 @@ use Rattle.py_check_values.specs.Returns.{ReturnSort, bare_return, value_return,
 use Rattle.py_check_places.specs.Places.{Known, is_unset, fix, is_bound, bind_variable, bind_name, bind_names, with_names, where_test, entering, Way, setting_out, behind_arm}
 use Rattle.py_check_places.specs.Shapes.{is_row, is_item, is_flat, leaves, target_names, bind_target, parts_of}
 use Rattle.py_check_values.specs.Aims.{Aim}
-use Rattle.py_check_targets.specs.Targets.{name_aim, variable_aim, seen_aim, value_aim, read_aim, targets_of, assigned, declared, given, updated, typed_at, single_aim, aims, target_aims, next_part, more_parts, beyond, asked_sort, aims_behind, bound_aims}
-use Rattle.py_check_assignments.specs.Assignments.{value_for, assigns, binds, declares, annotated_value, gives_value, annotates_name, annotates_other, annotates, binds_annotated, updates_one, updates_row, updates}
+use Rattle.py_check_targets.specs.Targets.{name_aim, variable_aim, seen_aim, value_aim, read_aim, targets_of, assigned, declared, given, updated, typed_at, single_aim, aims, target_aims, next_part, more_parts, beyond, aims_behind}
+use Rattle.py_check_assignments.specs.Assignments.{value_for, assigns, binds, declares, annotated_value, gives_value, annotates_name, annotates_other, annotates, binds_annotated, updates_one, updates_row, updates, asked_for}
 use Rattle.py_check_loops.specs.Loops.{value, range_call, is_range_name, range_arguments, span_of, course_by, course, head, loop_of}
 use Rattle.py_check_loops.specs.Heads.{some_items, for_head, in_for}
 use Rattle.py_check_statements.specs.Deletions.{deletion}
@@ -54,7 +54,7 @@ use Rattle.py_check_statements.specs.Bodies.{is_definition, condition, after, no
 use Rattle.py_check_expressions_laws.specs.Laws.{is_voiceless, is_untyped, AllHaveTypes}
 use Rattle.py_check_expressions_laws.proofs.Inside.{either}
 use Rattle.py_check_expressions_laws.proofs.Loud.{IsLoud, loud_is, loud_fails, none_before, none_behind, both_say, loud_both, loud_made, loud_behind, loud_judged, loud_rule, loud_row, loud_positional, loud_typing, loud_arguments}
-use Rattle.py_check_laws.proofs.Looked.{looked_at, looked_behind}
+use Rattle.py_check_laws.proofs.Looked.{looked_behind}
 use Rattle.py_check_laws.specs.Statements.{is_judged}
 use Rattle.py_check_laws.proofs.Given.{some_is, rule_given, both_given, made_given}
 use Rattle.py_check.proofs.Bound.{single_bound, name_no_row}
@@ -222,15 +222,11 @@ module _ (C : Context) where
     loud_late : (k : Known) → AllTyped k.types → (target : ExprTree) (t : Option Sort) → AreKnown C.meaning (target_sights target) → IsLoud (aims_behind C k target t)
     loud_late k all target t u = loud_aims k all (Some (parts_of (is_row target) (length (leaves target)) t)) (leaves target) (leaves_read C.meaning target u)
 
-    loud_bound : (k : Known) → AllTyped k.types → (target : ExprTree) (t : Option Sort) → AreKnown C.meaning (target_sights target) → IsLoud (bound_aims C k target t)
-    loud_bound k all target t u =
-        loud_if (is_some (asked_sort (is_row target) (target_aims C k target).got)) (target_aims C k target) (aims_behind C k target t) (loud_targets k all target u) (loud_late k all target t u)
-
     loud_assigns : (k : Known) → AllTyped k.types → (span : Span) (target e : ExprTree) → AreKnown C.meaning (target_sights target ++ reads Value e) → IsLoud (assigns C k span target e)
     loud_assigns k all span target e u =
         let value = value_for C k target e in
-        let targets = bound_aims C k target (option_map type_of value.got) in
-        loud_rule span (assigned C.classes target) (both targets value) (loud_both targets value (loud_bound k all target (option_map type_of value.got) (front (target_sights target) (reads Value e) u)) (loud_value k all _ e (back (target_sights target) (reads Value e) u)))
+        let targets = aims_behind C k target (option_map type_of value.got) in
+        loud_rule span (assigned C.classes target (asked_for C k target)) (both targets value) (loud_both targets value (loud_late k all target (option_map type_of value.got) (front (target_sights target) (reads Value e) u)) (loud_value k all _ e (back (target_sights target) (reads Value e) u)))
 
     loud_declares : (k : Known) → AllTyped k.types → (span : Span) (x : List ℕ) (mark : ExprTree) → AreKnown C.meaning (reads Annotation mark) → IsLoud (declares C k span x mark)
     loud_declares k all span x mark u =
@@ -296,12 +292,13 @@ module _ (C : Context) where
         loud_rule (span_of e) (range_call C.classes) (behind (arguments C k.types (along []) 0 k.names args) (positional (span_of e) (has_key args)))
         (loud_behind (arguments C k.types (along []) 0 k.names args) (positional (span_of e) (has_key args)) (loud_arguments C k.types (all_have k.types all) (along []) 0 k.names args (range_read e args q u)) (λ es. loud_positional (span_of e) (has_key args) es))
 
-    loud_head : (k : Known) → AllTyped k.types → (span : Span) (target e : ExprTree) → AreKnown C.meaning (target_sights target) → AreKnown C.meaning (reads Value e) → IsLoud (for_head C k span target e)
-    loud_head k all span target e ut u =
-        let targets = aims_behind C k target (some_items (course C k e).got) in
+    loud_head : (k : Known) → AllTyped k.types → (s : StmtTree) (span : Span) (target e : ExprTree) → AreKnown C.meaning (target_sights target) → AreKnown C.meaning (reads Value e) → IsLoud (for_head C k s span target e)
+    loud_head k all s span target e ut u =
+        let inner = entering C k s in
+        let targets = aims_behind C inner target (some_items (course C k e).got) in
         let parts = both targets (course C k e) in
         loud_made (λ p. (targets_of p.0, p.1)) (rule span (head C.classes (is_flat target) (is_row target)) parts)
-        (loud_rule span (head C.classes (is_flat target) (is_row target)) parts (loud_both targets (course C k e) (loud_late k all target (some_items (course C k e).got) ut) (loud_course k all (range_arguments C e) e refl u)))
+        (loud_rule span (head C.classes (is_flat target) (is_row target)) parts (loud_both targets (course C k e) (loud_late inner all target (some_items (course C k e).got) ut) (loud_course k all (range_arguments C e) e refl u)))
 
     loud_condition : (k : Known) → AllTyped k.types → (e : ExprTree) → AreKnown C.meaning (reads Value e) → IsLoud (condition C k e)
     loud_condition k all e u = loud_made truth (typed_at C k test e) (loud_value k all test e u)
@@ -378,12 +375,12 @@ module _ (C : Context) where
     quiet_assign k all span target e u h =
         let g = quiet_got (assigns C k span target e) (loud_assigns k all span target e u) h in
         let value = value_for C k target e in
-        let targets = bound_aims C k target (option_map type_of value.got) in
-        let r = rule_given span (assigned C.classes target) (both targets value) g.0 g.1 in
+        let targets = aims_behind C k target (option_map type_of value.got) in
+        let r = rule_given span (assigned C.classes target (asked_for C k target)) (both targets value) g.0 g.1 in
         let b = both_given targets value r.0 r.1 in
-        let a = assigned_is C.classes target r.0 g.0 r.2 in
+        let a = assigned_is C.classes target (asked_for C k target) r.0 g.0 r.2 in
         subst (λ (l : Known). AllTyped l.types) (sym (bound_same k target (is_some (assigns C k span target e).got) (option_map type_of (value_for C k target e).got) (type_of r.0.1) (some_is (assigns C k span target e).got g.0 g.1) (ap (option_map type_of) b.1)))
-        (typed_bound k all target r.0.0 (looked_at C k target r.0.0 (option_map type_of value.got) (type_of r.0.1) b.0 (ap (option_map type_of) b.1)).many (type_of r.0.1) a.bound)
+        (typed_bound k all target r.0.0 (looked_behind C k target r.0.0 (option_map type_of value.got) (type_of r.0.1) b.0 (ap (option_map type_of) b.1)).many (type_of r.0.1) a.bound)
 
     quiet_name : (k : Known) → AllTyped k.types → (span : Span) (x : List ℕ) (target mark : ExprTree) (e : Option ExprTree) → name_in target ≡ Some x → AreKnown C.meaning (reads Annotation mark ++ maybe_reads Value e) → (annotates_name C k span x mark e).said ≡ [] → AllTyped (binds_annotated C k span (Some x) target mark e).types
     quiet_name k all span x target mark None n u h =
@@ -419,19 +416,19 @@ module _ (C : Context) where
         by true q f = absurd ((loud_row_update k all span target e u).says (no_part (both (target_aims C k target) (typed_at C k free e)).got span no_target) f)
         by false q f = quiet_one k all span target op e q u f
 
-    quiet_head : (k : Known) → AllTyped k.types → (s : StmtTree) (span : Span) (target e : ExprTree) → AreKnown C.meaning (target_sights target) → AreKnown C.meaning (reads Value e) → (for_head C k span target e).said ≡ [] → AllTyped (in_for C k s span target e).types
+    quiet_head : (k : Known) → AllTyped k.types → (s : StmtTree) (span : Span) (target e : ExprTree) → AreKnown C.meaning (target_sights target) → AreKnown C.meaning (reads Value e) → (for_head C k s span target e).said ≡ [] → AllTyped (in_for C k s span target e).types
     quiet_head k all s span target e ut u h =
-        let hd = for_head C k span target e in
-        let g = quiet_got hd (loud_head k all span target e ut u) h in
-        let targets = aims_behind C k target (some_items (course C k e).got) in
+        let hd = for_head C k s span target e in
+        let g = quiet_got hd (loud_head k all s span target e ut u) h in
+        let l = entering C k s in
+        let targets = aims_behind C l target (some_items (course C k e).got) in
         let parts = both targets (course C k e) in
         let m = made_given (λ p. (targets_of p.0, p.1)) (rule span (head C.classes (is_flat target) (is_row target)) parts) g.0 g.1 in
         let r = rule_given span (head C.classes (is_flat target) (is_row target)) parts m.0 m.1 in
         let b = both_given targets (course C k e) r.0 r.1 in
         let d = head_is C.classes target r.0 m.0 r.2 in
-        let l = entering C k s in
         subst (λ (z : Known). AllTyped z.types) (sym (bound_same l target (is_some hd.got) (some_items (course C k e).got) d.0.item (some_is hd.got g.0 g.1) (ap some_items b.1 ∙ d.0.items)))
-        (typed_bound l all target r.0.0 (looked_behind C k target r.0.0 (some_items (course C k e).got) d.0.item b.0 (ap some_items b.1 ∙ d.0.items)).many d.0.item d.0.bound)
+        (typed_bound l all target r.0.0 (looked_behind C l target r.0.0 (some_items (course C k e).got) d.0.item b.0 (ap some_items b.1 ∙ d.0.items)).many d.0.item d.0.bound)
 
     -- a clause binds its name
     quiet_clause_head : (k : Known) → AllTyped k.types → (span : Span) (e : Option ExprTree) (x : Option (List ℕ)) (last : Bool) → AreKnown C.meaning (maybe_reads Value e) → (handler_head C k span e x last).said ≡ [] → AllTyped (in_handler C k span e x last).types
@@ -486,10 +483,10 @@ module _ (C : Context) where
             loud_made (λ p. act.While p.0 (suite_of p.1)) (both s t) (loud_both s t (loud_condition l all e (front (reads Value e) (suite_sights home body) u)) (loud_block (around_loop around) (where_test C l true e) all body (back (reads Value e) (suite_sights home body) u)))
         loud_node around k all span (node.For target e body) d u =
             let here = node.at (node.For target e body) span in
-            let s = for_head C k span target e in
+            let s = for_head C k here span target e in
             let l = in_for C k here span target e in
             let t = block C r (around_loop around) l body in
-            loud_made (λ p. loop_of p.0.0 p.0.1 (suite_of p.1)) (both s t) (loud_both_then s t (loud_head k all span target e (front (target_sights target) (reads Value e ++ suite_sights home body) u) (front (reads Value e) (suite_sights home body) (back (target_sights target) (reads Value e ++ suite_sights home body) u))) (λ q. loud_block (around_loop around) l (quiet_head k all here span target e (front (target_sights target) (reads Value e ++ suite_sights home body) u) (front (reads Value e) (suite_sights home body) (back (target_sights target) (reads Value e ++ suite_sights home body) u)) q) body (back (reads Value e) (suite_sights home body) (back (target_sights target) (reads Value e ++ suite_sights home body) u))))
+            loud_made (λ p. loop_of p.0.0 p.0.1 (suite_of p.1)) (both s t) (loud_both_then s t (loud_head k all here span target e (front (target_sights target) (reads Value e ++ suite_sights home body) u) (front (reads Value e) (suite_sights home body) (back (target_sights target) (reads Value e ++ suite_sights home body) u))) (λ q. loud_block (around_loop around) l (quiet_head k all here span target e (front (target_sights target) (reads Value e ++ suite_sights home body) u) (front (reads Value e) (suite_sights home body) (back (target_sights target) (reads Value e ++ suite_sights home body) u)) q) body (back (reads Value e) (suite_sights home body) (back (target_sights target) (reads Value e ++ suite_sights home body) u))))
         loud_node around k all span (node.Raise e) d u = loud_raises around.handling k all span e u
         loud_node around k all span (node.Assert e text) d u = loud_asserts k all span e text u
         loud_node around k all span (node.Try body handlers last) d u =
@@ -567,7 +564,7 @@ module _ (C : Context) where
             quiet_block (around_loop around) (where_test C l true e) all body (back (reads Value e) (suite_sights home body) u) (none_behind s.said t.said h)
         quiet_node around k all span (node.For target e body) u h =
             let here = node.at (node.For target e body) span in
-            let s = for_head C k span target e in
+            let s = for_head C k here span target e in
             let l = in_for C k here span target e in
             let t = block C r (around_loop around) l body in
             quiet_block (around_loop around) l (quiet_head k all here span target e (front (target_sights target) (reads Value e ++ suite_sights home body) u) (front (reads Value e) (suite_sights home body) (back (target_sights target) (reads Value e ++ suite_sights home body) u)) (none_before s.said t.said h)) body (back (reads Value e) (suite_sights home body) (back (target_sights target) (reads Value e ++ suite_sights home body) u)) (none_behind s.said t.said h)

@@ -99,7 +99,7 @@ abbrev pub ForBodyKnowsNoMore : Type 0
 ForBodyKnowsNoMore =
     (c : Context) (ret : ReturnSort) (a : Around) (k : Known) (span : Span) (target e : ExprTree) (body : Suite) (m : TypedModule) (locals : List Variable) (init : Option ℕ) (result : Option Sort) → IsScope c k.types
     → Describes c (in_for c k (node.at (node.For target e body) span) span target e).types m locals → is_written e ≡ true → is_bare_suite c.meaning body ≡ true
-    → (targets : List TypedTarget) (over : Course) (item : Sort) → (for_head c k span target e).got ≡ Some (targets, over) → course_items over ≡ Some item
+    → (targets : List TypedTarget) (over : Course) (item : Sort) → (for_head c k (node.at (node.For target e body) span) span target e).got ≡ Some (targets, over) → course_items over ≡ Some item
     → (ts : List TypedStmt) → (block c ret (around_loop a) (in_for c k (node.at (node.For target e body) span) span target e) body).got ≡ Some ts
     → (known : List ℕ) → Within known k.names
     → Within (in_loop_from m locals init result known targets item (suite_of ts)) (in_for c k (node.at (node.For target e body) span) span target e).names
