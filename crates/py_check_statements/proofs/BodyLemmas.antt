@@ -53,6 +53,10 @@ pub leaf_says : {A X : Type 0} (v : X → A) (a : A) (r : Result (Option X) Memo
 leaf_says v a r o = if_ok r (λ x. option_map v x ≡ Some a) (λ x. Tells v x o o (is a)) (λ x h. (h, sym (append-nil o)))
 
 -- what has no typed form, and says nothing
+-- no statement is made, and no memory was lacking
+abbrev pub no_act : Result (Option (Box TStmtKind Global)) Memory
+no_act = Ok None
+
 pub silent_says : {A X : Type 0} (v : X → A) (o : List Diag) → Tells v None o o silent
 silent_says v o = (refl, sym (append-nil o))
 

@@ -1,4 +1,4 @@
-use Rattle.std.proofs.Common.{rules, ◌+◌, nat_eq, ◌<◌, ◌≤◌, length, ◌≡◌, ◌∙◌, map, List, Option, Some, None, Ok, ℕ, true, refl, ap, sym, subst}
+use Rattle.std.proofs.Common.{rules, [], ◌+◌, nat_eq, ◌<◌, ◌≤◌, length, ◌≡◌, ◌∙◌, map, List, Option, Some, None, ℕ, true, refl, ap, sym, subst}
 use Rattle.std.specs.Option.{option_map}
 use Rattle.py_syntax.specs.Expressions.{expr_tree}
 use Rattle.py_syntax.specs.Statements as tree
@@ -26,7 +26,7 @@ use Rattle.py_check_exceptions.specs.Views.{boxed_handler_head}
 use Rattle.py_check_flow.specs.Closed.{is_closed}
 use Rattle.py_check_statements.specs.Bodies.{around_loop, around_clause, outside_try, behind_try, try_of, clause, clauses, maybe_block, handlers_after, last_after, condition, left_while, behind_loop, block, block_after, branches, arms_after, guarded}
 use Rattle.py_check_statements.specs.Views.{boxed_stmt, guarded_seen, clause_seen, way}
-use Rattle.py_check_statements.proofs.BodyLemmas.{try_says, try_knows, always, made_says, leaf_says, silent_says, both_say, pair_says, node_of, act_stays, known_after, line_says, act_says, act_knows, while_says, while_knows, for_says, for_knows, known_behind_loop, row_ends, block_ends, known_ends, branches_end, ways_end, known_passed, row_passed, known_behind, row_behind, way_behind, ways_behind, arms_behind, known_behind_else}
+use Rattle.py_check_statements.proofs.BodyLemmas.{try_says, try_knows, always, made_says, leaf_says, no_act, silent_says, both_say, pair_says, node_of, act_stays, known_after, line_says, act_says, act_knows, while_says, while_knows, for_says, for_knows, known_behind_loop, row_ends, block_ends, known_ends, branches_end, ways_end, known_passed, row_passed, known_behind, row_behind, way_behind, ways_behind, arms_behind, known_behind_else}
 use Rattle.py_check_statements.proofs.TryLemmas.{three_say, handler_tree_at, clauses_known, clauses_row, clauses_end, handlers_end}
 use Rattle.py_check_statements.proofs.blocks.+statement.Goals as goal
 
@@ -184,8 +184,8 @@ act-returns-in-Import t c =
     let n = tree.Import c.in-Import.field-0 c.in-Import.field-1 in
     let is : stmt_node s.kind ≡ n = node_of s _ _ c.in-Import.is (stmt_node-Import c.in-Import.field-0 c.in-Import.field-1) in
     record {
-      told = act_says C K s (return_sort c.args.inside.returns) c.args.inside.around (Ok None) c.args.faults.now c.args.faults.now n is (silent_says boxed_act c.args.faults.now);
-      known = act_stays C K s (Ok None) n is refl;
+      told = act_says C K s (return_sort c.args.inside.returns) c.args.inside.around no_act c.args.faults.now c.args.faults.now n is (silent_says boxed_act c.args.faults.now);
+      known = act_stays C K s no_act n is refl;
     }
 
 pub act-returns-in-From : goal.act-returns-in-From
@@ -196,8 +196,8 @@ act-returns-in-From t c =
     let n = tree.From c.in-From.field-0 c.in-From.field-1 in
     let is : stmt_node s.kind ≡ n = node_of s _ _ c.in-From.is (stmt_node-From c.in-From.field-0 c.in-From.field-1) in
     record {
-      told = act_says C K s (return_sort c.args.inside.returns) c.args.inside.around (Ok None) c.args.faults.now c.args.faults.now n is (silent_says boxed_act c.args.faults.now);
-      known = act_stays C K s (Ok None) n is refl;
+      told = act_says C K s (return_sort c.args.inside.returns) c.args.inside.around no_act c.args.faults.now c.args.faults.now n is (silent_says boxed_act c.args.faults.now);
+      known = act_stays C K s no_act n is refl;
     }
 
 pub act-returns-in-If : goal.act-returns-in-If
@@ -206,9 +206,9 @@ act-returns-in-If t c =
     let K = known_at c.args.place.now in
     let s = c.args.s.now in
     let arms = c.as_slice.result.now in
-    let other = c.as_slice-in-If.result.now in
+    let other = c.as_slice-other.result.now in
     let n = tree.If (arms_of (map arm_tree arms)) (body_tree other) in
-    let is : stmt_node s.kind ≡ n = node_of s _ _ (rw c.as_slice.ensures (rw c.as_slice-in-If.ensures c.in-If.is)) (stmt_node-If arms other) in
+    let is : stmt_node s.kind ≡ n = node_of s _ _ (rw c.as_slice.ensures (rw c.as_slice-other.ensures c.in-If.is)) (stmt_node-If arms other) in
     record {
       told = act_says C K s (return_sort c.args.inside.returns) c.args.inside.around c.conditional.result c.args.faults.now c.conditional.new.faults n is c.conditional.ensures.told;
       known = act_knows C K s c.conditional.result (known_at c.conditional.new.place) n is c.conditional.ensures.known;
@@ -233,9 +233,9 @@ act-returns-in-For t c =
     let K = known_at c.args.place.now in
     let s = c.args.s.now in
     let target = c.in-For.target in
-    let e = c.in-For.e in
-    let body = c.as_slice-in-For.result.now in
-    let is : stmt_node s.kind ≡ tree.For (expr_tree target) (expr_tree e) (body_tree body) = node_of s _ _ (rw c.as_slice-in-For.ensures c.in-For.is) (stmt_node-For target e body) in
+    let e = c.in-For.over in
+    let body = c.as_slice-body.result.now in
+    let is : stmt_node s.kind ≡ tree.For (expr_tree target) (expr_tree e) (body_tree body) = node_of s _ _ (rw c.as_slice-body.ensures c.in-For.is) (stmt_node-For target e body) in
     record {
       told = for_says C K s (return_sort c.args.inside.returns) c.args.inside.around c.for_loop.result c.args.faults.now c.for_loop.new.faults (expr_tree target) (expr_tree e) (body_tree body) is c.for_loop.ensures.told;
       known = for_knows C K s c.for_loop.result (known_at c.for_loop.new.place) (expr_tree target) (expr_tree e) (body_tree body) is c.for_loop.ensures.known;
@@ -246,11 +246,11 @@ act-returns-in-Try t c =
     let C = context c.args.scope.now in
     let K = known_at c.args.place.now in
     let s = c.args.s.now in
-    let body = c.as_slice-in-Try.result.now in
-    let handlers = c.as_slice-in-Try-2.result.now in
+    let body = c.as_slice-body-in-Try.result.now in
+    let handlers = c.as_slice-handlers.result.now in
     let last = c.in-Try.last in
     let L = maybe_suite (option_map body_tree last) in
-    let is : stmt_node s.kind ≡ tree.Try (body_tree body) (handlers_of (map handler_tree handlers)) L = node_of s _ _ (rw c.as_slice-in-Try.ensures (rw c.as_slice-in-Try-2.ensures c.in-Try.is)) (stmt_node-Try body handlers last) in
+    let is : stmt_node s.kind ≡ tree.Try (body_tree body) (handlers_of (map handler_tree handlers)) L = node_of s _ _ (rw c.as_slice-body-in-Try.ensures (rw c.as_slice-handlers.ensures c.in-Try.is)) (stmt_node-Try body handlers last) in
     record {
       told = try_says C K s (return_sort c.args.inside.returns) c.args.inside.around c.try_statement.result c.args.faults.now c.try_statement.new.faults (body_tree body) (handlers_of (map handler_tree handlers)) L is c.try_statement.ensures.told;
       known = try_knows C K s c.try_statement.result (known_at c.try_statement.new.place) (body_tree body) (handlers_of (map handler_tree handlers)) L is c.try_statement.ensures.known;
@@ -264,8 +264,8 @@ act-returns-in-Def t c =
     let n = def_of (func_tree c.in-Def.field-0) in
     let is : stmt_node s.kind ≡ n = node_of s _ _ c.in-Def.is (stmt_node-Def c.in-Def.field-0) in
     record {
-      told = act_says C K s (return_sort c.args.inside.returns) c.args.inside.around (Ok None) c.args.faults.now c.args.faults.now n is (silent_says boxed_act c.args.faults.now);
-      known = act_stays C K s (Ok None) n is refl;
+      told = act_says C K s (return_sort c.args.inside.returns) c.args.inside.around no_act c.args.faults.now c.args.faults.now n is (silent_says boxed_act c.args.faults.now);
+      known = act_stays C K s no_act n is refl;
     }
 
 pub act-returns-in-Class : goal.act-returns-in-Class
@@ -276,8 +276,8 @@ act-returns-in-Class t c =
     let n = class_def_of (class_tree c.in-Class.field-0) in
     let is : stmt_node s.kind ≡ n = node_of s _ _ c.in-Class.is (stmt_node-Class c.in-Class.field-0) in
     record {
-      told = act_says C K s (return_sort c.args.inside.returns) c.args.inside.around (Ok None) c.args.faults.now c.args.faults.now n is (silent_says boxed_act c.args.faults.now);
-      known = act_stays C K s (Ok None) n is refl;
+      told = act_says C K s (return_sort c.args.inside.returns) c.args.inside.around no_act c.args.faults.now c.args.faults.now n is (silent_says boxed_act c.args.faults.now);
+      known = act_stays C K s no_act n is refl;
     }
 
 -- ---- rows
