@@ -63,12 +63,12 @@ module _ (c : Context) where
   annotates_name k span x mark None = declares k span x mark
   annotates_name k span x mark (Some e) = gives_value k span x mark e
 
-  -- what is no name has no annotation
+  -- what is no name has no annotation; its value is still asked for the type that it has
   abbrev pub annotates_other : Known → Span → ExprTree → ExprTree → Option ExprTree → Seen TypedAct
   annotates_other k span target mark None =
       behind (both (target_aims c k target) (annotation c.meaning mark)) (λ p. with_part p (λ q. fails span no_target))
   annotates_other k span target mark (Some e) =
-      behind (both (both (target_aims c k target) (annotation c.meaning mark)) (typed_at c k free e)) (λ p. with_part p (λ q. fails span no_target))
+      behind (both (both (target_aims c k target) (annotation c.meaning mark)) (value_for k target e)) (λ p. with_part p (λ q. fails span no_target))
 
   abbrev pub annotates : Known → Span → Option (List ℕ) → ExprTree → ExprTree → Option ExprTree → Seen TypedAct
   annotates k span (Some x) target mark e = annotates_name k span x mark e

@@ -21,7 +21,7 @@ ghost use Rattle.py_check_values.specs.Aims.{aim_seen};
 ghost use Rattle.py_check_targets.specs.Views.{boxed_aim, boxed_act};
 ghost use Rattle.py_check_assignments.specs.Views.{Shows};
 
-use crate::assignments::{Assignment, act_of, kept, put_target};
+use crate::assignments::{Assignment, act_of, asked_for, kept, put_target};
 use crate::parts::{has_aims, refuse, refuse_value};
 use py_check_annotations::annotation;
 use py_check_context::{Context, Meaning, VarType, Want, meaning_of};
@@ -344,7 +344,7 @@ fn is_first(
     Ok(true)
 }
 
-// What is no name has no annotation.
+// What is no name has no annotation; its value is still asked for the type that it has.
 fn annotates_other(
     alloc: Global,
     scope: &Context<'_>,
@@ -362,7 +362,11 @@ fn annotates_other(
     let complete = placed && marked;
     match e {
         None => refuse(alloc, span, complete, faults),
-        Some(e) => refuse_value(alloc, scope, place, span, complete, e, faults),
+        Some(e) => {
+            let asked = asked_for(alloc, scope, place, target)?;
+            let asked = asked.as_deref();
+            refuse_value(alloc, scope, place, span, complete, asked, e, faults)
+        }
     }
 }
 

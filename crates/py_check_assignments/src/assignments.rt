@@ -157,8 +157,8 @@ fn given_value(
     Ok(Given { asked, e, said })
 }
 
-// What targets ask for. What is wrong with them is said once the value is there.
-fn asked_for(
+/// What targets ask for. What is wrong with them is said once the value is there.
+pub(crate) fn asked_for(
     alloc: Global,
     scope: &Context<'_>,
     place: &Place,

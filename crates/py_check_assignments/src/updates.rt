@@ -87,7 +87,7 @@ fn update_row(
     ensures { IfOk result (λ t. Tells boxed_act t faults.old faults.new (rules_of.updates_row (context scope.now) (known_at place.now) span (expr_tree target.now) (expr_tree e.now))) }
 {
     let placed = has_aims(alloc, scope, place, target, faults)?;
-    refuse_value(alloc, scope, place, span, placed, e, faults)?;
+    refuse_value(alloc, scope, place, span, placed, None, e, faults)?;
     Ok(None)
 }
 
