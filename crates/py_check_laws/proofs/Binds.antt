@@ -124,7 +124,7 @@ module _ (C : Context) where
       subst (λ z. Binds (target_bindings target) (typed.bound_in z)) d.is (targets_bind k target r.0.0 looked.parts looked.aims)
 
   annotated_binds : (k : Known) (span : Span) (x : Option (List ℕ)) (target mark e : ExprTree) (a : TypedAct) → name_in target ≡ x → (annotates C k span x target mark (Some e)).got ≡ Some a → Binds (marked (name_in target) target mark) (typed.bound_in a)
-  annotated_binds k span None target mark e a n h = absurd (no_part_given (both (both (target_aims C k target) (annotation C.meaning mark)) (typed_at C k free e)).got span no_target a h)
+  annotated_binds k span None target mark e a n h = absurd (no_part_given (both (both (target_aims C k target) (annotation C.meaning mark)) (value_for C k target e)).got span no_target a h)
   annotated_binds k span (Some x) target mark e a n h =
       let parts = both (seen_aim (name_aim k x (C.meaning x))) (annotation C.meaning mark) in
       let r = rule_given span (given C.classes x (is_bound k (C.meaning x))) (both parts (annotated_value C k x e)) a h in

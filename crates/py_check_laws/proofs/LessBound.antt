@@ -182,7 +182,7 @@ module _ (means : List ℕ → Meaning) (signatures : List (Option Signature)) (
   pub less_annotated : (k : Known) (span : Span) (x : Option (List ℕ)) (target mark e : ExprTree) → name_in target ≡ x → IsScope here k.types → law.is_written e ≡ true → Describes here (binds_annotated here k span x target mark (Some e)).types m locals → (a : TypedAct) → (annotates here k span x target mark (Some e)).got ≡ Some a
       → Less k.names (binds_annotated here k span x target mark (Some e)).names a
   less_annotated k span (Some x) target mark e n sc we E a h = less_name k span x target mark e n sc we E a h
-  less_annotated k span None target mark e n sc we E a h = absurd (no_part_given (both (both (target_aims here k target) (annotation means mark)) (typed_at here k free e)).got span no_target a h)
+  less_annotated k span None target mark e n sc we E a h = absurd (no_part_given (both (both (target_aims here k target) (annotation means mark)) (value_for here k target e)).got span no_target a h)
 
   other_kept : (ok : Bool) (k : Known) (n : Meaning) (t : Option Sort) → not (is_own n) ≡ true → (bind_variable ok k n t).names ≡ k.names
   other_kept ok k (meaning.Local i) t h = absurd (cc)

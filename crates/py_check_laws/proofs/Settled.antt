@@ -21,7 +21,7 @@ use Rattle.py_typed.specs.WellTypedExpr.{is_value_type, are_value_types, declare
 use Rattle.py_typed.proofs.FitLemmas.{and_left, and_right}
 use Rattle.py_check_context.specs.declared.scope.Meaning.{Meaning}
 use Rattle.py_check_context.specs.declared.scope.Meaning.TheVariants as meaning
-use Rattle.py_check_context.specs.Context.{Context, VarSort, unset, untyped, has, VarSorts, var_at, free}
+use Rattle.py_check_context.specs.Context.{Context, VarSort, unset, untyped, has, VarSorts, var_at}
 use Rattle.py_check_flow.specs.Bindings.{Binding, bound, target_bindings, name_in, marked, caught, stmt_bindings, act_bindings, suite_bindings, arms_bindings, handlers_bindings, last_bindings}
 use Rattle.py_check_flow.specs.Closed.{is_closed}
 use Rattle.py_check_messages.specs.Seen.{both, rule, made}
@@ -219,7 +219,7 @@ module _ (means : List ℕ → Meaning) (signatures : List (Option Signature)) (
       → Settled (binds_annotated here k span x target mark e).types (marked (name_in target) target mark)
   settled_annotated k D s span target mark e (Some x) n h a g = settled_name k D s (is_some (annotates_name here k span x mark e).got) target mark x (value_sort here k x e) n h
   settled_annotated k D s span target mark None None n h a g = absurd (no_part_given (both (target_aims here k target) (annotation means mark)).got span no_target a g)
-  settled_annotated k D s span target mark (Some e) None n h a g = absurd (no_part_given (both (both (target_aims here k target) (annotation means mark)) (typed_at here k free e)).got span no_target a g)
+  settled_annotated k D s span target mark (Some e) None n h a g = absurd (no_part_given (both (both (target_aims here k target) (annotation means mark)) (value_for here k target e)).got span no_target a g)
 
   settled_update : (k : Known) → Describes here k.types m locals → IsScope here k.types → (target : ExprTree) → Settled (bind_target here false k target None).types (target_bindings target)
   settled_update k D s target = record { valued = valued_names here size false k (valued_here k.types D) (target_names target) [] refl; closed = target_closed here false k s target None }

@@ -217,7 +217,7 @@ module _ (C : Context) where
   annotated_shape : (k : Known) (span : Span) (x : Option (List ℕ)) (target mark : ExprTree) (e : Option ExprTree) (a : TypedAct) → name_in target ≡ x → (annotates C k span x target mark e).got ≡ Some a → ActShape (node.Annot target mark e) a
   annotated_shape k span (Some x) target mark e a n h = name_shape k span x target mark e a n h
   annotated_shape k span None target mark None a n h = absurd (no_part_given (both (target_aims C k target) (annotation C.meaning mark)).got span no_target a h)
-  annotated_shape k span None target mark (Some e) a n h = absurd (no_part_given (both (both (target_aims C k target) (annotation C.meaning mark)) (typed_at C k free e)).got span no_target a h)
+  annotated_shape k span None target mark (Some e) a n h = absurd (no_part_given (both (both (target_aims C k target) (annotation C.meaning mark)) (value_for C k target e)).got span no_target a h)
 
   one_bound : (t : TypedTarget) (more l : List TypedTarget) (ys : List ℕ) → l ≡ t ∷ more → Within (bound_by_all l) ys → Within (bound_by t) ys
   one_bound t more l ys q w x e = w x (subst (λ z. is_in (bound_by_all z) x ≡ true) (sym q) (in_left (bound_by t) (bound_by_all more) x e))

@@ -92,8 +92,8 @@ module _ (C : Context) where
       refused_layer span no_target parts (quiet_both (target_aims C k target) (annotation C.meaning mark) (quiet_targets C k target) (quiet_annotation C.meaning mark))
   annotated_layer k span None target mark (Some e) =
       let front = both (target_aims C k target) (annotation C.meaning mark) in
-      refused_layer span no_target (both front (typed_at C k free e))
-      (quiet_both front (typed_at C k free e) (quiet_both (target_aims C k target) (annotation C.meaning mark) (quiet_targets C k target) (quiet_annotation C.meaning mark)) (quiet_typing C k.types free k.names e))
+      refused_layer span no_target (both front (value_for C k target e))
+      (quiet_both front (value_for C k target e) (quiet_both (target_aims C k target) (annotation C.meaning mark) (quiet_targets C k target) (quiet_annotation C.meaning mark)) (quiet_typing C k.types _ k.names e))
 
   update_layer : (k : Known) (span : Span) (target : ExprTree) (op : BinOp) (e : ExprTree) → Layer (λ place. (updates C k place target op e).said) span
   update_layer k span target op e = by (is_row target)

@@ -39,7 +39,7 @@ use Rattle.py_check_values.specs.Assignments.{binding_fault, as_bound}
 use Rattle.py_check_places.specs.Places.{Known, is_bound, variable_at, bind_variable, bind_name}
 use Rattle.py_check_places.specs.Shapes.{is_row, is_item, bind_target}
 use Rattle.py_check_targets.specs.Targets.{target_of, variable_aim, name_aim, seen_aim, asked_by, declared, given, annotation_fault, read_aim, updated, typed_at, target_aims}
-use Rattle.py_check_assignments.specs.Assignments.{asked, annotated_value, declares, gives_value, annotates_name, annotates, binds_annotated, updates_row, updates_one, updates}
+use Rattle.py_check_assignments.specs.Assignments.{value_for, asked, annotated_value, declares, gives_value, annotates_name, annotates, binds_annotated, updates_row, updates_one, updates}
 use Rattle.py_check_statements.specs.Bodies.{return_wanted, returns}
 use Rattle.py_check_expressions_laws.specs.WellTyped as law
 use Rattle.py_check_expressions_laws.specs.WellTyped.{Describes, Within}
@@ -203,7 +203,7 @@ module _ (means : List ℕ → Meaning) (signatures : List (Option Signature)) (
       → (others : List ℕ) → Within k.names others → Fine loops handling others (binds_annotated here k span x target mark e).names a
   good_annotated loops handling k span (Some x) target mark e n sc we E a h others w = good_name loops handling k span x target mark e n sc we E a h others w
   good_annotated loops handling k span None target mark None n sc we E a h others w = absurd (no_part_given (both (target_aims here k target) (annotation means mark)).got span no_target a h)
-  good_annotated loops handling k span None target mark (Some e) n sc we E a h others w = absurd (no_part_given (both (both (target_aims here k target) (annotation means mark)) (typed_at here k free e)).got span no_target a h)
+  good_annotated loops handling k span None target mark (Some e) n sc we E a h others w = absurd (no_part_given (both (both (target_aims here k target) (annotation means mark)) (value_for here k target e)).got span no_target a h)
 
   -- ---- operations with assignment
 

@@ -254,14 +254,14 @@ module _ (C : Context) where
         loud_behind a (λ p. with_part p (λ q. fails span no_target)) (loud_marked_target k all target mark (front (target_sights target) more u) (front (reads Annotation mark) [] (back (target_sights target) more u))) (λ q. loud_fails span no_target)
     loud_other k all span target mark (Some e) u =
         let a = both (target_aims C k target) (annotation C.meaning mark) in
-        let b = both a (typed_at C k free e) in
+        let b = both a (value_for C k target e) in
         let more = (reads Annotation mark ++ reads Value e) in
         loud_behind b (λ p. with_part p (λ q. fails span no_target))
-        (loud_both a (typed_at C k free e) (loud_marked_target k all target mark (front (target_sights target) more u) (front (reads Annotation mark) (reads Value e) (back (target_sights target) more u))) (loud_value k all free e (back (reads Annotation mark) (reads Value e) (back (target_sights target) more u)))) (λ q. loud_fails span no_target)
+        (loud_both a (value_for C k target e) (loud_marked_target k all target mark (front (target_sights target) more u) (front (reads Annotation mark) (reads Value e) (back (target_sights target) more u))) (loud_value k all _ e (back (reads Annotation mark) (reads Value e) (back (target_sights target) more u)))) (λ q. loud_fails span no_target)
 
     other_never : (k : Known) (span : Span) (target mark : ExprTree) (e : Option ExprTree) → (annotates_other C k span target mark e).got ≡ None
     other_never k span target mark None = no_part (both (target_aims C k target) (annotation C.meaning mark)).got span no_target
-    other_never k span target mark (Some e) = no_part (both (both (target_aims C k target) (annotation C.meaning mark)) (typed_at C k free e)).got span no_target
+    other_never k span target mark (Some e) = no_part (both (both (target_aims C k target) (annotation C.meaning mark)) (value_for C k target e)).got span no_target
 
     loud_annotates : (k : Known) → AllTyped k.types → (span : Span) (x : Option (List ℕ)) (target mark : ExprTree) (e : Option ExprTree) → AreKnown C.meaning (target_sights target ++ (reads Annotation mark ++ maybe_reads Value e)) → IsLoud (annotates C k span x target mark e)
     loud_annotates k all span None target mark e u = loud_other k all span target mark e u
