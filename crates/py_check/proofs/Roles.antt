@@ -15,7 +15,7 @@ use Rattle.py_binder.specs.Scope.{contains, is_builtin, bound_there, said_there,
 use Rattle.py_check_context.specs.declared.scope.Meaning.{Meaning}
 use Rattle.py_check_context.specs.declared.scope.Meaning.TheVariants as meaning
 use Rattle.py_check_names.specs.Outline.{suite_definitions}
-use Rattle.py_check_names.specs.Meanings.{own_names, by_role, meaning_in}
+use Rattle.py_check_names.specs.Meanings.{number, own_names, by_role, meaning_in}
 use Rattle.py_typed.proofs.FitLemmas.{and_left, and_right}
 use Rattle.py_check.proofs.Sights.{roles_given, suite_gives}
 use Rattle.py_check.proofs.NameRows.{same_text}

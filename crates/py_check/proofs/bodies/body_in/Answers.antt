@@ -14,6 +14,6 @@ use Rattle.py_check.proofs.bodies.body_in.Goals as goal
 pub returns-clause-told : goal.returns-clause-told
 returns-clause-told c =
     let f = headed_parts c.args.f.now in
-    let P : ReturnSort → Known → Type 0 = λ r k. IfOk c.block.result (λ t. Tells (map typed_stmt) t c.args.faults.now c.block.new.faults (block (context c.args.scope.now) r nothing_around k (body_tree c.as_slice.result.now))) in
+    let P : ReturnSort → Known → Type 0 = λ r k. IfOk c.block.result (λ t. Tells (map typed_stmt) t c.args.faults.now c.block.new.faults (block (context c.args.scope.now) r nothing_around k (body_tree c.as_slice-body.result.now))) in
     let Q : Suite → Type 0 = λ b. IfOk c.block.result (λ t. Tells (map typed_stmt) t c.args.faults.now c.block.new.faults (block (context c.args.scope.now) (return_of f.header.ret) nothing_around (function_start (context c.args.scope.now) c.args.variables.now.keys (known_at c.args.place.now).types.globals f) b)) in
-    subst Q (ap body_tree c.as_slice.ensures) (subst₂ P c.returns_of.ensures c.in_ok-begin.ensures c.block.ensures.told)
+    subst Q (ap body_tree c.as_slice-body.ensures) (subst₂ P c.returns_of.ensures c.in_ok-begin.ensures c.block.ensures.told)
