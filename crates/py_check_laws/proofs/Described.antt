@@ -55,7 +55,7 @@ use Rattle.py_check_laws.proofs.Modules as whole
 use Rattle.py_check_laws.proofs.Modules.{nothing_placed, BodyTyped, body_typed}
 use Rattle.py_check_laws.proofs.Varied as vary
 use Rattle.py_check_laws.proofs.Varied.{mapped_at, set_by}
-use Rattle.py_check_laws.proofs.Lasting.{body_lasts}
+use Rattle.py_check.proofs.Bindings.{all_fixed, body_keeps}
 
 -- ---- rows of variables
 
@@ -381,7 +381,7 @@ module _ (m : Suite) (nothing : said m ≡ []) where
   final_is = declared_has gs e.variables (vary.top_size m nothing)
 
   pub final_behind : (f : Headed) (i : ℕ) (t : Sort) → var_at (body_after (context_in e f.inside) e.variables gs f).types.globals i ≡ has t → declared tree.globals i ≡ Some t
-  final_behind f i t h = final_is i t (sym (ap (λ (l : List VarSort). var_at l i) (body_lasts m nothing f)) ∙ h)
+  final_behind f i t h = final_is i t (sym (ap (λ (l : List VarSort). var_at l i) (body_keeps (context_in e f.inside) e.variables gs f (all_fixed e m refl))) ∙ h)
 
   top_declared : AreDeclared tree [] top_last.types
   top_declared = record {

@@ -154,7 +154,7 @@ module _ (C : Context) (n : ℕ) where
       by : (b : Bool) → is_row target ≡ b → BoundTo C.classes b l t → Valued n (bind_target C true k target (Some t)).types
       by false q r =
           subst (λ (z : Known). Valued n z.types) (sym (single_bound C true k target (Some t) q))
-          (name_valued k v target (name_in target) r.0 (aims_single k target l r.0 looked.parts r.1 (Rattle.py_check_laws.proofs.Assigned.leaves_one target q) looked.aims) t r.2 value)
+          (name_valued k v target (name_in target) r.0 (aims_single k target l r.0 looked.parts r.1 (Rattle.py_check.proofs.Bound.leaves_one target q) looked.aims) t r.2 value)
       by true q r =
           let i = items_are t (length l) r.parts r.items in
           subst (λ (z : Known). Valued n z.types) (sym (row_bound C true k target t r.parts q (ap (items_for t) (sym looked.many) ∙ r.items)))
