@@ -1,0 +1,4 @@
+pub mod Names
+pub mod Clashes
+pub mod Tables
+pub mod Views
