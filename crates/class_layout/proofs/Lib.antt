@@ -1,2 +1,6 @@
 pub mod MergeLemmas
 pub mod OrderLemmas
+pub mod LawLemmas
+pub mod KindLemmas
+pub mod LayoutLemmas
+pub mod WellTypedLemmas

@@ -109,7 +109,7 @@ module _ (classes : List ClassEntry) (falls : (c : ℕ) → bases_fall classes c
 
 -- ---- the orders of declared classes
 
-as_many : (infos : List ClassInfo) → length (map class_entry infos) ≡ length infos
+pub as_many : (infos : List ClassInfo) → length (map class_entry infos) ≡ length infos
 as_many [] = refl
 as_many (i ∷ infos) = ap suc (as_many infos)
 
@@ -137,39 +137,46 @@ all_ordered infos orders n p q each =
       each = λ c l. each c (omega (arith, l, p, q, many));
     }
 
-pub one_longer : (orders : List (List ℕ)) (row : List ℕ) → length (orders ++ row ∷ []) ≡ suc (length orders)
-one_longer [] row = refl
-one_longer (o ∷ orders) row = ap suc (one_longer orders row)
+-- ---- one more behind a list
 
-get_before : (orders : List (List ℕ)) (row : List ℕ) (c : ℕ) → c < length orders → slice_get (orders ++ row ∷ []) c ≡ slice_get orders c
-get_before [] row c l = absurd (omega (arith, l))
-get_before (o ∷ orders) row zero l = refl
-get_before (o ∷ orders) row (suc c) l = get_before orders row c (omega (arith, l))
+pub one_longer : {A : Type 0} (xs : List A) (x : A) → length (xs ++ x ∷ []) ≡ suc (length xs)
+one_longer [] x = refl
+one_longer (y ∷ xs) x = ap suc (one_longer xs x)
 
-get_at : (orders : List (List ℕ)) (row : List ℕ) (c : ℕ) → c ≡ length orders → slice_get (orders ++ row ∷ []) c ≡ Some row
-get_at [] row zero l = refl
-get_at [] row (suc c) l = absurd (omega (arith, l))
-get_at (o ∷ orders) row zero l = absurd (omega (arith, l))
-get_at (o ∷ orders) row (suc c) l = get_at orders row c (omega (arith, l))
+get_before : {A : Type 0} (xs : List A) (x : A) (c : ℕ) → c < length xs → slice_get (xs ++ x ∷ []) c ≡ slice_get xs c
+get_before [] x c l = absurd (omega (arith, l))
+get_before (y ∷ xs) x zero l = refl
+get_before (y ∷ xs) x (suc c) l = get_before xs x c (omega (arith, l))
 
-pub each_more : (f : ℕ → Option (List ℕ)) (orders : List (List ℕ)) (row : List ℕ) → ((c : ℕ) → c < length orders → slice_get orders c ≡ f c) → f (length orders) ≡ Some row
-    → (c : ℕ) → c < length (orders ++ row ∷ []) → slice_get (orders ++ row ∷ []) c ≡ f c
-each_more f orders row each e c l = by (nat_lt c (length orders)) refl
+get_at : {A : Type 0} (xs : List A) (x : A) (c : ℕ) → c ≡ length xs → slice_get (xs ++ x ∷ []) c ≡ Some x
+get_at [] x zero l = refl
+get_at [] x (suc c) l = absurd (omega (arith, l))
+get_at (y ∷ xs) x zero l = absurd (omega (arith, l))
+get_at (y ∷ xs) x (suc c) l = get_at xs x c (omega (arith, l))
+
+-- what is seen of each element, and of the one behind them
+each_more : {A B : Type 0} (view : Option A → B) (f : ℕ → B) (xs : List A) (x : A) → ((c : ℕ) → c < length xs → view (slice_get xs c) ≡ f c) → view (Some x) ≡ f (length xs)
+    → (c : ℕ) → c < length (xs ++ x ∷ []) → view (slice_get (xs ++ x ∷ []) c) ≡ f c
+each_more {A = A} {B = B} view f xs x each e c l = by (nat_lt c (length xs)) refl
   where
-    by : (b : Bool) → nat_lt c (length orders) ≡ b → slice_get (orders ++ row ∷ []) c ≡ f c
-    by true p = let less : c < length orders = ltb-true c (length orders) p in get_before orders row c less ∙ each c less
+    by : (b : Bool) → nat_lt c (length xs) ≡ b → view (slice_get (xs ++ x ∷ []) c) ≡ f c
+    by true p = let less : c < length xs = ltb-true c (length xs) p in ap view (get_before xs x c less) ∙ each c less
     by false p =
-        let longer = one_longer orders row in
-        let same : c ≡ length orders = grind (arith, nat_tests, p, l, longer) in
-        get_at orders row c same ∙ sym e ∙ ap f (sym same)
+        let longer = one_longer xs x in
+        let same : c ≡ length xs = grind (arith, nat_tests, p, l, longer) in
+        ap view (get_at xs x c same) ∙ e ∙ ap f (sym same)
+
+pub next_each : {A B : Type 0} (view : Option A → B) (f : ℕ → B) (xs xs' : List A) (x : A) (n : ℕ) → xs' ≡ xs ++ x ∷ [] → n ≡ length xs
+    → ((c : ℕ) → c < length xs → view (slice_get xs c) ≡ f c) → view (Some x) ≡ f n → (n + 1 ≡ length xs') × ((c : ℕ) → c < length xs' → view (slice_get xs' c) ≡ f c)
+next_each view f xs xs' x n p q each e =
+    let longer = one_longer xs x in
+    let long = ap length p in (
+      omega (arith, longer, long, q),
+      λ c l. ap (λ z. view (slice_get z c)) p ∙ each_more view f xs x each (e ∙ ap f q) c (subst (λ z. c < length z) p l),
+    )
 
 -- one class more
 pub step : (infos : List ClassInfo) (orders orders' : List (List ℕ)) (row : List ℕ) (n : ℕ) → orders' ≡ orders ++ row ∷ [] → n ≡ length orders
     → ((c : ℕ) → c < length orders → slice_get orders c ≡ order (map class_entry infos) c) → order (map class_entry infos) n ≡ Some row
     → (n + 1 ≡ length orders') × ((c : ℕ) → c < length orders' → slice_get orders' c ≡ order (map class_entry infos) c)
-step infos orders orders' row n p q each e =
-    let longer = one_longer orders row in
-    let long = ap length p in (
-      omega (arith, longer, long, q),
-      λ c l. ap (λ x. slice_get x c) p ∙ each_more (order (map class_entry infos)) orders row each (ap (order (map class_entry infos)) (sym q) ∙ e) c (subst (λ x. c < length x) p l),
-    )
+step infos orders orders' row n p q each e = next_each (λ o. o) (order (map class_entry infos)) orders orders' row n p q each (sym e)

@@ -1,2 +1,4 @@
 pub mod Merging
 pub mod Orders
+pub mod Layouts
+pub mod Laws

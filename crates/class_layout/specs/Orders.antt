@@ -3,7 +3,7 @@ use Rattle.std.specs.Prelude.{◌≡◌, ℕ, ◌<◌, true, List, [], ◌∷◌
 use Rattle.py_typed.specs.Classes.{ClassEntry}
 use Rattle.py_typed.specs.Order.{merge, order, listed_order}
 use Rattle.class_layout.specs.declared.layout_error.LayoutError.{LayoutError}
-use Rattle.class_layout.specs.declared.layout_error.LayoutError.TheVariants.{NoOrder, Memory}
+use Rattle.class_layout.specs.declared.layout_error.LayoutError.TheVariants.{NoOrder, Clash, Memory}
 use Rattle.class_layout.specs.Merging.{behind}
 
 -- the rows that are merged for a class with these bases: their orders, and the row of them
@@ -20,6 +20,10 @@ pub record IsFirstWithout (classes : List ClassEntry) (c : ℕ) : Type 0 where
   pub before : (b : ℕ) → b < c → is_some (order classes b) ≡ true
 
 -- each class has an order
+abbrev pub AllHaveOrders : List ClassEntry → Type 0
+AllHaveOrders classes = (c : ℕ) → c < length classes → is_some (order classes c) ≡ true
+
+-- the orders of all classes, by their numbers
 pub record AreOrders (classes : List ClassEntry) (orders : List (List ℕ)) : Type 0 where
   pub long : length orders ≡ length classes
   pub each : (c : ℕ) → c < length classes → slice_get orders c ≡ order classes c
@@ -28,4 +32,5 @@ pub record AreOrders (classes : List ClassEntry) (orders : List (List ℕ)) : Ty
 abbrev pub IsOrdered : List ClassEntry → Result (List (List ℕ)) LayoutError → Type 0
 IsOrdered classes (Ok orders) = AreOrders classes orders
 IsOrdered classes (Err (NoOrder c)) = IsFirstWithout classes c
+IsOrdered classes (Err (Clash c name)) = ⊥
 IsOrdered classes (Err Memory) = Unit {0}

@@ -3,7 +3,7 @@ ghost use Rattle.std.specs.Prelude.{◌≡◌};
 
 use std::alloc::{AllocError, AllocFailed};
 use thiserror::Error;
-use value_core::Memory;
+use value_core::{Memory, Name};
 
 /// Why classes have no layout.
 #[derive(Error, Debug, Drop)]
@@ -11,6 +11,10 @@ pub enum LayoutError {
     /// The first class, by its number, whose bases stand in no order (C3).
     #[error("class {0} has no order of bases")]
     NoOrder(usize),
+    /// The first class, by its number, with a member of which not all definitions along its order are as the first, and its first such
+    /// member.
+    #[error("class {0} has definitions of {1} that differ")]
+    Clash(usize, Name),
     /// Want of memory.
     #[error("out of memory")]
     Memory,

@@ -1,8 +1,9 @@
 //! The orders of all classes (C3).
-ghost use Rattle.std.specs.Prelude.{◌≡◌, ◌<◌, true, ℕ, IfOk, map, length, slice_get};
-ghost use Rattle.py_typed.specs.Classes.{class_entry, bases_of, bases_fall};
+ghost use Rattle.std.specs.Prelude.{◌≡◌, ◌<◌, ◌∷◌, true, ℕ, IfOk, IfSome, map, length, slice_get};
+ghost use Rattle.py_typed.specs.Classes.{class_entry, bases_of, bases_fall as falls};
+ghost use Rattle.py_typed.specs.Laws.{IsClassTree};
 ghost use Rattle.py_typed.specs.Order as order;
-ghost use Rattle.class_layout.specs.Merging.{rows_of, are_below, behind};
+ghost use Rattle.class_layout.specs.Merging.{rows_of, is_below, are_below, behind};
 ghost use Rattle.class_layout.specs.Orders.{rows_above, order_from, IsOrdered};
 
 use crate::layout_error::LayoutError;
@@ -17,7 +18,7 @@ use value_core::{Many, Memory};
 ///
 /// `NoOrder` exactly where a class has no order, with the first such class; else `Memory`.
 pub fn orders(alloc: Global, classes: &[ClassInfo]) -> Result<Many<Many<usize>>, LayoutError>
-    requires { (c : ℕ) → bases_fall (map class_entry classes.now) c ≡ true }
+    requires { (c : ℕ) → falls (map class_entry classes.now) c ≡ true }
     ensures { IsOrdered (map class_entry classes.now) result }
 {
     let mut orders = Many::new(alloc);
@@ -30,6 +31,31 @@ pub fn orders(alloc: Global, classes: &[ClassInfo]) -> Result<Many<Many<usize>>,
     Ok(orders)
 }
 
+/// Whether each base has a smaller number than its class, as `orders` and `layout` ask. A class that is its own base has not.
+pub fn bases_fall(classes: &[ClassInfo]) -> bool
+    ensures holds { result ≡ true → IsClassTree (map class_entry classes.now) }
+    ensures complete { IsClassTree (map class_entry classes.now) → result ≡ true }
+{
+    for number in 0..classes.len() {
+        if !is_row_below(bases_at(classes, number), number) {
+            return false;
+        }
+    }
+    true
+}
+
+/// Whether all numbers of a row are below another one.
+fn is_row_below(row: &[usize], count: usize) -> bool
+    ensures { result ≡ is_below count row.now }
+{
+    for number in row {
+        if *number >= count {
+            return false;
+        }
+    }
+    true
+}
+
 /// The order of the next class, from those of the classes before it.
 fn next_order(
     alloc: Global,
@@ -37,7 +63,7 @@ fn next_order(
     orders: &Many<Many<usize>>,
     number: usize,
 ) -> Result<Option<Many<usize>>, Memory>
-    requires falls { (c : ℕ) → bases_fall (map class_entry classes.now) c ≡ true }
+    requires falls { (c : ℕ) → falls (map class_entry classes.now) c ≡ true }
     requires known { (c : ℕ) → c < length orders.now → slice_get orders.now c ≡ order.order (map class_entry classes.now) c }
     requires counted { number ≡ length orders.now }
     ensures { IfOk result (λ row. row ≡ order.order (map class_entry classes.now) number) }
@@ -45,9 +71,9 @@ fn next_order(
     order_of(alloc, number, bases_at(classes, number), orders)
 }
 
-/// The bases of the class of a number.
+/// The bases of the class of a number: none where there is no such class.
 #[tactic(auto, using(py_typed::proofs::TypeLemmas::entry_found))]
-fn bases_at(classes: &[ClassInfo], number: usize) -> &[usize]
+pub(crate) fn bases_at(classes: &[ClassInfo], number: usize) -> &[usize]
     ensures { result.now ≡ bases_of (map class_entry classes.now) number }
 {
     match classes.get(number) {
@@ -88,7 +114,32 @@ fn rows_to_merge<'a>(
     Ok(rows)
 }
 
-fn order_at(orders: &Many<Many<usize>>, class: usize) -> &[usize]
+/// A class that stands in front of the order of its first base.
+#[derive(Clone, Copy)]
+pub(crate) struct OverBase {
+    pub(crate) class: usize,
+    pub(crate) base: usize,
+}
+
+/// The class at the head of an order, where the order is that class in front of the order of the first base.
+pub(crate) fn front(orders: &Many<Many<usize>>, bases: &[usize], number: usize) -> Option<OverBase>
+    ensures order { IfSome result (λ f. order.listed_order (slice_get orders.now number) ≡ f.class ∷ order.listed_order (slice_get orders.now f.base)) }
+    ensures below { IfSome result (λ f. f.base < number) }
+{
+    let base = *bases.first()?;
+    let (class, rest) = order_at(orders, number).split_first()?;
+    if base < number && rest == order_at(orders, base) {
+        Some(OverBase {
+            class: *class,
+            base,
+        })
+    } else {
+        None
+    }
+}
+
+/// The order of a class: empty where there is no such class.
+pub(crate) fn order_at(orders: &Many<Many<usize>>, class: usize) -> &[usize]
     ensures { result.now ≡ order.listed_order (slice_get orders.now class) }
 {
     match orders.get(class) {
