@@ -1,13 +1,13 @@
 -- Where no definitions differ, the first method of a name along an order is the first member of that name, or that is no method.
-use Rattle.std.proofs.Common.{◌≡◌, ℕ, Bool, true, false, not, cond, ◌&&◌, List, [], ◌∷◌, ◌++◌, map, Option, Some, None, option_map, option_and_then, slice_get, refl, sym, ap, ap₂, subst, ◌∙◌}
+use Rattle.std.proofs.Common.{◌≡◌, ℕ, Bool, true, false, not, cond, ◌&&◌, List, [], ◌∷◌, map, Option, Some, None, option_map, option_and_then, slice_get, refl, sym, ap, ap₂, subst, ◌∙◌}
 use Rattle.std.specs.List.{list_all}
 use Rattle.std.specs.Map.{lookup}
 use Rattle.std.specs.Option.{option_or}
 use Rattle.std.specs.Str.{bytes_eq}
 use Rattle.std.proofs.lemmas.List.Folds.{list_all-append}
 use Rattle.py_typed.specs.Sorts.{Sort}
-use Rattle.py_typed.specs.Classes.{ClassEntry, ClassTable, Signature}
-use Rattle.py_typed.specs.Order.{Member, AttributeMember, MethodMember, named, first_there, own_method, own_attribute, own_attributes, own_member, method_along}
+use Rattle.py_typed.specs.Classes.{ClassEntry, ClassTable}
+use Rattle.py_typed.specs.Order.{AttributeMember, MethodMember, named, first_there, own_method, own_attribute, own_attributes, own_member, method_along}
 use Rattle.py_typed.proofs.FitLemmas.{and_left, and_right}
 use Rattle.class_layout_members.specs.Names.{own_methods}
 use Rattle.class_layout_members.specs.Clashes.{Definition, OfType, OfSignature, is_other, none_other, clash_among, own_members, members_along}

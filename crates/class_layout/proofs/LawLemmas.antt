@@ -1,18 +1,17 @@
 -- What holds of the places of attributes and methods, from the orders of classes.
-use Rattle.std.proofs.Common.{◌≡◌, ℕ, ◌<◌, suc, Bool, true, false, cond, ◌||◌, ◌&&◌, ◌==◌, List, [], ◌∷◌, map, length, slice_get, Option, Some, None, is_some, option_map, option_and_then, refl, sym, ap, ap₂, subst, ◌∙◌, ◌⊎◌, inl, inr, le_refl, eq-eqb}
+use Rattle.std.proofs.Common.{◌≡◌, ℕ, ◌<◌, suc, Bool, true, false, cond, ◌||◌, ◌&&◌, ◌==◌, List, [], ◌∷◌, length, slice_get, Option, Some, None, is_some, option_map, option_and_then, refl, sym, ap, ap₂, subst, ◌∙◌, ◌⊎◌, inl, inr, le_refl, eq-eqb}
 use Rattle.std.specs.List.{list_any, list_all}
 use Rattle.std.specs.Map.{lookup}
 use Rattle.std.specs.Option.{option_or}
 use Rattle.std.specs.Str.{bytes_eq}
 use Rattle.std.proofs.lemmas.Bool.{eqb-true}
 use Rattle.std.proofs.lemmas.Option.{slice_get-map}
-use Rattle.py_typed.specs.Sorts.{Sort}
 use Rattle.py_typed.specs.Classes.{ClassEntry, has_class, is_class_under}
 use Rattle.py_typed.specs.Laws.{IsClassTree}
 use Rattle.py_typed.specs.Order.{named, first_there, order, listed_order, own_method, own_attribute, own_attributes, method_of, attribute_of, place_in, attributes}
 use Rattle.py_typed.proofs.ClassLemmas.{or_cases, or_left, or_right, under_on}
 use Rattle.source_soundness.proofs.Linear.{order_under, order_has}
-use Rattle.class_layout_members.specs.Names.{names_in, place_of, own_methods, own_attribute_names, own_method_names, attribute_names, method_names, IsNumbered, TraitsStand}
+use Rattle.class_layout_members.specs.Names.{names_in, place_of, own_methods, own_attribute_names, own_method_names, attribute_names, method_names, IsNumbered}
 use Rattle.class_layout_members.proofs.RowLemmas.{has, itself, place_there, at_place}
 use Rattle.class_layout_members.proofs.FirstLemmas.{named_is, own_method_is}
 use Rattle.class_layout_members.proofs.NameLemmas.{names, has_of_above, has_of_own, numbered, place_stays}

@@ -14,10 +14,10 @@ use Rattle.py_typed.specs.Classes.{ClassEntry, ClassTable, class_entry, bases_in
 use Rattle.py_typed.specs.declared.classes.ClassInfo.{ClassInfo}
 use Rattle.py_typed.specs.declared.types.Ty.{Ty}
 use Rattle.py_typed.specs.Laws.{IsClassTree}
-use Rattle.py_typed.specs.Order.{place_in, attributes, own_attributes, order, listed_order, own_method, method_along, member_of, method_of}
-use Rattle.class_layout_members.specs.Names.{names_in, place_of, own_methods, own_attribute_names, own_method_names, names_by, attribute_names, method_names}
-use Rattle.class_layout_members.specs.Clashes.{Definition, clash_among, members_along, clash_of, AllAgreeAlong}
-use Rattle.class_layout_members.specs.Tables.{keys_in, names_at, function_at, found_or_above}
+use Rattle.py_typed.specs.Order.{own_attributes, order, listed_order, own_method, method_along, member_of, method_of}
+use Rattle.class_layout_members.specs.Names.{names_in, place_of, own_methods, own_attribute_names, own_method_names, attribute_names, method_names}
+use Rattle.class_layout_members.specs.Clashes.{clash_among, members_along, clash_of, AllAgreeAlong}
+use Rattle.class_layout_members.specs.Tables.{names_at, function_at, found_or_above}
 use Rattle.class_layout_members.specs.Views.{definitions_in}
 use Rattle.class_layout_members.specs.declared.member.Definition.{Definition as CodeDefinition}
 use Rattle.indexmap.specs.IndexMap.{IndexMap}
@@ -194,15 +194,6 @@ pub only_memory : (table : ClassTable) (e : LayoutError) → e ≡ Memory → Is
 only_memory table (NoOrder c) h = absurd (cc)
 only_memory table (Clash c name) h = absurd (cc)
 only_memory table Memory h = tt
-
--- ---- classes one after the other, of which none has a clash
-
-pub next_agrees : (table : ClassTable) (n : ℕ) → ((c : ℕ) → c < n → clash_of table c ≡ None) → None ≡ clash_of table n → (c : ℕ) → c < n + 1 → clash_of table c ≡ None
-next_agrees table n before e c l = by (nat_lt c n) refl
-  where
-    by : (b : Bool) → nat_lt c n ≡ b → clash_of table c ≡ None
-    by true p = before c (ltb-true c n p)
-    by false p = let same : c ≡ n = grind (arith, nat_tests, p, l) in ap (clash_of table) same ∙ sym e
 
 -- ---- what is known of each class of a list
 

@@ -1,11 +1,10 @@
 -- The order of a class from the orders of its bases.
-use Rattle.std.proofs.Common.{◌≡◌, ℕ, zero, suc, ◌+◌, ◌<◌, ◌≤◌, Bool, true, false, ◌&&◌, ◌==◌, nat_lt, List, [], ◌∷◌, ◌++◌, length, map, slice_get, Option, Some, None, is_some, refl, sym, ap, subst, ◌∙◌, ◌⊎◌, inl, inr, arith}
+use Rattle.std.proofs.Common.{◌≡◌, ℕ, zero, suc, ◌+◌, ◌<◌, ◌≤◌, Bool, true, false, ◌&&◌, ◌==◌, nat_lt, List, [], ◌∷◌, ◌++◌, length, map, slice_get, Option, Some, None, is_some, refl, sym, ap, subst, ◌∙◌, arith}
 use Rattle.std.specs.List.{list_all}
 use Rattle.std.specs.Option.{option_map, option_and_then}
 use Rattle.std.proofs.lemmas.Bool.{ltb-true, eq-eqb}
 use Rattle.std.proofs.lemmas.Bool.Decides.{nat_tests}
 use Rattle.py_typed.specs.Classes.{ClassEntry, class_entry, bases_of, bases_fall, has_class, is_class_under}
-use Rattle.py_typed.specs.Laws.{IsClassTree}
 use Rattle.py_typed.specs.Order.{all_there, merge, order_by, order, listed_order}
 use Rattle.py_typed.proofs.FitLemmas.{and_left, and_right}
 use Rattle.py_typed.proofs.ClassLemmas.{choose, under_falls, or_left, or_right}

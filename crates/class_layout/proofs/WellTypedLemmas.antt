@@ -1,8 +1,7 @@
 -- The classes of a well-typed module: each has an order, all definitions of a member along it agree, and traits stand behind the first base.
-use Rattle.std.proofs.Common.{◌≡◌, ℕ, zero, suc, ◌<◌, Bool, true, false, not, ◌||◌, ◌&&◌, ◌==◌, if◌then◌else◌, List, [], ◌∷◌, ◌++◌, map, drop, length, Option, Some, None, is_some, slice_get, Result, Ok, Err, refl, sym, ap, ap₂, subst, ◌∙◌, ◌⊎◌, inl, inr, eq-eqb, arith, codes}
+use Rattle.std.proofs.Common.{◌≡◌, ℕ, zero, suc, ◌<◌, Bool, true, false, not, ◌||◌, ◌&&◌, ◌==◌, if◌then◌else◌, List, [], ◌∷◌, map, drop, length, Option, Some, None, is_some, slice_get, Result, Ok, Err, refl, sym, ap, ap₂, subst, ◌∙◌, ◌⊎◌, inl, inr, eq-eqb, arith}
 use Rattle.std.specs.List.{list_all}
 use Rattle.std.specs.Map.{lookup}
-use Rattle.std.specs.Option.{option_or}
 use Rattle.std.specs.Str.{bytes_eq}
 use Rattle.std.proofs.lemmas.List.Folds.{list_all-append}
 use Rattle.std.proofs.lemmas.Option.{same_Some}
@@ -12,14 +11,13 @@ use Rattle.py_typed.specs.Fits.{is_same_type, are_same_types}
 use Rattle.py_typed.specs.Order.{order, listed_order, own_method, own_attribute, own_attributes}
 use Rattle.py_typed.specs.Statements.{TypedModule}
 use Rattle.py_typed.specs.WellTypedExpr.{is_trait_in}
-use Rattle.py_typed.specs.WellTypedModule.{is_well_typed, same_row, same_signature, agrees_with_method, agrees_with_attribute, methods_agree, attributes_agree, members_agree, bases_typed, has_order}
+use Rattle.py_typed.specs.WellTypedModule.{is_well_typed, same_row, same_signature, agrees_with_method, agrees_with_attribute, methods_agree, attributes_agree, members_agree, has_order}
 use Rattle.py_typed.proofs.FitLemmas.{and_left, and_right, one_type}
 use Rattle.py_typed.proofs.ClassLemmas.{or_cases, or_left, or_right}
 use Rattle.source_soundness.proofs.Members.{of_class, class_parts, tree_is}
 use Rattle.class_layout_members.specs.Names.{names_in, own_methods, bases_fit}
 use Rattle.class_layout_members.specs.Clashes.{Definition, OfType, OfSignature, is_same_signature, is_init, is_other, none_other, own_members, members_along, clash_among}
 use Rattle.class_layout_members.proofs.RowLemmas.{same, itself, has}
-use Rattle.class_layout_members.proofs.FirstLemmas.{own_method_is}
 use Rattle.class_layout_members.proofs.AgreementLemmas.{first_in, one_row, no_clash}
 use Rattle.class_layout.proofs.KindLemmas.{own_attribute_is, along_said}
 use Rattle.class_layout.specs.Layouts.{IsLayout, IsNotRefused, HasWhereWellTyped}

@@ -1,5 +1,5 @@
 -- What holds of the places of attributes and methods in any tree of classes.
-use Rattle.std.specs.Prelude.{◌≡◌, ℕ, Bool, true, false, List, map, length, Option, Some, None, is_some, slice_get}
+use Rattle.std.specs.Prelude.{◌≡◌, ℕ, Bool, true, false, List, map, length, Option, Some, is_some, slice_get}
 use Rattle.std.specs.List.{list_all}
 use Rattle.py_typed.specs.Classes.{ClassEntry, ClassTable, is_class_under}
 use Rattle.py_typed.specs.WellTypedExpr.{is_trait_in}

@@ -1,4 +1,4 @@
-use Rattle.std.proofs.Common.{◌≡◌, ◌<◌, ◌∙◌, ap, sym, subst, ℕ, List, Some, map, length, arith}
+use Rattle.std.proofs.Common.{◌≡◌, ◌∙◌, ap, sym, subst, Some, map, length, arith}
 use Rattle.py_typed.specs.Classes.{class_entry}
 use Rattle.py_typed.specs.Order.{method_of}
 use Rattle.class_layout_members.specs.Names.{method_names}

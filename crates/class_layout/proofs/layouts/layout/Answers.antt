@@ -1,5 +1,5 @@
-use Rattle.std.proofs.Common.{◌≡◌, ◌<◌, ℕ, Some, Err, true, map, length, sym, subst}
-use Rattle.py_typed.specs.Classes.{class_entry, bases_fall}
+use Rattle.std.proofs.Common.{◌≡◌, ◌<◌, ℕ, Some, Err, map, length, subst}
+use Rattle.py_typed.specs.Classes.{class_entry}
 use Rattle.py_typed.specs.ClassTables.{class_table}
 use Rattle.py_typed.specs.Laws.{IsClassTree}
 use Rattle.py_typed.specs.Order.{method_of, order, listed_order}

@@ -1,4 +1,4 @@
-use Rattle.std.proofs.Common.{◌∷◌, [], ◌∙◌, Some, ap, map, length, slice_get, option_copied}
+use Rattle.std.proofs.Common.{[], ◌∙◌, Some, ap, map, length, option_copied}
 use Rattle.std.specs.Str.{bytes_eq}
 use Rattle.indexmap.specs.IndexMap.{get}
 use Rattle.class_layout_members.specs.Tables.{keys_in, names_at, found_or_above}

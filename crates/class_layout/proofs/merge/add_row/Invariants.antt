@@ -1,7 +1,5 @@
-use Rattle.std.proofs.Common.{◌≡◌, ◌+◌, ◌-◌, ◌++◌, true, ℕ, map, find, length, get_or, drop, take}
-use Rattle.py_typed.specs.Order as order
-use Rattle.py_typed.specs.Order.{is_free, heads, headless}
-use Rattle.class_layout.specs.Merging.{has_first, next, rows_of, entries, times, times_behind, is_below, are_below, behind}
+use Rattle.std.proofs.Common.{◌≡◌, ◌+◌, true, ℕ, length, get_or, drop}
+use Rattle.class_layout.specs.Merging.{times, is_below}
 use Rattle.class_layout.proofs.merge.add_row.Given as goal
 
 abbrev pub invariant-loop-class : goal.invariant-loop-class

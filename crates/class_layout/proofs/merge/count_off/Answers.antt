@@ -1,4 +1,4 @@
-use Rattle.std.proofs.Common.{◌≡◌, ◌∙◌, ◌+◌, ◌<◌, [], ap, sym, map, length, get_or, drop, List, ℕ, arith}
+use Rattle.std.proofs.Common.{◌∙◌, ◌+◌, ◌<◌, [], ap, sym, map, length, get_or, drop, List, ℕ, arith}
 use Rattle.py_typed.specs.Order.{headless}
 use Rattle.class_layout.specs.Merging.{rows_of, times_behind}
 use Rattle.class_layout.proofs.MergeLemmas.{rows_from, is_counted}

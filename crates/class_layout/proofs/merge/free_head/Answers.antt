@@ -1,6 +1,4 @@
-use Rattle.std.proofs.Common.{◌≡◌, ◌∙◌, ◌<◌, ◌+◌, [], sym, take, length, get_or, drop, Option, None, List, ℕ, arith}
-use Rattle.std.specs.Borrow.{Bor}
-use Rattle.py_typed.specs.Order.{is_free, heads}
+use Rattle.std.proofs.Common.{◌∙◌, ◌<◌, ◌+◌, [], sym, take, length, get_or, drop, List, ℕ, arith}
 use Rattle.class_layout.specs.Merging.{rows_of}
 use Rattle.class_layout.proofs.MergeLemmas.{rows_from, found_here, not_here, unmet_is_free}
 use Rattle.class_layout.proofs.merge.free_head.Goals as goal

@@ -1,7 +1,7 @@
-use Rattle.std.proofs.Common.{◌≡◌, ◌+◌, ◌-◌, ◌++◌, true, ℕ, map, find, length, get_or, drop, take}
+use Rattle.std.proofs.Common.{◌≡◌, ◌-◌, ℕ, get_or}
 use Rattle.py_typed.specs.Order as order
 use Rattle.py_typed.specs.Order.{is_free, heads, headless}
-use Rattle.class_layout.specs.Merging.{has_first, next, rows_of, entries, times, times_behind, is_below, are_below, behind}
+use Rattle.class_layout.specs.Merging.{rows_of, times_behind, behind}
 use Rattle.class_layout.proofs.merge.merge.Given as goal
 
 abbrev pub invariant-loop : goal.invariant-loop

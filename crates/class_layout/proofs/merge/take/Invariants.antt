@@ -1,7 +1,6 @@
-use Rattle.std.proofs.Common.{◌≡◌, ◌+◌, ◌-◌, ◌++◌, true, ℕ, map, find, length, get_or, drop, take}
-use Rattle.py_typed.specs.Order as order
-use Rattle.py_typed.specs.Order.{is_free, heads, headless}
-use Rattle.class_layout.specs.Merging.{has_first, next, rows_of, entries, times, times_behind, is_below, are_below, behind}
+use Rattle.std.proofs.Common.{◌≡◌, ◌++◌, map, drop, take}
+use Rattle.py_typed.specs.Order.{headless}
+use Rattle.class_layout.specs.Merging.{rows_of}
 use Rattle.class_layout.proofs.merge.take.Given as goal
 
 abbrev pub invariant-loop-row : goal.invariant-loop-row

@@ -1,7 +1,4 @@
-use Rattle.std.proofs.Common.{◌≡◌, ◌+◌, ◌-◌, ◌++◌, true, ℕ, map, find, length, get_or, drop, take}
-use Rattle.py_typed.specs.Order as order
-use Rattle.py_typed.specs.Order.{is_free, heads, headless}
-use Rattle.class_layout.specs.Merging.{has_first, next, rows_of, entries, times, times_behind, is_below, are_below, behind}
+use Rattle.std.proofs.Common.{◌≡◌, ℕ, length, get_or}
 use Rattle.class_layout.proofs.merge.zeros.Given as goal
 
 abbrev pub invariant-loop : goal.invariant-loop

@@ -1,5 +1,5 @@
 use Rattle.std.proofs.Common.{rules, ◌≡◌, ◌∙◌, true, false, map, refl, sym, ap, arith}
-use Rattle.py_typed.specs.Classes.{class_entry, bases_fall}
+use Rattle.py_typed.specs.Classes.{class_entry}
 use Rattle.class_layout.specs.Merging.{is_below}
 use Rattle.class_layout.proofs.LayoutLemmas.{next_falls, all_fall}
 use Rattle.class_layout.proofs.order.bases_fall.Goals as goal

@@ -1,4 +1,4 @@
-use Rattle.std.proofs.Common.{◌≡◌, ◌+◌, ◌∙◌, ◌++◌, true, Some, None, map, drop, is_some, sym, ap}
+use Rattle.std.proofs.Common.{◌≡◌, ◌+◌, ◌∙◌, ◌++◌, Some, None, map, drop, is_some, sym, ap}
 use Rattle.std.specs.List.{list_all}
 use Rattle.class_layout_members.proofs.RowLemmas.{from_place}
 use Rattle.class_layout_members.proofs.FirstLemmas.{row_next, there_behind, is_missing}
