@@ -113,3 +113,17 @@ diamond =
 -- T stands behind both, so C has the f of L and the g of R
 of_diamond : (order diamond 3 ≡ Some (3 ∷ 1 ∷ 2 ∷ 0 ∷ [])) × (method_of diamond 3 (codes "f") ≡ Some 2) × (method_of diamond 3 (codes "g") ≡ Some 4) × (method_names diamond 3 ≡ codes "f" ∷ codes "g" ∷ [])
 of_diamond = (refl, refl, refl, refl)
+
+-- ---- a trait between a class and its trait: @trait T: f; @trait U(T): f; B(T); C(B, U)
+
+abbrev between : List ClassEntry
+between =
+    class_of (codes "T") true [] [] ((codes "f", 0) ∷ [])
+    ∷ class_of (codes "U") true (0 ∷ []) [] ((codes "f", 1) ∷ [])
+    ∷ class_of (codes "B") false (0 ∷ []) [] []
+    ∷ class_of (codes "C") false (2 ∷ 1 ∷ []) [] []
+    ∷ []
+
+-- U comes before T in the order of C, so C has the f of U, where B has that of T
+of_between : (order between 3 ≡ Some (3 ∷ 2 ∷ 1 ∷ 0 ∷ [])) × (method_of between 2 (codes "f") ≡ Some 0) × (method_of between 3 (codes "f") ≡ Some 1)
+of_between = (refl, refl, refl)
