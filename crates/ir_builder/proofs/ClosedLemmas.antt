@@ -1,5 +1,5 @@
 -- A closed row of statements does not come to its end, and one without a `break` of the loop around it does not break that loop.
-use Rattle.ir_builder.proofs.Common.{◌≡◌, ℕ, zero, suc, Bool, true, false, not, List, Option, refl, sym, subst, ◌⊎◌, ⊎_elim, or_parts, and_parts, or_cases, if◌then◌else◌, NoneVal, Sort, Variable, TypedModule, TypedStmt, on_line, TypedAct, Assign, Aug, Del, While, ForRange, ForList, ForDict, Try, Raise, Break, Continue, Assert, Pass, TypedSuite, no_stmts, stmt_then, Arms, no_arms, arm_then, State, Outcome, Gives, Raises, Stops, Does, Calls, on_to, spend, Flow, Goes, Breaks, Continues, Returns, flow_on, after_body, loop, value_of, bind, update, changed, value_or, test_of, statement, act, suite, first_arm}
+use Rattle.ir_builder.proofs.Common.{◌≡◌, ℕ, zero, suc, Bool, true, false, not, List, Option, refl, sym, subst, ⊎_elim, or_parts, and_parts, or_cases, if◌then◌else◌, NoneVal, Sort, Variable, TypedModule, TypedStmt, on_line, TypedAct, Assign, Aug, Del, While, ForRange, ForList, ForDict, Try, Raise, Break, Continue, Assert, Pass, TypedSuite, no_stmts, stmt_then, Arms, no_arms, arm_then, State, Outcome, Gives, Raises, Stops, Does, Calls, on_to, spend, Flow, Goes, Breaks, Continues, Returns, flow_on, after_body, loop, value_of, bind, update, changed, value_or, test_of, statement, act, suite, first_arm}
 use Rattle.py_syntax.specs.declared.token.Span.{Span}
 use Rattle.py_typed.specs.Classes.{ClassEntry}
 use Rattle.py_typed.specs.Expressions.{TypedExpr, typed, Flag}

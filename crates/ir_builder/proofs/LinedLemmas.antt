@@ -1,5 +1,5 @@
 -- The lines of the code of a function come from those of its body.
-use Rattle.ir_builder.proofs.Common.{◌≡◌, ℕ, zero, suc, List, [], ◌∷◌, length, Some, None, sym, ap, ◌∙◌, slice_get, Building, Extends, held, held_in, Item, TypedSuite, Setting, Filled, Func, building_of}
+use Rattle.ir_builder.proofs.Common.{◌≡◌, ℕ, zero, suc, [], ◌∷◌, length, Some, None, sym, ap, ◌∙◌, slice_get, Building, Extends, held, held_in, Item, TypedSuite, Setting, Filled, Func, building_of}
 use Rattle.ir_builder_frames.specs.Lines.{OwnLines}
 use Rattle.ir_builder_expressions.specs.Lined.{Around}
 use Rattle.ir_builder_expressions.proofs.LinedLemmas.{around_by, around_both}

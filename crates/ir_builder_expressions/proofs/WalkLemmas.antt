@@ -1,5 +1,5 @@
 -- The code of a declared expression of each kind, and what its parts need.
-use Rattle.ir_builder_expressions.proofs.Common.{◌≡◌, refl, sym, ◌∙◌, ap, subst, ℕ, ◌<◌, Bool, true, List, [], ◌∷◌, length, map, Some, ℤ, slice_get, Box, Global, lies_within, IntVal, StrVal, CmpOp, TExpr, Sort, TypedExpr, type_of, typed_expr, exprs_of, comparisons_of, typed_comparison, TypedFunc, look, next_line, type_at, RType, Reg, Lit, Holds, Building, Extends, Setting, rtype_of, HasType, Adds, HasRoom, parameter_sorts, means, Shows, Computes, Makes, Attempts, HaveTypes, AllBelow, Keeps, Surrounding, Calls, KeepsKindsIf, get_below, type_below, Acts, is_scalar, Side, kind_sort, IsSimpleAt, Suits, SomeSuit, ComparisonsSuit, literal_of_truth, EmitsLocal, EmitsGlobal, Emits, EmitsAll, EmitsSide, EmitsChain, Walks}
+use Rattle.ir_builder_expressions.proofs.Common.{◌≡◌, refl, sym, ◌∙◌, ap, subst, ℕ, ◌<◌, Bool, true, List, [], ◌∷◌, length, map, Some, ℤ, slice_get, Box, Global, lies_within, IntVal, StrVal, CmpOp, TExpr, Sort, type_of, typed_expr, exprs_of, comparisons_of, typed_comparison, TypedFunc, look, next_line, type_at, RType, Reg, Lit, Holds, Building, Extends, Setting, rtype_of, Adds, HasRoom, parameter_sorts, means, Shows, Computes, Makes, Attempts, HaveTypes, AllBelow, Keeps, Surrounding, Calls, KeepsKindsIf, get_below, type_below, Acts, is_scalar, Side, kind_sort, IsSimpleAt, Suits, SomeSuit, ComparisonsSuit, literal_of_truth, EmitsLocal, EmitsGlobal, Emits, EmitsAll, EmitsSide, EmitsChain, Walks}
 use Rattle.py_typed.specs.declared.expression.TKind as kind
 use Rattle.py_typed.specs.Sorts as sort
 use Rattle.py_typed.specs.Sorts.{sort as sort_of}

@@ -1,10 +1,8 @@
 -- Operations that may fail: what they leave in registers, and where their exceptions go.
-use Rattle.ir_builder_frames.proofs.Common.{◌&&◌, map, ◌≡◌, ℕ, ◌+◌, ◌<◌, ◌≤◌, true, false, cond, List, [], ◌∷◌, length, Option, Some, None, refl, sym, ap, ◌∙◌, subst, arith, le_refl, Thrown, Value, ExcVal, row_of, Primitive, Sort, State, Outcome, Gives, Raises, Stops, Stop, Does, on_to, RType, Reg, PArg, Var, Prim, Program, Item, Do, End, Failing, NeverFails, MayFail, AlwaysFails, failing, Declared, type_of_reg, edge_of_kind, edge_of_prim, kind_by_result, type_given, Held, Holds, Regs, put, error_of, World, Argument, Given, Effect, Fails, effect, Building, Frame, Waiting, Config, Runs, Ended, Stuck, Strict, read, arguments, typed, applied, is_tested, is_asked, is_clear, away, registers_of, item_at, handler_at, failed, step, put_same, put_other, op_step, Setting, rtype_of, Has, Placed, where_it_may, Adds, world, running, Ends, HaveKinds, Matches, SameLocals, HasRoom, IsThrown, CallsWork, Showing, Meaning, Arrives, Computes, ShowAll, ComputesAll, Attempts}
+use Rattle.ir_builder_frames.proofs.Common.{◌&&◌, map, ◌≡◌, ℕ, ◌+◌, ◌<◌, ◌≤◌, true, false, cond, List, [], ◌∷◌, length, Option, Some, None, refl, sym, ap, ◌∙◌, subst, arith, le_refl, Thrown, Value, ExcVal, row_of, Primitive, Sort, State, Outcome, Gives, Raises, Stops, Stop, Does, on_to, RType, Reg, PArg, Var, Prim, Program, Do, Failing, NeverFails, MayFail, AlwaysFails, failing, Declared, type_of_reg, edge_of_kind, edge_of_prim, kind_by_result, type_given, Held, Holds, Regs, put, error_of, World, Argument, Given, Effect, Fails, effect, Building, Frame, Waiting, Config, Runs, Ended, Stuck, Strict, read, arguments, typed, applied, is_tested, is_asked, is_clear, away, registers_of, item_at, handler_at, failed, step, put_same, put_other, op_step, Setting, rtype_of, Has, Placed, where_it_may, Adds, world, running, Ends, HaveKinds, Matches, SameLocals, HasRoom, IsThrown, CallsWork, Showing, Meaning, Arrives, Computes, ShowAll, Attempts}
 use Rattle.value_core.specs.Ending.{Ending}
 use Rattle.source_meaning.specs.SourceRun.{ending_by}
 use Rattle.ir_core.specs.declared.code.RType.TheVariants.{Int, I64, Bool as BoolType, Ref}
-use Rattle.ir_core.specs.declared.code.Last.TheVariants as last
-use Rattle.ir_core.specs.declared.kind.Edge.TheVariants.{Tests, TestsTwice}
 use Rattle.ir_core.specs.Effects.{Gives as Giving, Ends as Finishing}
 use Rattle.ir_builder_frames.specs.Matching.{HaveTypes as HaveValues}
 use Rattle.ir_builder_frames.specs.Computing.{HaveTypes}
@@ -12,7 +10,7 @@ use Rattle.ir_builder_frames.specs.Operands.{ActsOnAll}
 use Rattle.ir_builder_frames.proofs.HeldLemmas.{extends_refl, extends_trans, has_less, type_below, type_has, adds_has, placed_part, guard_at}
 use Rattle.ir_builder_frames.proofs.ComingLemmas.{leads_step, ends_of, ends_map}
 use Rattle.ir_builder_frames.proofs.StepLemmas.{read_is}
-use Rattle.ir_builder_frames.proofs.MatchLemmas.{room_on, same_trans, match_kept, thrown_now, thrown_from, computes_then, computes_all_then}
+use Rattle.ir_builder_frames.proofs.MatchLemmas.{room_on, same_trans, match_kept, thrown_now, thrown_from, computes_then}
 
 -- ---- where no test stands behind
 

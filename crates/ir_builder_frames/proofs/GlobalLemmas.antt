@@ -1,5 +1,5 @@
 -- Reads and writes of the module's variables, which are a program's globals, and the types that they keep.
-use Rattle.ir_builder_frames.proofs.Common.{◌≡◌, ◌≢◌, ℕ, zero, suc, ◌+◌, ◌<◌, true, false, not, cond, List, [], ◌∷◌, length, Option, Some, None, Result, Ok, Err, refl, sym, ap, ◌∙◌, subst, arith, ⊎_elim, map, replicate, slice_get, slice_set, nat_lt, codes, list_any, position_or_len, option_and_then, bytes_eq, cases_eq, lt-ltb, length-map, bytes_eq-Decides, Thrown, Value, names_differ, bytes_eq-sym, Sort, State, Gives, raise_new, needs, put_global, set_global, RType, Reg, Prim, Program, Do, Declared, type_of_reg, Holds, Regs, Given, Written, Acts, number_of_global, global_at, got, stored, effect, Building, Waiting, Strict, read, arguments, registers_of, item_at, step, Setting, rtype_of, register_of, variable_registers, Adds, world, running, HasKind, MayHold, HasGlobals, Matches, HasRoom, Shows, Computes, Surrounding, IsOf, IsGlobal, ReadsGlobal, WritesGlobal, IsAmong}
+use Rattle.ir_builder_frames.proofs.Common.{◌≡◌, ◌≢◌, ℕ, zero, suc, ◌+◌, ◌<◌, true, false, not, cond, List, [], ◌∷◌, length, Option, Some, None, refl, sym, ap, ◌∙◌, subst, arith, ⊎_elim, map, replicate, slice_get, slice_set, nat_lt, codes, list_any, position_or_len, option_and_then, bytes_eq, cases_eq, lt-ltb, length-map, bytes_eq-Decides, Value, names_differ, bytes_eq-sym, Sort, State, Gives, raise_new, needs, put_global, set_global, RType, Reg, Prim, Program, Do, Declared, type_of_reg, Holds, Regs, Given, Written, Acts, number_of_global, global_at, got, stored, effect, Building, Waiting, Strict, read, arguments, registers_of, item_at, step, Setting, rtype_of, register_of, variable_registers, Adds, world, running, HasKind, MayHold, HasGlobals, Matches, HasRoom, Shows, Computes, Surrounding, IsOf, IsGlobal, ReadsGlobal, WritesGlobal, IsAmong}
 use Rattle.std.specs.Prelude.{◌++◌}
 use Rattle.value_core.specs.declared.exception.ExcClass.TheVariants.{NameError}
 use Rattle.c_core.specs.declared.primitive.Primitive.TheVariants as prim

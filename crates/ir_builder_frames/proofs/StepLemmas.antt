@@ -1,9 +1,9 @@
 -- Single operations, and what they leave in registers.
-use Rattle.ir_builder_frames.proofs.Common.{◌≡◌, ℕ, ◌+◌, ◌<◌, List, [], ◌∷◌, length, Some, None, refl, sym, ap, ◌∙◌, arith, option_map, option_and_then, Value, Primitive, State, RType, PArg, Var, Op, Lit, Prim, Program, Do, NeverFails, failing, Declared, type_of_reg, Held, Holds, Regs, put, literal_of, look, World, Argument, Given, Acts, effect, Waiting, Strict, value_of, read, arguments, registers_of, item_at, step, Building, put_same, put_other, op_step, lit_step, HasType, Has, Adds, world, running, Makes}
+use Rattle.ir_builder_frames.proofs.Common.{◌≡◌, ℕ, ◌+◌, List, length, Some, None, refl, sym, ap, ◌∙◌, arith, option_map, option_and_then, Value, Primitive, State, RType, PArg, Op, Lit, Prim, Program, Do, NeverFails, failing, Declared, type_of_reg, Held, Holds, Regs, put, literal_of, look, World, Argument, Acts, effect, Waiting, Strict, value_of, read, arguments, registers_of, item_at, step, Building, put_same, put_other, op_step, lit_step, Has, Adds, world, running, Makes}
 use Rattle.ir_core.specs.declared.code.Lit.{Lit as Literal}
 use Rattle.ir_core.specs.Effects.{Gives}
-use Rattle.ir_builder_frames.proofs.HeldLemmas.{extends_trans, has_less, type_has, adds_has}
-use Rattle.ir_builder_frames.proofs.ComingLemmas.{leads_step, leads_trans}
+use Rattle.ir_builder_frames.proofs.HeldLemmas.{type_has, adds_has}
+use Rattle.ir_builder_frames.proofs.ComingLemmas.{leads_step}
 
 pub look_is : (declared : Declared) (regs : Regs) (x : ℕ) (t : RType) → type_of_reg declared (record { 0 = x }) ≡ Some t → look declared regs (record { 0 = x }) ≡ Some (regs x)
 look_is declared regs x t e = ap (option_map (λ (u : RType). regs x)) e

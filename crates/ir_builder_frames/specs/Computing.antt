@@ -34,6 +34,12 @@ Meaning A = ℕ → Does A
 abbrev pub means : Setting → TypedExpr → Meaning Value
 means x e n = expression x.source.classes.classes (call_of x.source n) x.source.globals x.variables e
 
+-- from a builder's place on the code does what the meaning says, wherever calls work and registers stand for the variables: with the
+-- value that it gives the machine comes to what a condition says, and an exception goes to the handler or out of the function
+abbrev pub DoesFrom : {A : Type 0} (p : Program) (fn : ℕ) (h : Option ℕ) (x : Setting) → Meaning A → Building → (List Waiting → Regs → State → A → State → Config → Type 0) → Type 0
+DoesFrom p fn h x m old Comes =
+    (n : ℕ) → CallsWork p x.source n → (regs : Regs) (below : List Waiting) (s : State) → Matches x regs s → s.turns ≤ n → Ends p s.turns (running fn (length old.blocks) (length old.ops) regs below (world None s)) (m n s) (Comes below regs s) (IsThrown fn h below x (length old.regs) regs)
+
 -- the machine is at a place, with the value in a register; the first registers are as before, and so are the function's variables
 pub record Arrives (K : Showing) (fn k i : ℕ) (below : List Waiting) (keep : ℕ) (regs : Regs) (x : Setting) (before : State) (r : ℕ) (v : Value) (s : State) (d : Config) : Type 0 where
   pub now : Regs
@@ -46,7 +52,7 @@ pub record Arrives (K : Showing) (fn k i : ℕ) (below : List Waiting) (keep : �
 pub record Computes (x : Setting) (K : Showing) (t : RType) (m : Meaning Value) (old new : Building) (r : ℕ) : Type 0 where
   pub extends : Extends old new
   pub type : HasType new r t
-  pub runs : (p : Program) (fn : ℕ) (h : Option ℕ) → Placed p fn old new h → (n : ℕ) → CallsWork p x.source n → (regs : Regs) (below : List Waiting) (s : State) → Matches x regs s → s.turns ≤ n → Ends p s.turns (running fn (length old.blocks) (length old.ops) regs below (world None s)) (m n s) (Arrives K fn (length new.blocks) (length new.ops) below (length old.regs) regs x s r) (IsThrown fn h below x (length old.regs) regs)
+  pub runs : (p : Program) (fn : ℕ) (h : Option ℕ) → Placed p fn old new h → DoesFrom p fn h x m old (λ below regs s. Arrives K fn (length new.blocks) (length new.ops) below (length old.regs) regs x s r)
 
 -- the same for values in a row
 abbrev pub ShowAll : List Sort → List Value → Regs → List Reg → Type 0
@@ -69,7 +75,7 @@ pub record ArrivesAll (ts : List Sort) (fn k i : ℕ) (below : List Waiting) (ke
 pub record ComputesAll (x : Setting) (ts : List Sort) (m : Meaning (List Value)) (old new : Building) (rs : List Reg) : Type 0 where
   pub extends : Extends old new
   pub types : HaveTypes new.regs ts rs
-  pub runs : (p : Program) (fn : ℕ) (h : Option ℕ) → Placed p fn old new h → (n : ℕ) → CallsWork p x.source n → (regs : Regs) (below : List Waiting) (s : State) → Matches x regs s → s.turns ≤ n → Ends p s.turns (running fn (length old.blocks) (length old.ops) regs below (world None s)) (m n s) (ArrivesAll ts fn (length new.blocks) (length new.ops) below (length old.regs) regs x s rs) (IsThrown fn h below x (length old.regs) regs)
+  pub runs : (p : Program) (fn : ℕ) (h : Option ℕ) → Placed p fn old new h → DoesFrom p fn h x m old (λ below regs s. ArrivesAll ts fn (length new.blocks) (length new.ops) below (length old.regs) regs x s rs)
 
 -- code in one block, with no call and no failure, that makes a value of what registers hold
 pub record Makes (old new : Building) (r : ℕ) (t : RType) (from : Regs → Held → Type 0) : Type 0 where

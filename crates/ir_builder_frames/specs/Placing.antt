@@ -6,7 +6,6 @@ use Rattle.ir_core.specs.declared.code.Op.TheVariants.{Prim, Call, Virtual, Trai
 use Rattle.ir_core.specs.declared.code.Last.TheVariants.{Unreachable}
 use Rattle.ir_core.specs.declared.code.Program.{Program}
 use Rattle.ir_core.specs.declared.code.RType.{RType}
-use Rattle.ir_core.specs.declared.kind.Edge.TheVariants.{Tests}
 use Rattle.ir_core.specs.Items.{Item, Do, End}
 use Rattle.ir_core.specs.Rows.{Failing, NeverFails, MayFail, AlwaysFails, failing, type_of_reg}
 use Rattle.ir_core.specs.Meaning.{item_at, handler_at, registers_of, is_tested}

@@ -1,5 +1,5 @@
 -- An `if` does in its code what it means.
-use Rattle.ir_builder_loops_and_jumps.proofs.Common.{◌≡◌, ℕ, List, [], ◌∷◌, ◌++◌, length, Option, Some, None, Bool, refl, sym, ap, ◌∙◌, subst, arith, le_refl, if◌then◌else◌, Sort, State, on_to, Flow, Goes, Breaks, Continues, Returns, Goto, If, Unreachable, Program, Building, held, End, Regs, Config, Waiting, Setting, Placed, Closes, Patches, world, running, IsThrown, Meaning, Way, Break, Continue, Join, Exit, Test, planned, left, by, OpenIn, Flows, Works, Joining, Always, Asks, Splits, EndsArm, joining, Joins, ends_at, ends_map, extends_refl, extends_trans, within_part, patches, thrown_from}
+use Rattle.ir_builder_loops_and_jumps.proofs.Common.{◌≡◌, ℕ, List, [], ◌∷◌, ◌++◌, length, Option, Some, None, Bool, refl, sym, ap, ◌∙◌, arith, le_refl, if◌then◌else◌, Sort, State, on_to, Flow, Goes, Breaks, Continues, Returns, If, Unreachable, Program, Building, held, End, Regs, Config, Waiting, Setting, Placed, Patches, world, running, IsThrown, Meaning, Way, Break, Continue, Join, Exit, Test, planned, left, by, OpenIn, Flows, Works, Joining, Always, Asks, Splits, EndsArm, joining, Joins, ends_at, ends_map, extends_refl, extends_trans, within_part, patches, thrown_from}
 use Rattle.ir_builder_loops_and_jumps.proofs.ExitLemmas.{close_at, within_patch, Stays, stays_by, stays_trans, stays_patch_below, jump_back, open_on, open_append, jump_front, jump_rest, UsesToo, uses_front, uses_rest, uses_left, jumps_of, within_jumps}
 use Rattle.ir_builder_loops_and_jumps.proofs.FlowLemmas.{flows_from, flow_goto, works_at}
 use Rattle.ir_builder_loops_and_jumps.proofs.SplitLemmas.{SplitAt, split_at, split_ends}

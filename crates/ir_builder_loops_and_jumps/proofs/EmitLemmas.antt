@@ -1,5 +1,5 @@
 -- What is emitted for each kind of statement does what the statement means.
-use Rattle.ir_builder_loops_and_jumps.proofs.Common.{◌≡◌, ℕ, ◌≤◌, suc, ◌+◌, ◌<◌, Bool, true, false, List, [], ◌∷◌, ◌++◌, length, map, Option, Some, None, refl, sym, ap, ◌∙◌, subst, arith, append_assoc, append-nil, le_refl, get_or, drop, ◌||◌, if◌then◌else◌, drop_more, or_parts, or_from, Sort, TExpr, TypedExpr, typed_expr, type_of, TypedStmt, TypedAct, on_line, Variable, typed_stmt, typed_suite, typed_arm, typed_target, suite_of, arms_of, maybe_typed, State, Gives, on_to, truth_of, Flow, Goes, loop, Goto, Unreachable, Building, held, Extends, End, Setting, rtype_of, Open, Closes, HasRoom, means, Shows, Meaning, Computes, Way, Break, Continue, Join, Exit, Test, LoopStart, uses, is_same_way, stays, planned, left, Works, Joining, LeavesNoLoop, Emitted, OpenIn, Always, Asks, Splits, SplitsBy, EndsArm, joining, Joins, looping_to, EndsLoop, Begins, ends_of, extends_refl, extends_trans, type_kept, room_on}
+use Rattle.ir_builder_loops_and_jumps.proofs.Common.{◌≡◌, ℕ, ◌≤◌, suc, ◌+◌, ◌<◌, Bool, true, false, List, [], ◌∷◌, ◌++◌, length, map, Option, Some, None, refl, sym, ap, ◌∙◌, subst, arith, append_assoc, append-nil, le_refl, get_or, drop, if◌then◌else◌, drop_more, or_parts, or_from, Sort, TExpr, TypedExpr, typed_expr, type_of, TypedAct, on_line, typed_stmt, typed_suite, typed_target, maybe_typed, State, Gives, on_to, truth_of, Flow, Goes, loop, Goto, Unreachable, Building, held, End, Setting, rtype_of, Open, Closes, HasRoom, means, Shows, Meaning, Computes, Way, Break, Continue, Join, Exit, Test, LoopStart, uses, is_same_way, stays, planned, left, Works, Joining, LeavesNoLoop, Emitted, OpenIn, Always, Asks, Splits, SplitsBy, EndsArm, joining, Joins, looping_to, EndsLoop, Begins, ends_of, extends_refl, extends_trans, type_kept, room_on}
 use Rattle.py_syntax.specs.declared.expression.BinOp.{BinOp}
 use Rattle.py_typed.specs.Sorts as sort
 use Rattle.py_typed.specs.Sorts.{sort as sort_of}
@@ -8,8 +8,6 @@ use Rattle.py_typed.specs.declared.statement.TStmt.{TStmt}
 use Rattle.py_typed.specs.declared.types.Ty.{Ty}
 use Rattle.py_typed.specs.declared.statement.TStmtKind as kind
 use Rattle.py_typed.specs.Statements as tree
-use Rattle.source_meaning.specs.SourceRun.{call_of}
-use Rattle.source_meaning.specs.StatementMeaning.{suite}
 use Rattle.py_typed.proofs.StatementLemmas.{typed_stmt_of, typed_act-Expr, typed_act-Assign, typed_act-Aug, typed_act-Return, typed_act-Break, typed_act-Continue, typed_act-Pass, typed_stmt-If}
 use Rattle.ir_core.specs.declared.code.RType.TheVariants.{Bool as BoolType}
 use Rattle.ir_builder_loops_and_jumps.specs.Tested.{means_arms, Tested}

@@ -1,5 +1,5 @@
 -- Ends that are still to be written: where they lie, and what becomes of them.
-use Rattle.ir_builder_loops_and_jumps.proofs.Common.{◌≡◌, ◌≢◌, ℕ, zero, suc, ◌+◌, ◌<◌, ◌≤◌, List, [], ◌∷◌, ◌++◌, length, Option, Some, None, Bool, true, false, refl, sym, ap, ◌∙◌, subst, arith, append_assoc, append-nil, le_refl, get_or, take, drop, add-one, ◌||◌, drop_more, Goto, Unreachable, Program, Building, with_last, held, handled, Extends, Item, End, item_at, Has, Within, or_other, Closes, Patches, extends_refl, patches, open_below, with_last_length, Way, Break, Continue, Return, Join, Exit, uses, is_same_way, number_or, stays, left, by, JumpTo, OpenIn, jumping, all_jumping}
+use Rattle.ir_builder_loops_and_jumps.proofs.Common.{◌≡◌, ◌≢◌, ℕ, zero, suc, ◌+◌, ◌<◌, ◌≤◌, List, [], ◌∷◌, ◌++◌, length, Option, Some, None, Bool, true, false, refl, sym, ap, ◌∙◌, subst, arith, le_refl, get_or, drop, ◌||◌, drop_more, Goto, Unreachable, Program, Building, with_last, held, handled, Extends, Item, End, item_at, Has, Within, or_other, Closes, Patches, extends_refl, patches, open_below, with_last_length, Way, Break, Continue, Return, Join, Exit, uses, is_same_way, number_or, stays, left, by, JumpTo, OpenIn, jumping, all_jumping}
 use Rattle.std.proofs.lemmas.Grind.{common_steps}
 use Rattle.ir_core.specs.declared.code.Last.{Last}
 

@@ -1,5 +1,5 @@
 -- A loop does in its code what it means.
-use Rattle.ir_builder_loops_and_jumps.proofs.Common.{◌≡◌, ℕ, zero, suc, ◌+◌, ◌<◌, ◌≤◌, List, [], ◌++◌, length, Option, Some, None, Bool, refl, sym, ap, ◌∙◌, subst, arith, append-nil, le_refl, Value, Sort, State, Gives, Does, on_to, spend, spend_from, Flow, Goes, Breaks, Continues, Returns, after_body, loop, Goto, If, Turn, Reg, Program, Building, held, Do, End, Regs, Config, Waiting, Strict, item_at, op_step, turn_step, Setting, Placed, Closes, Patches, world, running, Leads, Ends, Matches, SameIn, IsThrown, CallsWork, Meaning, Way, Break, Continue, Return, Exit, LoopStart, planned, left, by, JumpTo, Brings, Back, Flows, Always, Asks, WorksAt, Steps, Splits, looping_to, EndsLoop, leads_refl, leads_trans, leads_step, ends_from, ends_on, ends_now, extends_refl, extends_trans, has_less, pushes_has, within_part, stands_from, thrown_from, patches}
+use Rattle.ir_builder_loops_and_jumps.proofs.Common.{◌≡◌, ℕ, zero, suc, ◌+◌, ◌<◌, ◌≤◌, List, length, Option, Some, None, Bool, refl, sym, ap, ◌∙◌, subst, arith, le_refl, Value, Sort, State, Gives, Does, on_to, spend, spend_from, Flow, Goes, Breaks, Continues, Returns, after_body, loop, Goto, If, Turn, Reg, Program, Building, held, Do, End, Regs, Config, Waiting, Strict, item_at, op_step, turn_step, Setting, Placed, Closes, Patches, world, running, Leads, Ends, Matches, SameIn, IsThrown, CallsWork, Meaning, Way, Break, Continue, Return, Exit, LoopStart, planned, left, by, JumpTo, Brings, Back, Flows, Always, Asks, WorksAt, Steps, Splits, looping_to, EndsLoop, leads_refl, leads_trans, leads_step, ends_from, ends_on, ends_now, extends_refl, extends_trans, has_less, pushes_has, within_part, stands_from, thrown_from, patches}
 use Rattle.value_core.specs.Ending as ending
 use Rattle.ir_builder_loops_and_jumps.proofs.ExitLemmas.{close_at, within_patch, Stays, stays_by, stays_trans, stays_patch_below, jump_back, open_on, uses_left, jumps_of, within_jumps}
 use Rattle.ir_builder_loops_and_jumps.proofs.FlowLemmas.{goes_to, flows_from}

@@ -14,9 +14,9 @@ use Rattle.ir_core.specs.Meaning.{Config, Waiting, item_at}
 use Rattle.ir_builder_frames.specs.Settings.{Setting}
 use Rattle.ir_builder_frames.specs.Placing.{Placed}
 use Rattle.ir_builder_frames.specs.Calling.{Open}
-use Rattle.ir_builder_frames.specs.Coming.{world, running, returning, Ends}
-use Rattle.ir_builder_frames.specs.Matching.{HasKind, HaveTypes, Matches, Stands, IsThrown, CallsWork}
-use Rattle.ir_builder_frames.specs.Computing.{Meaning}
+use Rattle.ir_builder_frames.specs.Coming.{world, returning}
+use Rattle.ir_builder_frames.specs.Matching.{HasKind, HaveTypes, Stands}
+use Rattle.ir_builder_frames.specs.Computing.{Meaning, DoesFrom}
 use Rattle.ir_builder_loops_and_jumps.specs.declared.ways.Way.{Way}
 use Rattle.ir_builder_loops_and_jumps.specs.declared.ways.Way.TheVariants.{Break, Continue, Return, Join}
 use Rattle.ir_builder_loops_and_jumps.specs.declared.ways.Exit.{Exit}
@@ -75,13 +75,13 @@ module _ (p : Program) (result : Option Sort) where
 pub record Works (x : Setting) (result : Option Sort) (m : Meaning Flow) (old new : Building) (exits : List Exit) : Type 0 where
   pub extends : Extends old new
   pub opens : OpenIn new (length old.blocks) (length new.blocks) exits
-  pub runs : (p : Program) (fn : ℕ) (h : Option ℕ) (to : Way → ℕ) → Placed p fn old new h → JumpTo p fn new to exits → (n : ℕ) → CallsWork p x.source n → (regs : Regs) (below : List Waiting) (s : State) → Matches x regs s → s.turns ≤ n → Ends p s.turns (running fn (length old.blocks) (length old.ops) regs below (world None s)) (m n s) (Flows p result fn (length new.blocks) (length new.ops) to exits below x (length old.regs) regs) (IsThrown fn h below x (length old.regs) regs)
+  pub runs : (p : Program) (fn : ℕ) (h : Option ℕ) (to : Way → ℕ) → Placed p fn old new h → JumpTo p fn new to exits → DoesFrom p fn h x m old (λ below regs s. Flows p result fn (length new.blocks) (length new.ops) to exits below x (length old.regs) regs)
 
 -- the same of code with a jump to behind an `if` at its end
 pub record Joining (x : Setting) (result : Option Sort) (m : Meaning Flow) (old new : Building) (exits : List Exit) : Type 0 where
   pub extends : Extends old new
   pub opens : OpenIn new (length old.blocks) (length new.blocks) exits
-  pub runs : (p : Program) (fn : ℕ) (h : Option ℕ) (to : Way → ℕ) → Placed p fn old new h → JumpTo p fn new to exits → item_at p fn (length new.blocks) (length new.ops) ≡ Some (End (Goto (to Join))) → (n : ℕ) → CallsWork p x.source n → (regs : Regs) (below : List Waiting) (s : State) → Matches x regs s → s.turns ≤ n → Ends p s.turns (running fn (length old.blocks) (length old.ops) regs below (world None s)) (m n s) (Flows p result fn (to Join) 0 to exits below x (length old.regs) regs) (IsThrown fn h below x (length old.regs) regs)
+  pub runs : (p : Program) (fn : ℕ) (h : Option ℕ) (to : Way → ℕ) → Placed p fn old new h → JumpTo p fn new to exits → item_at p fn (length new.blocks) (length new.ops) ≡ Some (End (Goto (to Join))) → DoesFrom p fn h x m old (λ below regs s. Flows p result fn (to Join) 0 to exits below x (length old.regs) regs)
 
 -- no exit leaves a loop
 abbrev pub LeavesNoLoop : List Exit → Type 0

@@ -1,5 +1,5 @@
 -- What primitives make of `int`s is what the source makes of them, or the exception that it raises.
-use Rattle.ir_builder_operations.proofs.Common.{◌≡◌, refl, ◌∙◌, ℕ, true, false, [], ◌∷◌, Some, Result, Ok, Err, ℤ, neg_ℤ, Arith, Overflow, ZeroDivisor, NegativeShift, OutOfRange, lies_within, int_neg, IntVal, int_exception, BinOp, State, number_of, past_range, arithmetic, negated, Program, failing, World, Given, int_or, effect, Shows, Answer, Answers, Throws, effect_of, outcome_of, Allows, ShownIfGiven, Performs, performs, is_arithmetic, int_primitive, IsInt, checked_int}
+use Rattle.ir_builder_operations.proofs.Common.{◌≡◌, refl, ◌∙◌, true, false, [], ◌∷◌, Result, Ok, Err, ℤ, neg_ℤ, Arith, Overflow, ZeroDivisor, NegativeShift, OutOfRange, lies_within, int_neg, IntVal, int_exception, BinOp, State, number_of, past_range, arithmetic, negated, Program, failing, World, Given, int_or, effect, Shows, Answer, Answers, Throws, effect_of, outcome_of, Allows, ShownIfGiven, Performs, performs, is_arithmetic, int_primitive, IsInt, checked_int}
 use Rattle.c_core.specs.declared.primitive.Primitive.TheVariants as prim
 use Rattle.c_core.specs.declared.primitive.TaggedPrim.TheVariants as tagged
 use Rattle.py_syntax.specs.declared.expression.BinOp.TheVariants as bin

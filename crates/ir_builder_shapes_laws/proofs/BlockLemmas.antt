@@ -1,5 +1,5 @@
 -- The blocks of a function whose ends are all written have their shape.
-use Rattle.ir_builder_shapes_laws.proofs.Common.{◌≡◌, ℕ, suc, ◌<◌, ◌⊎◌, refl, sym, subst, arith, true, false, List, [], ◌∷◌, ◌++◌, Option, Some, None, inl, inr, ⊎_elim, slice_get, Op, Turn, Last, Goto, If, IfError, Return, Unreachable, Block, Func, Do, item_in, handler_of, Declared, is_unwritten, is_open_at, IsHigher, LastFits, BlockFits, BlocksFit, FuncFits, BeginsInTurn, FuncsFit, FunctionType, IsBuilt}
+use Rattle.ir_builder_shapes_laws.proofs.Common.{◌≡◌, ℕ, suc, ◌<◌, ◌⊎◌, refl, sym, subst, arith, true, false, List, [], ◌∷◌, ◌++◌, Option, Some, None, inl, inr, ⊎_elim, slice_get, Op, Turn, Last, Goto, If, IfError, Return, Unreachable, Block, Func, Do, item_in, handler_of, Declared, is_unwritten, is_open_at, IsHigher, LastFits, BlocksFit, FuncFits, BeginsInTurn, FuncsFit, FunctionType, IsBuilt}
 use Rattle.ir_core.specs.Shape as shape
 use Rattle.ir_builder_frames.specs.Shaped.{Higher, OpsFit, EndFits, HandlerFits, AllFit}
 

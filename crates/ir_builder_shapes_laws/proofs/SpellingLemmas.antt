@@ -1,5 +1,5 @@
 -- How names are spelled: a variable's is one behind `r_`, a temporary one has digits, and an identifier has no dot.
-use Rattle.ir_builder_shapes_laws.proofs.Common.{◌≡◌, refl, sym, ◌∙◌, ap, ℕ, suc, ◌+◌, ◌<◌, ◌≤◌, arith, Bool, true, false, cond, List, [], ◌∷◌, ◌++◌, length, get_or, inl, inr, ◌&&◌, not, codes, nat_lt, ◌==◌, decimal, list_all, list_any, before_first, after_first, bytes_eq, chars, is_utf8, IsUtf8, NonePass, NoCharPasses, and_from, and_parts, or_from, not-true, cases_lt, true≢false, ltb-true, eqb-true, Primitive, row_of, is_identifier, is_call_name, other_words, is_dot, method_id, function_id, variable_id, temporary_name}
+use Rattle.ir_builder_shapes_laws.proofs.Common.{◌≡◌, refl, sym, ◌∙◌, ap, ℕ, suc, ◌<◌, ◌≤◌, arith, Bool, true, false, cond, List, [], ◌∷◌, ◌++◌, length, get_or, inl, inr, ◌&&◌, not, codes, nat_lt, ◌==◌, decimal, list_all, list_any, before_first, after_first, bytes_eq, chars, is_utf8, IsUtf8, NonePass, NoCharPasses, and_from, and_parts, or_from, not-true, cases_lt, true≢false, ltb-true, eqb-true, Primitive, row_of, is_identifier, is_call_name, other_words, is_dot, method_id, function_id, variable_id, temporary_name}
 use Rattle.std.proofs.lemmas.Bool.Decides.{nat_tests}
 use Rattle.std.proofs.lemmas.Str.{is_utf8-from_IsUtf8, IsUtf8-from_is_utf8, IsUtf8-append, IsUtf8-from_ascii, chars-append, chars-IsAscii, encodes-chars, NoCharPasses-byte}
 use Rattle.unicode_ident.specs.Ident.{is_xid_continue}

@@ -37,9 +37,6 @@ pub pieces_join : {x : Setting} {l : ℕ} {ps qs : List Piece} {a b c : Building
 pieces_join (bare p) q = pieces_behind p q
 pieces_join (piece p code one rest) q = piece p code one (pieces_join rest q)
 
-pub no_pieces : (x : Setting) (l : ℕ) (a b : Building) → Around l a b → LinedPieces x l [] a b
-no_pieces x l a b p = bare p
-
 pub value_piece : (x : Setting) (l : ℕ) (e : TypedExpr) (a b c : Building) → IsCodeOf x e a b → Lined x e a b → Around l b c → LinedPieces x l (value e ∷ []) a c
 value_piece x l e a b c code one p = piece (around_none l a) code (of_value one) (bare p)
 

@@ -1,5 +1,5 @@
 -- Variables are read and set by their code.
-use Rattle.ir_builder_statements.proofs.Common.{◌≡◌, ℕ, zero, suc, ◌<◌, ◌≤◌, List, [], ◌∷◌, map, get_or, Some, None, refl, sym, ap, ◌∙◌, subst, arith, pos, slice_get, Var, Target, Sort, Local, Global, Variable, TypedModule, TypedTarget, LocalTarget, GlobalTarget, typed_target, variable, Number, Move, Lit, Prim, PArg, Reg, Building, Extends, Setting, rtype_of, HasType, Pushes, flag_of, HasRoom, Surrounding, AreAlike, OpKinds, IsAmong, WritesGlobal, type_kept, get_below, write_fits, is_scalar, Sets, param_set, other_set, global_set, HasFlag, SetsLocal, TakesGlobal, SetsGlobal, TakesRegister, SetsVariable}
+use Rattle.ir_builder_statements.proofs.Common.{◌≡◌, ℕ, zero, suc, ◌<◌, ◌≤◌, List, [], ◌∷◌, map, get_or, Some, None, refl, sym, ap, ◌∙◌, subst, arith, pos, slice_get, Var, Target, Sort, Variable, TypedModule, TypedTarget, LocalTarget, GlobalTarget, typed_target, variable, Number, Move, Lit, Prim, PArg, Reg, Building, Extends, Setting, rtype_of, HasType, Pushes, flag_of, HasRoom, Surrounding, AreAlike, OpKinds, IsAmong, WritesGlobal, type_kept, get_below, write_fits, is_scalar, Sets, param_set, other_set, global_set, HasFlag, SetsLocal, TakesGlobal, SetsGlobal, TakesRegister, SetsVariable}
 use Rattle.c_core.specs.declared.primitive.Primitive.TheVariants as prim
 use Rattle.c_core.specs.declared.primitive.GlobalPrim.TheVariants as global
 use Rattle.py_typed.specs.declared.statement.Target.TheVariants as declared
