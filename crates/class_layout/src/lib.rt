@@ -18,5 +18,6 @@ pub use laws::{
 };
 pub use layout_error::LayoutError;
 pub use layouts::layout;
+pub use merge::merge as merged_rows;
 pub use order::{bases_fall, orders};
 pub use table::LayoutTable;

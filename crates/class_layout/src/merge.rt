@@ -9,7 +9,7 @@ use value_core::{Many, Memory};
 
 /// The rows as one behind what comes first, where the numbers of all classes are below `count`: `None` where at some point no
 /// head is free.
-pub(crate) fn merge(
+pub fn merge(
     alloc: Global,
     first: Many<usize>,
     rows: &mut [&[usize]],
