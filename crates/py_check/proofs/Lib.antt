@@ -1,4 +1,5 @@
 mod Samples
+mod ClassSamples
 pub mod WalkLemmas
 pub mod WholeLemmas
 pub mod BodyLemmas

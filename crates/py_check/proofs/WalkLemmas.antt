@@ -16,12 +16,14 @@ use Rattle.py_check_context.specs.Context.{Context}
 use Rattle.py_check_messages.specs.Seen.{Seen}
 use Rattle.py_check_messages.specs.Rows.{appended, row_then}
 use Rattle.py_check_names.specs.Outline.{held_by, stmt_definitions, suite_definitions}
+use Rattle.py_check_classes.specs.Names.{classes_in}
 use Rattle.py_check_values.specs.Returns.{outside}
 use Rattle.py_check_places.specs.Places.{Known}
 use Rattle.py_check_statements.specs.Bodies.{nothing_around, is_definition, after, statement, block, block_after}
+use Rattle.py_check_definitions.specs.Classes.{ModuleClasses}
 use Rattle.py_check_definitions.specs.Definitions.{names_given, definitions_said}
-use Rattle.py_check_definitions.specs.Views.{said_along, names_behind, scopes_behind}
-use Rattle.py_check_definitions.proofs.DefinitionLemmas.{Same, walk_says, names_left, scopes_left}
+use Rattle.py_check_definitions.specs.Views.{said_along, names_behind, classes_behind, scopes_behind}
+use Rattle.py_check_definitions.proofs.DefinitionLemmas.{Same, walk_says, names_left, classes_left, scopes_left}
 use Rattle.py_check.specs.Module.{walk_said}
 use Rattle.py_check.specs.Parts.{walk_along}
 
@@ -96,17 +98,18 @@ module _ (C : Context) where
     pub known_step : (k k1 end : Known) → k1 ≡ after C k (stmt_tree s) → block_after C k (body_tree (drop i ss)) ≡ end → block_after C k1 more ≡ end
     known_step k k1 end e before = ap (λ x. block_after C x more) e ∙ ap (block_after C k) (sym (at_place ss i s h is)) ∙ before
 
-    pub said_step : (k k1 : Known) (ks ks1 : List (List ℕ)) (rs rs1 : List Scope) (d0 d1 d2 whole : List Diag) → k1 ≡ after C k (stmt_tree s) → ks1 ≡ names_behind ks (stmt_definitions (stmt_tree s)) → rs1 ≡ scopes_behind rs (stmt_definitions (stmt_tree s)) → d1 ≡ d0 ++ said_along C k ks rs (stmt_definitions (stmt_tree s)) → d2 ≡ d1 ++ (alone k (stmt_tree s)).said → d0 ++ walk_along C k ks rs (body_tree (drop i ss)) ≡ whole → d2 ++ walk_along C k1 ks1 rs1 more ≡ whole
-    said_step k k1 ks ks1 rs rs1 d0 d1 d2 whole e n r first second before =
+    pub said_step : (classes : ModuleClasses) (k k1 : Known) (ks ks1 : List (List ℕ)) (n n1 : ℕ) (rs rs1 : List Scope) (d0 d1 d2 whole : List Diag) → k1 ≡ after C k (stmt_tree s) → ks1 ≡ names_behind ks (stmt_definitions (stmt_tree s)) → n1 ≡ classes_behind n (stmt_definitions (stmt_tree s)) → rs1 ≡ scopes_behind rs (stmt_definitions (stmt_tree s)) → d1 ≡ d0 ++ said_along classes C k ks n rs (stmt_definitions (stmt_tree s)) → d2 ≡ d1 ++ (alone k (stmt_tree s)).said → d0 ++ walk_along classes C k ks n rs (body_tree (drop i ss)) ≡ whole → d2 ++ walk_along classes C k1 ks1 n1 rs1 more ≡ whole
+    said_step classes k k1 ks ks1 n n1 rs rs1 d0 d1 d2 whole e named counted r first second before =
         let t = stmt_tree s in
-        let defined = said_along C k ks rs (stmt_definitions t) in
+        let defined = said_along classes C k ks n rs (stmt_definitions t) in
         let own = (alone k t).said in
-        let rest = walk_along C (after C k t) (names_behind ks (stmt_definitions t)) (scopes_behind rs (stmt_definitions t)) more in
-        ap (λ x. d2 ++ walk_along C x ks1 rs1 more) e
-        ∙ ap₂ (λ x y. d2 ++ walk_along C (after C k t) x y more) n r
+        let rest = walk_along classes C (after C k t) (names_behind ks (stmt_definitions t)) (classes_behind n (stmt_definitions t)) (scopes_behind rs (stmt_definitions t)) more in
+        ap (λ x. d2 ++ walk_along classes C x ks1 n1 rs1 more) e
+        ∙ ap (λ x. d2 ++ walk_along classes C (after C k t) ks1 x rs1 more) counted
+        ∙ ap₂ (λ x y. d2 ++ walk_along classes C (after C k t) x (classes_behind n (stmt_definitions t)) y more) named r
         ∙ ap (λ l. l ++ rest) (second ∙ ap (λ l. l ++ own) first ∙ append_assoc d0 defined own)
         ∙ append_assoc d0 (defined ++ own) rest
-        ∙ ap (λ b. d0 ++ walk_along C k ks rs b) (sym (at_place ss i s h is))
+        ∙ ap (λ b. d0 ++ walk_along classes C k ks n rs b) (sym (at_place ss i s h is))
         ∙ before
 
   -- behind the last one
@@ -115,9 +118,9 @@ module _ (C : Context) where
     typed_ends k front whole before =
         sym (nothing_behind front) ∙ ap (λ l. appended front (left k (body_tree l)).got) (sym (drop_all i ss h)) ∙ before
 
-    pub said_ends : (k : Known) (ks : List (List ℕ)) (rs : List Scope) (d whole : List Diag) → d ++ walk_along C k ks rs (body_tree (drop i ss)) ≡ whole → d ≡ whole
-    said_ends k ks rs d whole before =
-        sym (append-nil d) ∙ ap (λ l. d ++ walk_along C k ks rs (body_tree l)) (sym (drop_all i ss h)) ∙ before
+    pub said_ends : (classes : ModuleClasses) (k : Known) (ks : List (List ℕ)) (n : ℕ) (rs : List Scope) (d whole : List Diag) → d ++ walk_along classes C k ks n rs (body_tree (drop i ss)) ≡ whole → d ≡ whole
+    said_ends classes k ks n rs d whole before =
+        sym (append-nil d) ∙ ap (λ l. d ++ walk_along classes C k ks n rs (body_tree l)) (sym (drop_all i ss h)) ∙ before
 
     pub walk_ends : (k end : Known) → block_after C k (body_tree (drop i ss)) ≡ end → k ≡ end
     walk_ends k end before = ap (λ l. block_after C k (body_tree l)) (sym (drop_all i ss h)) ∙ before
@@ -130,15 +133,16 @@ row_splits roles xs ys rest =
     ∙ ap (λ l. l ++ rest) (map-append (function_scope roles) (flat_map held_by xs) (flat_map held_by ys))
     ∙ append_assoc (map (function_scope roles) (flat_map held_by xs)) (map (function_scope roles) (flat_map held_by ys)) rest
 
-module _ (roles : Roles) (c : Context) where
+module _ (roles : Roles) (classes : ModuleClasses) (c : Context) where
   -- THE WALK says what is to be said, where the row begins with the scopes of the functions
-  pub walk_whole : (k : Known) (a b : List (List ℕ)) → Same a b → (m : Suite) (rest rs : List Scope) → rs ≡ map (function_scope roles) (flat_map held_by (suite_definitions m)) ++ rest → walk_along c k a rs m ≡ walk_said roles c k b m
-  walk_whole k a b same no_stmts rest rs is = refl
-  walk_whole k a b same (stmt_then s more) rest rs is =
+  pub walk_whole : (k : Known) (a b : List (List ℕ)) → Same a b → (n n2 : ℕ) → n ≡ n2 → (m : Suite) (rest rs : List Scope) → rs ≡ map (function_scope roles) (flat_map held_by (suite_definitions m)) ++ rest → walk_along classes c k a n rs m ≡ walk_said roles classes c k b n2 m
+  walk_whole k a b same n n2 counted no_stmts rest rs is = refl
+  walk_whole k a b same n n2 counted (stmt_then s more) rest rs is =
       let ds = stmt_definitions s in
       let behind = map (function_scope roles) (flat_map held_by (suite_definitions more)) ++ rest in
       let split : rs ≡ map (function_scope roles) (flat_map held_by ds) ++ behind = is ∙ row_splits roles ds (suite_definitions more) rest in
       ap₂ (λ (p q : List Diag). (p ++ (block c outside nothing_around k (stmt_then s no_stmts)).said) ++ q)
-      (ap (λ l. said_along c k a l ds) split ∙ walk_says roles c k a b same ds behind)
-      (walk_whole (after c k s) (names_behind a ds) (b ++ flat_map names_given ds) (names_left a b same ds) more rest (scopes_behind rs ds)
+      (ap (λ l. said_along classes c k a n l ds) split ∙ walk_says roles classes c k a b same n ds behind ∙ ap (λ x. definitions_said roles classes c k b x ds) counted)
+      (walk_whole (after c k s) (names_behind a ds) (b ++ flat_map names_given ds) (names_left a b same ds)
+      (classes_behind n ds) (n2 + length (classes_in ds)) (classes_left n ds ∙ ap (λ x. x + length (classes_in ds)) counted) more rest (scopes_behind rs ds)
       (ap (λ l. scopes_behind l ds) split ∙ scopes_left roles ds behind))

@@ -6,7 +6,8 @@ use Rattle.std.specs.List.{flat_map}
 use Rattle.std.specs.Str.{bytes_eq}
 use Rattle.indexmap.specs.IndexMap.{get}
 use Rattle.py_syntax.specs.declared.statement.Func.{Func}
-use Rattle.py_syntax.specs.Statements.{Suite, FuncTree, func_tree}
+use Rattle.py_syntax.specs.declared.statement.Stmt.{Stmt}
+use Rattle.py_syntax.specs.Statements.{StmtTree, Suite, FuncTree, func_tree}
 use Rattle.py_syntax_diagnostics.specs.declared.diagnostic.Diag.{Diag}
 use Rattle.py_binder.specs.declared.scope.Scope.{Scope}
 use Rattle.py_binder.specs.declared.scope.Scopes.{Scopes}
@@ -18,14 +19,19 @@ use Rattle.py_typed.specs.Classes.{ClassEntry, Signature}
 use Rattle.py_typed.specs.Statements.{TypedModule}
 use Rattle.py_check_context.specs.declared.scope.Meaning.{Meaning}
 use Rattle.py_check_names.specs.declared.meanings.ModuleNames.{ModuleNames}
-use Rattle.py_check_names.specs.Walked.{func_trees}
+use Rattle.py_check_names.specs.Walked.{trees, func_trees}
 use Rattle.py_check_names.specs.Outline.{held_by, suite_definitions}
 use Rattle.py_check_names.specs.Meanings.{variables, meaning_in, said_in, module_meaning}
+use Rattle.py_check_classes.specs.declared.headers.ModuleClasses as declared
+use Rattle.py_check_classes.specs.declared.header.Header.{Header}
+use Rattle.py_check_classes.specs.Names.{said_of_names}
+use Rattle.py_check_classes.specs.Headers.{headers}
 use Rattle.py_check_signatures.specs.Headers.{header, signature_of}
 use Rattle.py_check.specs.declared.checking.CheckError.{CheckError}
 use Rattle.py_check.specs.declared.checking.CheckError.TheVariants as reason
 use Rattle.py_check_definitions.specs.Definitions.{Headed, headed, headed_functions, inner_definitions_said, or_refused}
-use Rattle.py_check_definitions.specs.Views.{headed_all, meanings_by}
+use Rattle.py_check_definitions.specs.Classes.{ModuleClasses, classes_of}
+use Rattle.py_check_definitions.specs.Views.{headed_all, meanings_by, classes_seen}
 use Rattle.py_check.specs.Module.{ModuleContext, module_context, context_by, context_in, module_start, bodies_said, global_sorts, statements_said, typed_parts, walked, diagnostics, typed}
 use Rattle.py_check.specs.Parts.{module_context_by, statements_along}
 use Rattle.py_check.specs.Outcome.{IsBound, Outcome, Decided}
@@ -56,6 +62,17 @@ pub module_context_at : (k : ModuleNames) (fs : List Headed) (signatures : List 
 module_context_at k fs signatures classes signed none =
     ap (λ (l : List (Option Signature)). module_context_full (get bytes_eq k.said) k.variables.keys l classes) signed
     ∙ ap (λ (l : List ClassEntry). module_context_full (get bytes_eq k.said) k.variables.keys (map (λ f. signature_of f.header) fs) l) none
+
+-- ---- classes
+
+-- what is found of classes among these definitions
+pub classes_found : (m : Suite) (found : declared.ModuleClasses) (definitions seen : List (Bor Stmt)) → seen ≡ definitions → trees definitions ≡ suite_definitions m
+    → ((name : List ℕ) → get bytes_eq found.said name ≡ said_of_names (trees seen) name) → found.headers ≡ headers (trees seen) → classes_seen found ≡ classes_of m
+classes_found m found definitions seen same are said_is headers_are =
+    let whole : trees seen ≡ suite_definitions m = ap trees same ∙ are in
+    ap (λ (f : List ℕ → Option Meaning). record { said = f; headers = found.headers }) (fun_ext said_is)
+    ∙ ap (λ (hs : List Header). record { said = said_of_names (trees seen); headers = hs }) headers_are
+    ∙ ap (λ (ds : List StmtTree). record { said = said_of_names ds; headers = headers ds }) whole
 
 -- ---- lists that are told one behind the other
 
@@ -98,15 +115,15 @@ module _ (m : Suite) (s : Scopes) (bound : IsBound m s) (k : ModuleNames) (found
       ∙ ap (module_context_with (said_in m) (variables (module_scope m))) (signatures_with (module_role m) (module_meaning m) (functions m))
 
   -- what is said of statements
-  pub same_statements : (fs : List Headed) → fs ≡ headed_functions m → statements_along (module_context_by k fs) s.top s.funcs fs m ≡ statements_said (module_context m) (module_scope m) (headed_functions m) m (module_role m)
-  same_statements fs whole =
+  pub same_statements : (classes : ModuleClasses) (fs : List Headed) → fs ≡ headed_functions m → statements_along classes (module_context_by k fs) s.top s.funcs fs m ≡ statements_said (module_context m) (module_scope m) (headed_functions m) m (module_role m) classes
+  same_statements classes fs whole =
       let roles = module_role m in
       let c = context_in (module_context m) (module_scope m) in
-      ap (λ (e : ModuleContext). statements_along e s.top s.funcs fs m) (same_module_context fs whole)
-      ∙ ap (λ (t : Scope). statements_along (module_context m) t s.funcs fs m) bound.top
-      ∙ ap (λ (l : List Headed). statements_along (module_context m) (module_scope m) s.funcs l m) whole
+      ap (λ (e : ModuleContext). statements_along classes e s.top s.funcs fs m) (same_module_context fs whole)
+      ∙ ap (λ (t : Scope). statements_along classes (module_context m) t s.funcs fs m) bound.top
+      ∙ ap (λ (l : List Headed). statements_along classes (module_context m) (module_scope m) s.funcs l m) whole
       ∙ ap (λ (l : List Diag). l ++ bodies_said (module_context m) (global_sorts (module_context m) (module_scope m) (headed_functions m) m) (headed_functions m))
-      (walk_whole roles c (module_start c (module_context m).variables m) [] [] (λ q. refl) m [] s.funcs
+      (walk_whole roles classes c (module_start c (module_context m).variables m) [] [] (λ q. refl) 0 0 refl m [] s.funcs
       (bound.funcs ∙ ap (map (function_scope roles)) (functions_defined m) ∙ sym (append-nil (map (function_scope roles) (flat_map held_by (suite_definitions m))))))
 
   -- the typed tree
@@ -117,10 +134,10 @@ module _ (m : Suite) (s : Scopes) (bound : IsBound m s) (k : ModuleNames) (found
       ∙ ap (λ (l : List Headed). typed_parts (module_context m) (module_scope m) l m) whole
 
   -- ALL THAT IS TOLD
-  pub all_told : (trees : List FuncTree) → trees ≡ functions m → (fs : List Headed) → fs ≡ headed_all (meanings_by k s.top) trees s.funcs → (d0 d1 d2 d3 : List Diag) → d1 ≡ d0 ++ statements_along (module_context_by k fs) s.top s.funcs fs m → d2 ≡ d1 ++ flat_map inner_definitions_said trees → d3 ≡ d2 ++ s.faults → d3 ≡ d0 ++ walked m
-  all_told trees held fs with_headers d0 d1 d2 d3 first second third =
-      three_told d0 d1 d2 d3 _ _ _ (statements_said (module_context m) (module_scope m) (headed_functions m) m (module_role m)) (flat_map inner_definitions_said (functions m)) (faults m) first second third
-      (same_statements fs (same_functions trees held fs with_headers)) (ap (flat_map inner_definitions_said) held) bound.faults
+  pub all_told : (classes : ModuleClasses) → classes ≡ classes_of m → (trees : List FuncTree) → trees ≡ functions m → (fs : List Headed) → fs ≡ headed_all (meanings_by k s.top) trees s.funcs → (d0 d1 d2 d3 : List Diag) → d1 ≡ d0 ++ statements_along classes (module_context_by k fs) s.top s.funcs fs m → d2 ≡ d1 ++ flat_map inner_definitions_said trees → d3 ≡ d2 ++ s.faults → d3 ≡ d0 ++ walked m
+  all_told classes are trees held fs with_headers d0 d1 d2 d3 first second third =
+      three_told d0 d1 d2 d3 _ _ _ (statements_said (module_context m) (module_scope m) (headed_functions m) m (module_role m) (classes_of m)) (flat_map inner_definitions_said (functions m)) (faults m) first second third
+      (same_statements classes fs (same_functions trees held fs with_headers) ∙ ap (statements_said (module_context m) (module_scope m) (headed_functions m) m (module_role m)) are) (ap (flat_map inner_definitions_said) held) bound.faults
 
 -- as many scopes as functions
 pub one_to_one : (m : Suite) (s : Scopes) → IsBound m s → (found : List (Bor Func)) → func_trees found ≡ functions m → length found ≡ length s.funcs

@@ -6,7 +6,7 @@
 --
 -- The typed tree has every function and variable at its number. Where something is wrong there is no answer with a tree, and what
 -- has no type stands in it as what says nothing: a body without statements, a signature without parameters, a variable that is None.
-use Rattle.std.specs.Prelude.{ℕ, false, List, [], ◌++◌, map, length, Option, Some, None, unwrap_or}
+use Rattle.std.specs.Prelude.{ℕ, ◌+◌, false, List, [], ◌++◌, map, length, Option, Some, None, unwrap_or}
 use Rattle.std.specs.List.{flat_map}
 use Rattle.py_syntax.specs.Statements.{Suite, no_stmts, stmt_then}
 use Rattle.py_syntax_diagnostics.specs.declared.diagnostic.Diag.{Diag}
@@ -25,10 +25,12 @@ use Rattle.py_check_messages.specs.Seen.{Seen}
 use Rattle.py_check_signatures.specs.Headers.{signature_of}
 use Rattle.py_check_names.specs.Outline.{stmt_definitions, suite_definitions}
 use Rattle.py_check_names.specs.Meanings.{variables, own_names, number, meaning_in, said_in}
+use Rattle.py_check_classes.specs.Names.{classes_in}
 use Rattle.py_check_values.specs.Returns as ret
 use Rattle.py_check_values.specs.Returns.{ReturnSort}
 use Rattle.py_check_places.specs.Places.{Known}
 use Rattle.py_check_statements.specs.Bodies.{nothing_around, after, block, block_after}
+use Rattle.py_check_definitions.specs.Classes.{ModuleClasses, classes_of}
 use Rattle.py_check_definitions.specs.Definitions.{Headed, headed_functions, signatures, names_given, definitions_said, inner_definitions_said, or_refused}
 use Rattle.py_check_definitions.specs.Starts.{start_sort, own_sort}
 use Rattle.py_check_definitions.specs.Variables.{typed_variables, numbers_from}
@@ -98,14 +100,14 @@ module _ (c : Context) (names : List (List ℕ)) (m : Suite) where
 
 -- ---- what is said along them
 
--- OF EACH STATEMENT, behind definitions of these names: of the definitions in it, with what is known where it begins, and of itself.
--- In every text a definition is a whole statement of the module
-module _ (roles : Roles) (c : Context) where
-  abbrev pub walk_said : Known → List (List ℕ) → Suite → List Diag
-  walk_said k earlier no_stmts = []
-  walk_said k earlier (stmt_then s more) =
-      definitions_said roles c k earlier (stmt_definitions s) ++ (block c ret.outside nothing_around k (stmt_then s no_stmts)).said
-      ++ walk_said (after c k s) (earlier ++ flat_map names_given (stmt_definitions s)) more
+-- OF EACH STATEMENT, behind definitions of these names and so many classes: of the definitions in it, with what is known where it
+-- begins, and of itself. In every text a definition is a whole statement of the module
+module _ (roles : Roles) (classes : ModuleClasses) (c : Context) where
+  abbrev pub walk_said : Known → List (List ℕ) → ℕ → Suite → List Diag
+  walk_said k earlier n no_stmts = []
+  walk_said k earlier n (stmt_then s more) =
+      definitions_said roles classes c k earlier n (stmt_definitions s) ++ (block c ret.outside nothing_around k (stmt_then s no_stmts)).said
+      ++ walk_said (after c k s) (earlier ++ flat_map names_given (stmt_definitions s)) (n + length (classes_in (stmt_definitions s))) more
 
 -- ---- a function's body
 
@@ -154,10 +156,10 @@ module _ (e : ModuleContext) (top : Scope) (fs : List Headed) (m : Suite) where
   abbrev pub global_sorts : List VarSort
   global_sorts = fixed_sorts (context_in e top) e.variables m
 
-  -- where names of the module are this
-  abbrev pub statements_said : Roles → List Diag
-  statements_said roles =
-      walk_said roles (context_in e top) (module_start (context_in e top) e.variables m) [] m ++ bodies_said e global_sorts fs
+  -- where names of the module are this, and it has these classes
+  abbrev pub statements_said : Roles → ModuleClasses → List Diag
+  statements_said roles classes =
+      walk_said roles classes (context_in e top) (module_start (context_in e top) e.variables m) [] 0 m ++ bodies_said e global_sorts fs
 
   abbrev pub typed_parts : TypedModule
   typed_parts =
@@ -171,7 +173,7 @@ module _ (m : Suite) where
   -- binding finds and of which typing says nothing
   abbrev pub walked : List Diag
   walked =
-      statements_said module_context (module_scope m) (headed_functions m) m (module_role m) ++ flat_map inner_definitions_said (functions m) ++ faults m
+      statements_said module_context (module_scope m) (headed_functions m) m (module_role m) (classes_of m) ++ flat_map inner_definitions_said (functions m) ++ faults m
 
   -- ALL THAT IS SAID
   abbrev pub said : List Diag

@@ -15,8 +15,9 @@ use Rattle.py_check_values.specs.Returns.{outside}
 use Rattle.py_check_places.specs.Places.{Known}
 use Rattle.py_check_statements.specs.Bodies.{nothing_around, after, block}
 use Rattle.py_check_definitions.specs.declared.module_contexts.ModuleContext as declared
+use Rattle.py_check_definitions.specs.Classes.{ModuleClasses}
 use Rattle.py_check_definitions.specs.Definitions.{Headed}
-use Rattle.py_check_definitions.specs.Views.{said_along, names_behind, scopes_behind}
+use Rattle.py_check_definitions.specs.Views.{said_along, names_behind, classes_behind, scopes_behind}
 use Rattle.py_check.specs.Module.{ModuleContext, context_in, module_start, global_sorts, bodies_said}
 
 abbrev pub module_context_of : declared.ModuleContext → ModuleContext
@@ -36,18 +37,19 @@ module_context_by k fs = record {
   classes = [];
 }
 
--- along a module's own statements, whose functions have these scopes
-module _ (c : Context) where
-  abbrev pub walk_along : Known → List (List ℕ) → List Scope → Suite → List Diag
-  walk_along k earlier insides no_stmts = []
-  walk_along k earlier insides (stmt_then s more) =
-      said_along c k earlier insides (stmt_definitions s) ++ (block c outside nothing_around k (stmt_then s no_stmts)).said
-      ++ walk_along (after c k s) (names_behind earlier (stmt_definitions s)) (scopes_behind insides (stmt_definitions s)) more
+-- along a module's own statements, whose functions have these scopes, where it has these classes
+module _ (classes : ModuleClasses) (c : Context) where
+  abbrev pub walk_along : Known → List (List ℕ) → ℕ → List Scope → Suite → List Diag
+  walk_along k earlier n insides no_stmts = []
+  walk_along k earlier n insides (stmt_then s more) =
+      said_along classes c k earlier n insides (stmt_definitions s) ++ (block c outside nothing_around k (stmt_then s no_stmts)).said
+      ++ walk_along (after c k s) (names_behind earlier (stmt_definitions s)) (classes_behind n (stmt_definitions s)) (scopes_behind insides (stmt_definitions s)) more
 
--- from where the module begins
-abbrev pub own_along : Context → List (List ℕ) → List Scope → Suite → List Diag
-own_along c names insides m = walk_along c (module_start c names m) [] insides m
+  -- from where the module begins
+  abbrev pub own_along : List (List ℕ) → List Scope → Suite → List Diag
+  own_along names insides m = walk_along (module_start c names m) [] 0 insides m
 
 -- and then of the bodies of functions
-abbrev pub statements_along : ModuleContext → Scope → List Scope → List Headed → Suite → List Diag
-statements_along e top insides fs m = own_along (context_in e top) e.variables insides m ++ bodies_said e (global_sorts e top fs m) fs
+abbrev pub statements_along : ModuleClasses → ModuleContext → Scope → List Scope → List Headed → Suite → List Diag
+statements_along classes e top insides fs m =
+    own_along classes (context_in e top) e.variables insides m ++ bodies_said e (global_sorts e top fs m) fs

@@ -16,7 +16,7 @@ ghost use Rattle.py_check.specs.Fixed.{AreFixed};
 use indexmap::IndexSet;
 use py_check_context::{Context, VarType};
 use py_check_definitions::{
-    ModuleContext, Function, numbers_of, own_types, param_numbers, type_or_none, typed_variables,
+    Function, ModuleContext, numbers_of, own_types, param_numbers, type_or_none, typed_variables,
 };
 use py_check_names::{names_in, own_names};
 use py_check_places::Place;

@@ -9,7 +9,7 @@ ghost use Rattle.py_check_context.specs.Context.{context, var_sort};
 ghost use Rattle.py_check_names.specs.Meanings as meanings;
 ghost use Rattle.py_check_signatures.specs.Headers as headers;
 ghost use Rattle.py_check_places.specs.Views.{known_at};
-ghost use Rattle.py_check_definitions.specs.Views.{headed_of};
+ghost use Rattle.py_check_definitions.specs.Views.{headed_of, classes_seen};
 ghost use Rattle.py_check.specs.Outcome.{IsBound};
 ghost use Rattle.py_check.specs.Module as spec;
 ghost use Rattle.py_check.specs.Parts as views;
@@ -19,9 +19,10 @@ use crate::found::add_found;
 use crate::walk::walk;
 use indexmap::IndexSet;
 use py_binder::{Scope, Scopes};
+use py_check_classes::{ModuleClasses, module_classes};
 use py_check_context::{VarType, Variables};
 use py_check_definitions::{
-    ModuleContext, Function, add_inner_faults, definitions_of, headed_functions, no_classes,
+    Function, ModuleContext, add_inner_faults, definitions_of, headed_functions, no_classes,
     signatures_of, start_types, typed_variables,
 };
 use py_check_names::{ModuleNames, names_in};
@@ -53,10 +54,12 @@ pub(crate) fn typed_module(
     ensures told { IfOk result (λ c. faults.new ≡ faults.old ++ spec.walked (body_tree body.now)) }
 {
     let found = definitions_of(alloc, body, &scopes.top)?;
+    let classes = module_classes(alloc, found.definitions.as_slice())?;
     let functions = headed_functions(alloc, &found, scopes)?;
     let typed = typed_parts(
         alloc,
         &found.known,
+        &classes,
         functions.as_slice(),
         scopes,
         body,
@@ -67,10 +70,12 @@ pub(crate) fn typed_module(
     Ok(typed)
 }
 
-/// The typed tree of a module of these functions and statements, where this is known of its names and these are its scopes.
+/// The typed tree of a module of these functions and statements, where this is known of its names and classes and these are its
+/// scopes.
 fn typed_parts(
     alloc: Global,
     known: &ModuleNames,
+    headers: &ModuleClasses,
     functions: &[Function<'_>],
     scopes: &Scopes,
     body: &[Stmt],
@@ -79,7 +84,7 @@ fn typed_parts(
     requires bound { scopes.now.top ≡ module_scope (body_tree body.now) }
     requires names { known.now.variables.keys ≡ meanings.variables scopes.now.top }
     ensures typed { IfOk result (λ c. typed_module c ≡ spec.typed_parts (views.module_context_by known.now (map headed_of functions.now)) scopes.now.top (map headed_of functions.now) (body_tree body.now)) }
-    ensures told { IfOk result (λ c. faults.new ≡ faults.old ++ views.statements_along (views.module_context_by known.now (map headed_of functions.now)) scopes.now.top scopes.now.funcs (map headed_of functions.now) (body_tree body.now)) }
+    ensures told { IfOk result (λ c. faults.new ≡ faults.old ++ views.statements_along (classes_seen headers.now) (views.module_context_by known.now (map headed_of functions.now)) scopes.now.top scopes.now.funcs (map headed_of functions.now) (body_tree body.now)) }
 {
     let signatures = signatures_of(alloc, functions)?;
     let classes = no_classes(alloc);
@@ -87,6 +92,7 @@ fn typed_parts(
         known,
         signatures: signatures.as_slice(),
         classes: &classes,
+        headers,
     };
     typed_in(alloc, &module_context, functions, scopes, body, faults)
 }
@@ -103,7 +109,7 @@ fn typed_in(
     requires bound { scopes.now.top ≡ module_scope (body_tree body.now) }
     requires names { module_context.now.known.now.variables.keys ≡ meanings.variables scopes.now.top }
     ensures typed { IfOk result (λ c. typed_module c ≡ spec.typed_parts (views.module_context_of module_context.now) scopes.now.top (map headed_of functions.now) (body_tree body.now)) }
-    ensures told { IfOk result (λ c. faults.new ≡ faults.old ++ views.statements_along (views.module_context_of module_context.now) scopes.now.top scopes.now.funcs (map headed_of functions.now) (body_tree body.now)) }
+    ensures told { IfOk result (λ c. faults.new ≡ faults.old ++ views.statements_along (classes_seen module_context.now.headers.now) (views.module_context_of module_context.now) scopes.now.top scopes.now.funcs (map headed_of functions.now) (body_tree body.now)) }
 {
     let own = own_statements(alloc, module_context, scopes, body, faults)?;
     let Own { typed, mut place } = own;
@@ -127,7 +133,7 @@ fn own_statements(
     faults: &mut Many<Diag>,
 ) -> Result<Own, Memory>
     ensures typed { IfOk result (λ o. option_map (map typed_stmt) o.typed ≡ (spec.own_statements (spec.context_in (views.module_context_of module_context.now) scopes.now.top) module_context.now.known.now.variables.keys (body_tree body.now)).got) }
-    ensures told { IfOk result (λ o. faults.new ≡ faults.old ++ views.own_along (spec.context_in (views.module_context_of module_context.now) scopes.now.top) module_context.now.known.now.variables.keys scopes.now.funcs (body_tree body.now)) }
+    ensures told { IfOk result (λ o. faults.new ≡ faults.old ++ views.own_along (classes_seen module_context.now.headers.now) (spec.context_in (views.module_context_of module_context.now) scopes.now.top) module_context.now.known.now.variables.keys scopes.now.funcs (body_tree body.now)) }
     ensures known { IfOk result (λ o. (known_at o.place).types.globals ≡ spec.fixed_sorts (spec.context_in (views.module_context_of module_context.now) scopes.now.top) module_context.now.known.now.variables.keys (body_tree body.now)) }
 {
     let names = names_in(alloc, module_context.known, &scopes.top)?;
@@ -139,6 +145,7 @@ fn own_statements(
     statements_in(
         alloc,
         &scope,
+        module_context.headers,
         &module_context.known.variables,
         scopes.funcs.as_slice(),
         body,
@@ -150,17 +157,18 @@ fn own_statements(
 fn statements_in(
     alloc: Global,
     scope: &py_check_context::Context<'_>,
+    headers: &ModuleClasses,
     variables: &IndexSet<Name>,
     insides: &[Scope],
     body: &[Stmt],
     faults: &mut Many<Diag>,
 ) -> Result<Own, Memory>
     ensures typed { IfOk result (λ o. option_map (map typed_stmt) o.typed ≡ (spec.own_statements (context scope.now) variables.now.keys (body_tree body.now)).got) }
-    ensures told { IfOk result (λ o. faults.new ≡ faults.old ++ views.own_along (context scope.now) variables.now.keys insides.now (body_tree body.now)) }
+    ensures told { IfOk result (λ o. faults.new ≡ faults.old ++ views.own_along (classes_seen headers.now) (context scope.now) variables.now.keys insides.now (body_tree body.now)) }
     ensures known { IfOk result (λ o. (known_at o.place).types.globals ≡ spec.fixed_sorts (context scope.now) variables.now.keys (body_tree body.now)) }
 {
     let mut place = start(alloc, scope, variables, body)?;
-    let typed = walk(alloc, scope, insides, body, &mut place, faults)?;
+    let typed = walk(alloc, scope, headers, insides, body, &mut place, faults)?;
     Ok(Own { typed, place })
 }
 

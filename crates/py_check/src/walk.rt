@@ -15,8 +15,9 @@ ghost use Rattle.py_check.specs.Parts as views;
 
 use indexmap::IndexSet;
 use py_binder::Scope;
+use py_check_classes::ModuleClasses;
 use py_check_context::Context;
-use py_check_definitions::add_definitions;
+use py_check_definitions::{Earlier, add_definitions};
 use py_check_names::definitions_in;
 use py_check_places::Place;
 use py_check_statements::{Around, Inside, block};
@@ -26,31 +27,42 @@ use py_syntax_diagnostics::Diag;
 use py_typed::TStmt;
 use std::alloc::Global;
 use std::slice::from_ref;
-use value_core::{Many, Memory, Name};
+use value_core::{Many, Memory};
 
 /// A module's own statements, whose functions have these scopes: their typed forms, if they are typed, and what is said of each and
 /// of the definitions in it, with what is known where it begins.
 pub(crate) fn walk(
     alloc: Global,
     scope: &Context<'_>,
+    classes: &ModuleClasses,
     insides: &[Scope],
     body: &[Stmt],
     place: &mut Place,
     faults: &mut Many<Diag>,
 ) -> Result<Option<Many<TStmt>>, Memory>
     ensures typed { IfOk result (λ t. option_map (map typed_stmt) t ≡ (bodies.block (context scope.now) outside bodies.nothing_around (known_at place.old) (body_tree body.now)).got) }
-    ensures told { IfOk result (λ t. faults.new ≡ faults.old ++ views.walk_along (context scope.now) (known_at place.old) [] insides.now (body_tree body.now)) }
+    ensures told { IfOk result (λ t. faults.new ≡ faults.old ++ views.walk_along (definitions.classes_seen classes.now) (context scope.now) (known_at place.old) [] 0 insides.now (body_tree body.now)) }
     ensures known { IfOk result (λ t. known_at place.new ≡ bodies.block_after (context scope.now) (known_at place.old) (body_tree body.now)) }
 {
     let mut typed = Some(Many::new(alloc));
-    let mut earlier = IndexSet::new(alloc);
+    let mut earlier = nothing_earlier(alloc);
     let mut rest = insides;
     for s in body {
-        rest = add_definitions_of(alloc, scope, place, s, rest, &mut earlier, faults)?;
+        rest = add_definitions_of(alloc, scope, place, classes, s, rest, &mut earlier, faults)?;
         let one = statement(alloc, scope, s, place, faults)?;
         typed = with_all(typed, one)?;
     }
     Ok(typed)
+}
+
+fn nothing_earlier(alloc: Global) -> Earlier
+    ensures names { result.names.keys ≡ [] }
+    ensures classes { result.classes ≡ 0 }
+{
+    Earlier {
+        names: IndexSet::new(alloc),
+        classes: 0,
+    }
 }
 
 /// Adds what is said of the definitions in a statement, which begins at this place.
@@ -58,13 +70,15 @@ fn add_definitions_of<'a>(
     alloc: Global,
     scope: &Context<'_>,
     place: &Place,
+    classes: &ModuleClasses,
     s: &Stmt,
     insides: &'a [Scope],
-    earlier: &mut IndexSet<Name>,
+    earlier: &mut Earlier,
     faults: &mut Many<Diag>,
 ) -> Result<&'a [Scope], Memory>
-    ensures told { IfOk result (λ rest. faults.new ≡ faults.old ++ definitions.said_along (context scope.now) (known_at place.now) earlier.old.keys insides.now (stmt_definitions (stmt_tree s.now))) }
-    ensures names { IfOk result (λ rest. earlier.new.keys ≡ definitions.names_behind earlier.old.keys (stmt_definitions (stmt_tree s.now))) }
+    ensures told { IfOk result (λ rest. faults.new ≡ faults.old ++ definitions.said_along (definitions.classes_seen classes.now) (context scope.now) (known_at place.now) earlier.old.names.keys earlier.old.classes insides.now (stmt_definitions (stmt_tree s.now))) }
+    ensures names { IfOk result (λ rest. earlier.new.names.keys ≡ definitions.names_behind earlier.old.names.keys (stmt_definitions (stmt_tree s.now))) }
+    ensures classes { IfOk result (λ rest. earlier.new.classes ≡ definitions.classes_behind earlier.old.classes (stmt_definitions (stmt_tree s.now))) }
     ensures scopes { IfOk result (λ rest. rest.now ≡ definitions.scopes_behind insides.now (stmt_definitions (stmt_tree s.now))) }
 {
     let found = definitions_in(alloc, from_ref(s))?;
@@ -72,6 +86,7 @@ fn add_definitions_of<'a>(
         alloc,
         scope,
         place,
+        classes,
         found.as_slice(),
         insides,
         earlier,

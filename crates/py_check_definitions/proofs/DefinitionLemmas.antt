@@ -1,5 +1,5 @@
 -- The walk over definitions says what is to be said of them.
-use Rattle.std.proofs.Common.{◌≡◌, ◌∙◌, ℕ, suc, ◌+◌, ◌<◌, not, ◌&&◌, ◌||◌, List, [], ◌∷◌, ◌++◌, length, map, drop, get_or, drop-cons, add-one, refl, ap, ap₂, sym, Bor}
+use Rattle.std.proofs.Common.{◌≡◌, ◌∙◌, ℕ, suc, ◌+◌, ◌<◌, not, ◌&&◌, ◌||◌, List, [], ◌∷◌, ◌++◌, length, map, drop, get_or, drop-cons, add-one, length-append, arith, refl, ap, ap₂, sym, Bor}
 use Rattle.std.proofs.lemmas.List.{append_assoc, append-nil}
 use Rattle.std.proofs.lemmas.List.Folds.{list_any-append}
 use Rattle.std.specs.List.{flat_map}
@@ -20,9 +20,11 @@ use Rattle.py_check_names.specs.Walked.{trees}
 use Rattle.py_check_names.specs.Outline.{held_by}
 use Rattle.py_check_names.proofs.OutlineLemmas.{trees_at}
 use Rattle.py_check_signatures.specs.Definitions.{is_builtin_name}
+use Rattle.py_check_classes.specs.Names.{class_in, classes_in}
 use Rattle.py_check_places.specs.Places.{Known}
+use Rattle.py_check_definitions.specs.Classes.{ModuleClasses}
 use Rattle.py_check_definitions.specs.Definitions.{function_said, names_given, definition_said, definitions_said}
-use Rattle.py_check_definitions.specs.Views.{class_parts, said_at, said_along, names_behind, scopes_behind}
+use Rattle.py_check_definitions.specs.Views.{class_parts, said_at, said_along, names_behind, classes_behind, scopes_behind}
 
 -- a class by its parts
 pub class_tree_at : (c : Class) → class_tree c ≡ class_parts c
@@ -45,21 +47,26 @@ given_step given i p h at ks ks2 all y is put before =
 -- ---- a step of the walk
 
 module _ (defs : List (Bor Stmt)) (i : ℕ) (x : Bor Stmt) (h : i < length defs) (at : x ≡ get_or defs i x) where
-  module _ (c : Context) (k : Known) where
-    pub walk_step : (ks ks2 : List (List ℕ)) → ks2 ≡ insert_all bytes_eq ks (names_given (stmt_tree x.now)) → (rs rs2 : List Scope) → rs2 ≡ drop (length (held_by (stmt_tree x.now))) rs → (d1 d2 whole : List Diag) → d2 ≡ d1 ++ said_at c k ks rs (stmt_tree x.now) → d1 ++ said_along c k ks rs (trees (drop i defs)) ≡ whole → d2 ++ said_along c k ks2 rs2 (trees (drop (i + 1) defs)) ≡ whole
-    walk_step ks ks2 put rs rs2 left d1 d2 whole one before =
+  module _ (classes : ModuleClasses) (c : Context) (k : Known) where
+    pub walk_step : (ks ks2 : List (List ℕ)) → ks2 ≡ insert_all bytes_eq ks (names_given (stmt_tree x.now)) → (n n2 : ℕ) → n2 ≡ n + length (class_in (stmt_tree x.now)) → (rs rs2 : List Scope) → rs2 ≡ drop (length (held_by (stmt_tree x.now))) rs → (d1 d2 whole : List Diag) → d2 ≡ d1 ++ said_at classes c k ks n rs (stmt_tree x.now) → d1 ++ said_along classes c k ks n rs (trees (drop i defs)) ≡ whole → d2 ++ said_along classes c k ks2 n2 rs2 (trees (drop (i + 1) defs)) ≡ whole
+    walk_step ks ks2 put n n2 counted rs rs2 left d1 d2 whole one before =
         let t = stmt_tree x.now in
         let more = trees (drop (i + 1) defs) in
-        ap (λ d. d ++ said_along c k ks2 rs2 more) one
-        ∙ append_assoc d1 (said_at c k ks rs t) (said_along c k ks2 rs2 more)
-        ∙ ap (λ l. d1 ++ (said_at c k ks rs t ++ said_along c k l rs2 more)) put
-        ∙ ap (λ l. d1 ++ (said_at c k ks rs t ++ said_along c k (insert_all bytes_eq ks (names_given t)) l more)) left
-        ∙ ap (λ l. d1 ++ said_along c k ks rs l) (sym (trees_at defs i x h at))
+        ap (λ d. d ++ said_along classes c k ks2 n2 rs2 more) one
+        ∙ append_assoc d1 (said_at classes c k ks n rs t) (said_along classes c k ks2 n2 rs2 more)
+        ∙ ap (λ l. d1 ++ (said_at classes c k ks n rs t ++ said_along classes c k l n2 rs2 more)) put
+        ∙ ap (λ m. d1 ++ (said_at classes c k ks n rs t ++ said_along classes c k (insert_all bytes_eq ks (names_given t)) m rs2 more)) counted
+        ∙ ap (λ l. d1 ++ (said_at classes c k ks n rs t ++ said_along classes c k (insert_all bytes_eq ks (names_given t)) (n + length (class_in t)) l more)) left
+        ∙ ap (λ l. d1 ++ said_along classes c k ks n rs l) (sym (trees_at defs i x h at))
         ∙ before
 
   pub names_step : (ks ks2 : List (List ℕ)) → ks2 ≡ insert_all bytes_eq ks (names_given (stmt_tree x.now)) → (whole : List (List ℕ)) → names_behind ks (trees (drop i defs)) ≡ whole → names_behind ks2 (trees (drop (i + 1) defs)) ≡ whole
   names_step ks ks2 put whole before =
       ap (λ l. names_behind l (trees (drop (i + 1) defs))) put ∙ ap (names_behind ks) (sym (trees_at defs i x h at)) ∙ before
+
+  pub classes_step : (n n2 : ℕ) → n2 ≡ n + length (class_in (stmt_tree x.now)) → (whole : ℕ) → classes_behind n (trees (drop i defs)) ≡ whole → classes_behind n2 (trees (drop (i + 1) defs)) ≡ whole
+  classes_step n n2 counted whole before =
+      ap (λ m. classes_behind m (trees (drop (i + 1) defs))) counted ∙ ap (classes_behind n) (sym (trees_at defs i x h at)) ∙ before
 
   pub scopes_step : (rs rs2 : List Scope) → rs2 ≡ drop (length (held_by (stmt_tree x.now))) rs → (whole : List Scope) → scopes_behind rs (trees (drop i defs)) ≡ whole → scopes_behind rs2 (trees (drop (i + 1) defs)) ≡ whole
   scopes_step rs rs2 left whole before =
@@ -97,38 +104,46 @@ names_left a b same (x ∷ more) q =
     names_left (insert_all bytes_eq a (names_given x)) (b ++ names_given x) (same_with a b same (names_given x)) more q
     ∙ ap (λ l. contains l q) (append_assoc b (names_given x) (flat_map names_given more))
 
-module _ (roles : Roles) (c : Context) (k : Known) where
-  one_said : (a b : List (List ℕ)) → Same a b → (more : List FuncTree) (rest : List Scope) (node : StmtNode) (span : Span) → said_at c k a (map (function_scope roles) (held_by (s.at node span) ++ more) ++ rest) (s.at node span) ≡ definition_said roles c k b (s.at node span)
-  one_said a b same more rest (s.Def name params ret body marks) span =
+-- and so many classes are theirs
+pub classes_left : (n : ℕ) (ds : List StmtTree) → classes_behind n ds ≡ n + length (classes_in ds)
+classes_left n [] = omega arith
+classes_left n (x ∷ more) =
+    let both = length-append (class_in x) (classes_in more) in
+    let rest = classes_left (n + length (class_in x)) more in
+    omega (arith, both, rest)
+
+module _ (roles : Roles) (classes : ModuleClasses) (c : Context) (k : Known) where
+  one_said : (a b : List (List ℕ)) → Same a b → (n : ℕ) (more : List FuncTree) (rest : List Scope) (node : StmtNode) (span : Span) → said_at classes c k a n (map (function_scope roles) (held_by (s.at node span) ++ more) ++ rest) (s.at node span) ≡ definition_said roles classes c k b n (s.at node span)
+  one_said a b same n more rest (s.Def name params ret body marks) span =
       let f : FuncTree = record { name = name; params = params; ret = ret; body = body; marks = marks } in
       ap (λ known. function_said c k span (not known && not (is_builtin_name name)) (function_scope roles f) f) (same name)
-  one_said a b same more rest (s.ClassDef name bases body marks) span = refl
-  one_said a b same more rest (s.Import name other) span = refl
-  one_said a b same more rest (s.From name names) span = refl
-  one_said a b same more rest (s.Do e) span = refl
-  one_said a b same more rest (s.Assign target e) span = refl
-  one_said a b same more rest (s.Annot target mark e) span = refl
-  one_said a b same more rest (s.Aug target op e) span = refl
-  one_said a b same more rest (s.Del e) span = refl
-  one_said a b same more rest s.Pass span = refl
-  one_said a b same more rest s.Break span = refl
-  one_said a b same more rest s.Continue span = refl
-  one_said a b same more rest (s.Return e) span = refl
-  one_said a b same more rest (s.Raise e) span = refl
-  one_said a b same more rest (s.Global names) span = refl
-  one_said a b same more rest (s.Assert e message) span = refl
-  one_said a b same more rest (s.If arms other) span = refl
-  one_said a b same more rest (s.While test body) span = refl
-  one_said a b same more rest (s.For target e body) span = refl
-  one_said a b same more rest (s.Try body handlers last) span = refl
+  one_said a b same n more rest (s.ClassDef name bases body marks) span = refl
+  one_said a b same n more rest (s.Import name other) span = refl
+  one_said a b same n more rest (s.From name names) span = refl
+  one_said a b same n more rest (s.Do e) span = refl
+  one_said a b same n more rest (s.Assign target e) span = refl
+  one_said a b same n more rest (s.Annot target mark e) span = refl
+  one_said a b same n more rest (s.Aug target op e) span = refl
+  one_said a b same n more rest (s.Del e) span = refl
+  one_said a b same n more rest s.Pass span = refl
+  one_said a b same n more rest s.Break span = refl
+  one_said a b same n more rest s.Continue span = refl
+  one_said a b same n more rest (s.Return e) span = refl
+  one_said a b same n more rest (s.Raise e) span = refl
+  one_said a b same n more rest (s.Global names) span = refl
+  one_said a b same n more rest (s.Assert e message) span = refl
+  one_said a b same n more rest (s.If arms other) span = refl
+  one_said a b same n more rest (s.While test body) span = refl
+  one_said a b same n more rest (s.For target e body) span = refl
+  one_said a b same n more rest (s.Try body handlers last) span = refl
 
-  one_of : (a b : List (List ℕ)) → Same a b → (more : List FuncTree) (rest : List Scope) (x : StmtTree) → said_at c k a (map (function_scope roles) (held_by x ++ more) ++ rest) x ≡ definition_said roles c k b x
-  one_of a b same more rest (s.at node span) = one_said a b same more rest node span
+  one_of : (a b : List (List ℕ)) → Same a b → (n : ℕ) (more : List FuncTree) (rest : List Scope) (x : StmtTree) → said_at classes c k a n (map (function_scope roles) (held_by x ++ more) ++ rest) x ≡ definition_said roles classes c k b n x
+  one_of a b same n more rest (s.at node span) = one_said a b same n more rest node span
 
   -- THE WALK says what is to be said
-  pub walk_says : (a b : List (List ℕ)) → Same a b → (ds : List StmtTree) (rest : List Scope) → said_along c k a (map (function_scope roles) (flat_map held_by ds) ++ rest) ds ≡ definitions_said roles c k b ds
-  walk_says a b same [] rest = refl
-  walk_says a b same (x ∷ more) rest =
-      ap₂ (λ (p q : List Diag). p ++ q) (one_of a b same (flat_map held_by more) rest x)
-      (ap (λ l. said_along c k (insert_all bytes_eq a (names_given x)) l more) (behind_front (function_scope roles) (held_by x) (flat_map held_by more) rest)
-      ∙ walk_says (insert_all bytes_eq a (names_given x)) (b ++ names_given x) (same_with a b same (names_given x)) more rest)
+  pub walk_says : (a b : List (List ℕ)) → Same a b → (n : ℕ) (ds : List StmtTree) (rest : List Scope) → said_along classes c k a n (map (function_scope roles) (flat_map held_by ds) ++ rest) ds ≡ definitions_said roles classes c k b n ds
+  walk_says a b same n [] rest = refl
+  walk_says a b same n (x ∷ more) rest =
+      ap₂ (λ (p q : List Diag). p ++ q) (one_of a b same n (flat_map held_by more) rest x)
+      (ap (λ l. said_along classes c k (insert_all bytes_eq a (names_given x)) (n + length (class_in x)) l more) (behind_front (function_scope roles) (held_by x) (flat_map held_by more) rest)
+      ∙ walk_says (insert_all bytes_eq a (names_given x)) (b ++ names_given x) (same_with a b same (names_given x)) (n + length (class_in x)) more rest)

@@ -5,8 +5,9 @@
 -- decorators and bases. Where each of them has a type, the definition is asked for its own rule, and where one has none nothing is
 -- said of it. Annotations are seen in the module's scope, and the signature of a function hangs on them alone. A name is new where
 -- no definition and no import earlier in the text has it. An import is of names that may be imported, each under its own name.
--- A class is not typed yet: one whose parts have types is outside the profile.
-use Rattle.std.specs.Prelude.{ℕ, Bool, true, false, ◌&&◌, if◌then◌else◌, List, [], ◌∷◌, ◌++◌, map, Option}
+-- Of a class its header is asked; its body is not typed yet, but for the annotations of its methods. Classes are known by their
+-- numbers, in the order of the text.
+use Rattle.std.specs.Prelude.{ℕ, ◌+◌, Bool, true, false, List, [], ◌∷◌, ◌++◌, map, length, Option}
 use Rattle.std.specs.List.{flat_map}
 use Rattle.py_syntax.specs.declared.token.Span.{Span}
 use Rattle.py_syntax.specs.Expressions.{ExprTree}
@@ -23,8 +24,10 @@ use Rattle.py_check_names.specs.Outline.{said_by, may_import_all, methods_in, su
 use Rattle.py_check_names.specs.Meanings.{module_meaning}
 use Rattle.py_check_signatures.specs.Headers.{HeaderSorts, header, header_said, signature_of}
 use Rattle.py_check_signatures.specs.Definitions.{is_new, own_count, def_said}
+use Rattle.py_check_classes.specs.Names.{class_in}
 use Rattle.py_check_places.specs.Places.{Known}
 use Rattle.py_check_definitions.specs.Decorators.{decorators_typed, decorators_said}
+use Rattle.py_check_definitions.specs.Classes.{ModuleClasses, class_header_said}
 
 -- a function with its scope and what its annotations give
 pub record Headed : Type 0 where
@@ -37,10 +40,6 @@ headed roles meanings f = record { tree = f; inside = function_scope roles f; he
 
 -- ---- what is said of one definition, where this is known
 
--- of a class whose parts have types, or not
-abbrev pub refused_class : Span → List ℕ → Bool → List Diag
-refused_class span name typed = if typed then diag span (message.outside_profile name) ∷ [] else []
-
 module _ (c : Context) (k : Known) where
   -- OF A FUNCTION with these names inside, whose own name is new or not: first of its parts
   abbrev pub function_said : Span → Bool → Scope → FuncTree → List Diag
@@ -48,11 +47,11 @@ module _ (c : Context) (k : Known) where
       decorators_said c k f.marks ++ header_said c.meaning f
       ++ def_said span fresh (own_count inside) (decorators_typed c k f.marks) f (header c.meaning f)
 
-  -- OF A CLASS: of its parts, and of the annotations of its methods
-  abbrev pub class_said : Span → ClassTree → List Diag
-  class_said span x =
+  -- OF THE CLASS of a number: of its parts, of the annotations of its methods, and of its header
+  abbrev pub class_said : ModuleClasses → ℕ → Span → ClassTree → List Diag
+  class_said classes n span x =
       decorators_said c k x.marks ++ decorators_said c k x.bases ++ flat_map (header_said c.meaning) (methods_in x.body)
-      ++ refused_class span x.name (decorators_typed c k x.marks && decorators_typed c k x.bases)
+      ++ class_header_said classes c k n span x
 
 abbrev pub import_said : Bool → Span → List Diag
 import_said true span = []
@@ -62,21 +61,23 @@ import_said false span = diag span message.outside_import ∷ []
 abbrev pub names_given : StmtTree → List (List ℕ)
 names_given s = map (λ p. p.0) (said_by 0 s)
 
-module _ (roles : Roles) (c : Context) (k : Known) where
-  -- behind these names, which stand earlier in the text
-  abbrev pub definition_said : List (List ℕ) → StmtTree → List Diag
-  definition_said earlier (at (Def name params ret body marks) span) =
+-- where a module has these roles and classes
+module _ (roles : Roles) (classes : ModuleClasses) (c : Context) (k : Known) where
+  -- behind these names and so many classes, which stand earlier in the text
+  abbrev pub definition_said : List (List ℕ) → ℕ → StmtTree → List Diag
+  definition_said earlier n (at (Def name params ret body marks) span) =
       function_said c k span (is_new earlier name) (function_scope roles (record { name = name; params = params; ret = ret; body = body; marks = marks }))
       (record { name = name; params = params; ret = ret; body = body; marks = marks })
-  definition_said earlier (at (ClassDef name bases body marks) span) =
-      class_said c k span (record { name = name; bases = bases; body = body; marks = marks })
-  definition_said earlier (at (Import name other) span) = import_said false span
-  definition_said earlier (at (From name names) span) = import_said (may_import_all name names) span
-  definition_said earlier _ = []
+  definition_said earlier n (at (ClassDef name bases body marks) span) =
+      class_said c k classes n span (record { name = name; bases = bases; body = body; marks = marks })
+  definition_said earlier n (at (Import name other) span) = import_said false span
+  definition_said earlier n (at (From name names) span) = import_said (may_import_all name names) span
+  definition_said earlier n _ = []
 
-  abbrev pub definitions_said : List (List ℕ) → List StmtTree → List Diag
-  definitions_said earlier [] = []
-  definitions_said earlier (s ∷ more) = definition_said earlier s ++ definitions_said (earlier ++ names_given s) more
+  abbrev pub definitions_said : List (List ℕ) → ℕ → List StmtTree → List Diag
+  definitions_said earlier n [] = []
+  definitions_said earlier n (s ∷ more) =
+      definition_said earlier n s ++ definitions_said (earlier ++ names_given s) (n + length (class_in s)) more
 
 -- ---- in a function's body
 

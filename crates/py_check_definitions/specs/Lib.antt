@@ -1,4 +1,5 @@
 pub mod Decorators
+pub mod Classes
 pub mod Definitions
 pub mod Starts
 pub mod Variables

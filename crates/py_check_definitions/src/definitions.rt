@@ -1,6 +1,7 @@
 //! What is said of definitions and imports where they stand.
-ghost use Rattle.std.specs.Prelude.{◌≡◌, ◌++◌, length, map, drop, IfOk};
+ghost use Rattle.std.specs.Prelude.{◌≡◌, ◌+◌, ◌++◌, length, map, drop, IfOk};
 ghost use Rattle.std.specs.List.{flat_map};
+ghost use Rattle.std.specs.Option.{option_copied};
 ghost use Rattle.std.specs.Str.{bytes_eq};
 ghost use Rattle.indexmap.specs.IndexSet.{insert_all};
 ghost use Rattle.py_syntax.specs.Statements.{stmt_tree, func_tree, class_tree, body_tree};
@@ -8,14 +9,17 @@ ghost use Rattle.py_check_context.specs.Context.{context};
 ghost use Rattle.py_check_names.specs.Walked.{trees, func_trees};
 ghost use Rattle.py_check_names.specs.Outline as outline;
 ghost use Rattle.py_check_signatures.specs.Headers as headers;
+ghost use Rattle.py_check_classes.specs.Names.{class_in};
 ghost use Rattle.py_check_places.specs.Views.{known_at};
 ghost use Rattle.py_check_definitions.specs.Decorators as asked;
+ghost use Rattle.py_check_definitions.specs.Classes as classes_spec;
 ghost use Rattle.py_check_definitions.specs.Definitions as spec;
 ghost use Rattle.py_check_definitions.specs.Views as views;
 
-use crate::decorators::add_decorators;
+use crate::decorators::{Asked, add_parts};
 use indexmap::IndexSet;
 use py_binder::Scope;
+use py_check_classes::{Header, ModuleClasses, add_header_said};
 use py_check_context::{Context, Meaning};
 use py_check_messages::{outside_import, outside_profile};
 use py_check_names::{add_name, definitions_in, may_import_all, outline_of};
@@ -26,26 +30,34 @@ use py_syntax_diagnostics::Diag;
 use std::alloc::Global;
 use value_core::{Many, Memory, Name};
 
-/// Adds what is said of definitions and imports that stand at this place, in the order of the text, behind definitions of the
-/// names in `earlier`, which theirs are put behind. The first of the scopes are those of their functions; answers the ones behind
-/// those.
+/// What stands earlier in the text: the names that definitions and imports give there, and how many classes.
+#[derive(Drop)]
+pub struct Earlier {
+    pub names: IndexSet<Name>,
+    pub classes: usize,
+}
+
+/// Adds what is said of definitions and imports that stand at this place, in the order of the text, behind what stands earlier, which
+/// they are put behind. The first of the scopes are those of their functions; answers the ones behind those.
 pub fn add_definitions<'a>(
     alloc: Global,
     scope: &Context<'_>,
     place: &Place,
+    classes: &ModuleClasses,
     definitions: &[&Stmt],
     insides: &'a [Scope],
-    earlier: &mut IndexSet<Name>,
+    earlier: &mut Earlier,
     faults: &mut Many<Diag>,
 ) -> Result<&'a [Scope], Memory>
-    ensures told { IfOk result (λ rest. faults.new ≡ faults.old ++ views.said_along (context scope.now) (known_at place.now) earlier.old.keys insides.now (trees definitions.now)) }
-    ensures names { IfOk result (λ rest. earlier.new.keys ≡ views.names_behind earlier.old.keys (trees definitions.now)) }
+    ensures told { IfOk result (λ rest. faults.new ≡ faults.old ++ views.said_along (views.classes_seen classes.now) (context scope.now) (known_at place.now) earlier.old.names.keys earlier.old.classes insides.now (trees definitions.now)) }
+    ensures names { IfOk result (λ rest. earlier.new.names.keys ≡ views.names_behind earlier.old.names.keys (trees definitions.now)) }
+    ensures classes { IfOk result (λ rest. earlier.new.classes ≡ views.classes_behind earlier.old.classes (trees definitions.now)) }
     ensures scopes { IfOk result (λ rest. rest.now ≡ views.scopes_behind insides.now (trees definitions.now)) }
 {
     let mut rest = insides;
     for s in definitions {
-        add_definition(alloc, scope, place, earlier, rest, *s, faults)?;
-        let held = add_names(alloc, *s, earlier)?;
+        add_definition(alloc, scope, place, classes, earlier, rest, *s, faults)?;
+        let held = put_behind(alloc, *s, earlier)?;
         rest = behind(rest, held);
     }
     Ok(rest)
@@ -60,6 +72,26 @@ fn behind<'a>(insides: &'a [Scope], held: usize) -> &'a [Scope]
         return &insides[held..];
     }
     &insides[end..]
+}
+
+/// Puts a definition or an import behind what stands earlier, and answers how many functions it holds.
+fn put_behind(alloc: Global, s: &Stmt, earlier: &mut Earlier) -> Result<usize, Memory>
+    ensures names { IfOk result (λ held. earlier.new.names.keys ≡ insert_all bytes_eq earlier.old.names.keys (spec.names_given (stmt_tree s.now))) }
+    ensures classes { IfOk result (λ held. earlier.new.classes ≡ earlier.old.classes + length (class_in (stmt_tree s.now))) }
+    ensures held { IfOk result (λ held. held ≡ length (outline.held_by (stmt_tree s.now))) }
+{
+    earlier.classes = with_class(earlier.classes, s)?;
+    add_names(alloc, s, &mut earlier.names)
+}
+
+/// So many classes, and one more where this is a class.
+fn with_class(count: usize, s: &Stmt) -> Result<usize, Memory>
+    ensures { IfOk result (λ n. n ≡ count + length (class_in (stmt_tree s.now))) }
+{
+    match &s.kind {
+        StmtKind::Class(_) => count.checked_add(1).ok_or(Memory),
+        _ => Ok(count),
+    }
 }
 
 /// Adds the names that a definition or an import gives, and answers how many functions it holds.
@@ -81,28 +113,32 @@ fn add_all(given: &[(Name, Meaning)], earlier: &mut IndexSet<Name>) -> Result<()
     Ok(())
 }
 
-/// Adds what is said of a definition or an import, where these names stand earlier in the text.
+/// Adds what is said of a definition or an import, behind what stands earlier.
 fn add_definition(
     alloc: Global,
     scope: &Context<'_>,
     place: &Place,
-    earlier: &IndexSet<Name>,
+    classes: &ModuleClasses,
+    earlier: &Earlier,
     insides: &[Scope],
     s: &Stmt,
     faults: &mut Many<Diag>,
 ) -> Result<(), Memory>
-    ensures { IfOk result (λ done. faults.new ≡ faults.old ++ views.said_at (context scope.now) (known_at place.now) earlier.now.keys insides.now (stmt_tree s.now)) }
+    ensures { IfOk result (λ done. faults.new ≡ faults.old ++ views.said_at (views.classes_seen classes.now) (context scope.now) (known_at place.now) earlier.now.names.keys earlier.now.classes insides.now (stmt_tree s.now)) }
 {
     match &s.kind {
         StmtKind::Def(f) => {
             let defined = Defined {
                 span: s.span,
-                fresh: is_new(earlier, &f.name),
+                fresh: is_new(&earlier.names, &f.name),
                 tree: f,
             };
             add_first(alloc, scope, place, defined, insides, faults)
         }
-        StmtKind::Class(c) => add_class(alloc, scope, place, s.span, c, faults),
+        StmtKind::Class(c) => {
+            let number = earlier.classes;
+            add_class(alloc, scope, place, classes, number, s.span, c, faults)
+        }
         StmtKind::Import(_, _) => outside_import(alloc, s.span, faults),
         StmtKind::From(source, names) => {
             if may_import_all(source, names.as_slice()) {
@@ -168,52 +204,69 @@ fn add_marks(
     ensures typed { IfOk result (λ typed. typed ≡ asked.decorators_typed (context scope.now) (known_at place.now) (func_tree f.now).marks) }
     ensures told { IfOk result (λ typed. faults.new ≡ faults.old ++ asked.decorators_said (context scope.now) (known_at place.now) (func_tree f.now).marks) }
 {
-    add_decorators(alloc, scope, place, f.marks.as_slice(), faults)
+    add_parts(
+        alloc,
+        scope,
+        place,
+        Asked::Decorator,
+        f.marks.as_slice(),
+        faults,
+    )
 }
 
-/// Adds what is said of a class: first of its decorators and bases, and of its methods' annotations.
+/// Adds what is said of the class of a number: first of its decorators and bases, then of its methods' annotations and its header.
 fn add_class(
     alloc: Global,
     scope: &Context<'_>,
     place: &Place,
+    classes: &ModuleClasses,
+    number: usize,
     span: Span,
     c: &Class,
     faults: &mut Many<Diag>,
 ) -> Result<(), Memory>
-    ensures { IfOk result (λ done. faults.new ≡ faults.old ++ spec.class_said (context scope.now) (known_at place.now) span (class_tree c.now)) }
+    ensures { IfOk result (λ done. faults.new ≡ faults.old ++ spec.class_said (context scope.now) (known_at place.now) (views.classes_seen classes.now) number span (class_tree c.now)) }
 {
-    add_class_parts(alloc, scope, place, span, c, faults)
+    add_class_parts(alloc, scope, place, classes, number, span, c, faults)
 }
 
 fn add_class_parts(
     alloc: Global,
     scope: &Context<'_>,
     place: &Place,
+    classes: &ModuleClasses,
+    number: usize,
     span: Span,
     c: &Class,
     faults: &mut Many<Diag>,
 ) -> Result<(), Memory>
-    ensures { IfOk result (λ done. faults.new ≡ faults.old ++ spec.class_said (context scope.now) (known_at place.now) span (views.class_parts c.now)) }
+    ensures { IfOk result (λ done. faults.new ≡ faults.old ++ spec.class_said (context scope.now) (known_at place.now) (views.classes_seen classes.now) number span (views.class_parts c.now)) }
 {
-    let marked = add_decorators(alloc, scope, place, c.marks.as_slice(), faults)?;
-    let based = add_decorators(alloc, scope, place, c.bases.as_slice(), faults)?;
+    let marks = c.marks.as_slice();
+    let bases = c.bases.as_slice();
+    let marked = add_parts(alloc, scope, place, Asked::Mark(classes), marks, faults)?;
+    let based = add_parts(alloc, scope, place, Asked::Base, bases, faults)?;
     add_methods(alloc, scope, c.body.as_slice(), faults)?;
-    add_refused_class(alloc, span, &c.name, marked && based, faults)
+    if !(marked && based) {
+        return Ok(());
+    }
+    add_header(alloc, span, &c.name, classes.headers.get(number), faults)
 }
 
-fn add_refused_class(
+/// Adds what is said of a class of this header.
+fn add_header(
     alloc: Global,
     span: Span,
     name: &Name,
-    typed: bool,
+    header: Option<&Header>,
     faults: &mut Many<Diag>,
 ) -> Result<(), Memory>
-    ensures { IfOk result (λ done. faults.new ≡ faults.old ++ spec.refused_class span name.now typed) }
+    ensures { IfOk result (λ done. faults.new ≡ faults.old ++ classes_spec.said_of_header span name.now (option_copied header.entry)) }
 {
-    if !typed {
-        return Ok(());
+    match header {
+        Some(header) => add_header_said(alloc, span, name, header, faults),
+        None => Ok(()),
     }
-    outside_profile(alloc, span, name.as_str(), faults)
 }
 
 /// Adds what is said in the annotations of methods.

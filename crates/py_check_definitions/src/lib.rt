@@ -1,7 +1,7 @@
 //! What a module's definitions are and what is said of them where they stand, and where the types of variables begin.
 //!
-//! `specs/Definitions.antt` has what is said of definitions and imports, `specs/Decorators.antt` what decorators and bases are asked
-//! for, `specs/Starts.antt` and `specs/Variables.antt` the types of variables where a module or a function begins and in the typed
+//! `specs/Definitions.antt` has what is said of definitions and imports, `specs/Classes.antt` what is said of the headers of classes,
+//! `specs/Decorators.antt` what decorators and bases are asked for, `specs/Starts.antt` and `specs/Variables.antt` the types of variables where a module or a function begins and in the typed
 //! tree. A module's tree and its scopes come in; what goes out are its definitions and functions, the types that are known of
 //! variables before any statement, and diagnostics put behind those that there are.
 #![tactic(auto)]
@@ -15,7 +15,7 @@ mod refused;
 mod starts;
 mod variables;
 
-pub use definitions::{add_definitions, add_inner_faults};
+pub use definitions::{Earlier, add_definitions, add_inner_faults};
 pub use functions::{Function, functions_of, signatures_of};
 pub use module_contexts::{ModuleContext, no_classes};
 pub use outlines::{Outlined, definitions_of, headed_functions};

@@ -9,8 +9,8 @@ ghost use Rattle.py_check_names.specs.Outline.{suite_definitions};
 ghost use Rattle.py_check_names.specs.Meanings.{said_in, variables};
 ghost use Rattle.py_check_definitions.specs.Views.{headed_of, headed_all, meanings_by};
 
-use crate::module_contexts::no_classes;
 use crate::functions::{Function, functions_of};
+use crate::module_contexts::no_classes;
 use py_binder::{Scope, Scopes};
 use py_check_names::{ModuleNames, Outline, definitions_in, module_names, names_in, outline_of};
 use py_syntax::{Func, Stmt};

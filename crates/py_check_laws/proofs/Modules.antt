@@ -27,6 +27,7 @@ use Rattle.py_check_signatures.specs.Headers.{header, header_said, signature_of}
 use Rattle.py_check_values.specs.Returns as ret
 use Rattle.py_check_places.specs.Places.{Known}
 use Rattle.py_check_statements.specs.Bodies.{nothing_around}
+use Rattle.py_check_definitions.specs.Classes.{classes_of}
 use Rattle.py_check_definitions.specs.Definitions.{Headed, headed, inner_definitions_said, refusal, headed_functions, signatures}
 use Rattle.py_check_definitions.specs.Starts.{given_sort, start_sort, or_param, param_sort, own_sort}
 use Rattle.py_check.specs.Module.{ModuleContext, context_in, module_start, own_statements, walk_said, return_of, function_start, body, body_after, bodies_said, global_sorts, module_context, walked, said, diagnostics}
@@ -147,7 +148,7 @@ module _ (m : Suite) (nothing : said m ≡ []) where
   top = context_in e (module_scope m)
 
   abbrev walk : List Diag
-  walk = walk_said (module_role m) top (module_start top e.variables m) [] m
+  walk = walk_said (module_role m) (classes_of m) top (module_start top e.variables m) [] 0 m
 
   abbrev bodies : List Diag
   bodies = bodies_said e (global_sorts e (module_scope m) (headed_functions m) m) (headed_functions m)
@@ -174,8 +175,8 @@ module _ (m : Suite) (nothing : said m ≡ []) where
   faultless : faults m ≡ []
   faultless = none_behind ((walk ++ bodies) ++ inner) (faults m) silent.0
 
-  quiet_walk : IsWalked (module_role m) top [] (module_start top e.variables m) m
-  quiet_walk = walk_quiet (module_role m) top (module_start top e.variables m) [] m silent.1 (none_before walk bodies statements)
+  quiet_walk : IsWalked (module_role m) (classes_of m) top [] (module_start top e.variables m) m
+  quiet_walk = walk_quiet (module_role m) (classes_of m) top (module_start top e.variables m) [] 0 m silent.1 (none_before walk bodies statements)
 
   pub own_quiet : (own_statements top e.variables m).said ≡ []
   own_quiet = quiet_walk.block

@@ -1,5 +1,5 @@
 -- Where nothing is said of a module, it has no decorators and no classes; so what is said of its definitions hangs on no place.
-use Rattle.std.proofs.Common.{◌≡◌, ◌∙◌, ℕ, Bool, true, false, List, [], ◌∷◌, ◌++◌, refl, ap, ap₂, sym, if◌then◌else◌}
+use Rattle.std.proofs.Common.{◌≡◌, ◌∙◌, ℕ, ◌+◌, Bool, true, false, List, [], ◌∷◌, ◌++◌, length, refl, ap, ap₂, sym, if◌then◌else◌}
 use Rattle.std.proofs.lemmas.List.{append-nil, append_assoc}
 use Rattle.std.proofs.lemmas.Grind.{flat_map-append}
 use Rattle.std.specs.List.{flat_map}
@@ -19,6 +19,8 @@ use Rattle.py_check_signatures.specs.Definitions.{is_new, own_count, def_said}
 use Rattle.py_check_values.specs.Returns.{outside}
 use Rattle.py_check_places.specs.Places.{Known}
 use Rattle.py_check_statements.specs.Bodies.{nothing_around, is_definition, after, statement, block}
+use Rattle.py_check_classes.specs.Names.{class_in, classes_in}
+use Rattle.py_check_definitions.specs.Classes.{ModuleClasses}
 use Rattle.py_check_definitions.specs.Definitions.{import_said, names_given, definition_said, definitions_said, refusal, or_refused}
 use Rattle.py_check.specs.Module.{walk_said}
 use Rattle.py_check_expressions_laws.proofs.Loud.{none_before, none_behind}
@@ -56,24 +58,24 @@ pub record IsPlain (roles : Roles) (meanings : List ℕ → Meaning) (earlier : 
   pub own : all_plain_said roles meanings earlier ds ≡ []
   pub headers : flat_map (header_said meanings) (flat_map held_by ds) ≡ []
 
-module _ (roles : Roles) (c : Context) where
-  one_plain : (k : Known) (earlier : List (List ℕ)) (x : StmtTree) → refusal x ≡ [] → definition_said roles c k earlier x ≡ [] → (plain_said roles c.meaning earlier x ≡ []) × (flat_map (header_said c.meaning) (held_by x) ≡ [])
-  one_plain k earlier (s.at (s.Def name params ret body []) span) r h =
+module _ (roles : Roles) (classes : ModuleClasses) (c : Context) where
+  one_plain : (k : Known) (earlier : List (List ℕ)) (n : ℕ) (x : StmtTree) → refusal x ≡ [] → definition_said roles classes c k earlier n x ≡ [] → (plain_said roles c.meaning earlier x ≡ []) × (flat_map (header_said c.meaning) (held_by x) ≡ [])
+  one_plain k earlier n (s.at (s.Def name params ret body []) span) r h =
       let f : FuncTree = record { name = name; params = params; ret = ret; body = body; marks = [] } in
       let own = def_said span (is_new earlier name) (own_count (function_scope roles f)) true f (header c.meaning f) in
       (none_behind (header_said c.meaning f) own h, two_none (header_said c.meaning f) [] (none_before (header_said c.meaning f) own h) refl)
-  one_plain k earlier (s.at (s.Def name params ret body (mark ∷ marks)) span) r h = absurd (cc)
-  one_plain k earlier (s.at (s.ClassDef name bases body marks) span) r h = absurd (cc)
-  one_plain k earlier (s.at (s.Import name other) span) r h = (h, refl)
-  one_plain k earlier (s.at (s.From name names) span) r h = (h, refl)
-  one_plain k earlier _ r h = (refl, refl)
+  one_plain k earlier n (s.at (s.Def name params ret body (mark ∷ marks)) span) r h = absurd (cc)
+  one_plain k earlier n (s.at (s.ClassDef name bases body marks) span) r h = absurd (cc)
+  one_plain k earlier n (s.at (s.Import name other) span) r h = (h, refl)
+  one_plain k earlier n (s.at (s.From name names) span) r h = (h, refl)
+  one_plain k earlier n _ r h = (refl, refl)
 
-  all_plain : (k : Known) (earlier : List (List ℕ)) (ds : List StmtTree) → flat_map refusal ds ≡ [] → definitions_said roles c k earlier ds ≡ [] → IsPlain roles c.meaning earlier ds
-  all_plain k earlier [] r h = record { own = refl; headers = refl }
-  all_plain k earlier (x ∷ ds) r h =
-      let rest = definitions_said roles c k (earlier ++ names_given x) ds in
-      let one = one_plain k earlier x (none_before (refusal x) (flat_map refusal ds) r) (none_before (definition_said roles c k earlier x) rest h) in
-      let more = all_plain k (earlier ++ names_given x) ds (none_behind (refusal x) (flat_map refusal ds) r) (none_behind (definition_said roles c k earlier x) rest h) in
+  all_plain : (k : Known) (earlier : List (List ℕ)) (n : ℕ) (ds : List StmtTree) → flat_map refusal ds ≡ [] → definitions_said roles classes c k earlier n ds ≡ [] → IsPlain roles c.meaning earlier ds
+  all_plain k earlier n [] r h = record { own = refl; headers = refl }
+  all_plain k earlier n (x ∷ ds) r h =
+      let rest = definitions_said roles classes c k (earlier ++ names_given x) (n + length (class_in x)) ds in
+      let one = one_plain k earlier n x (none_before (refusal x) (flat_map refusal ds) r) (none_before (definition_said roles classes c k earlier n x) rest h) in
+      let more = all_plain k (earlier ++ names_given x) (n + length (class_in x)) ds (none_behind (refusal x) (flat_map refusal ds) r) (none_behind (definition_said roles classes c k earlier n x) rest h) in
       record {
         own = two_none (plain_said roles c.meaning earlier x) (all_plain_said roles c.meaning (earlier ++ names_given x) ds) one.0 more.own;
         headers =
@@ -99,19 +101,19 @@ module _ (roles : Roles) (c : Context) where
     pub plain : IsPlain roles c.meaning earlier (suite_definitions m)
     pub block : (left k m).said ≡ []
 
-  pub walk_quiet : (k : Known) (earlier : List (List ℕ)) (m : Suite) → flat_map refusal (suite_definitions m) ≡ [] → walk_said roles c k earlier m ≡ [] → IsWalked earlier k m
-  walk_quiet k earlier s.no_stmts r h = record { plain = record { own = refl; headers = refl }; block = refl }
-  walk_quiet k earlier (s.stmt_then x more) r h =
+  pub walk_quiet : (k : Known) (earlier : List (List ℕ)) (n : ℕ) (m : Suite) → flat_map refusal (suite_definitions m) ≡ [] → walk_said roles classes c k earlier n m ≡ [] → IsWalked earlier k m
+  walk_quiet k earlier n s.no_stmts r h = record { plain = record { own = refl; headers = refl }; block = refl }
+  walk_quiet k earlier n (s.stmt_then x more) r h =
       let ds = stmt_definitions x in
       let es = suite_definitions more in
       let names = earlier ++ flat_map names_given ds in
-      let said = definitions_said roles c k earlier ds in
+      let said = definitions_said roles classes c k earlier n ds in
       let own = (left k (s.stmt_then x s.no_stmts)).said in
-      let rest = walk_said roles c (after c k x) names more in
+      let rest = walk_said roles classes c (after c k x) names (n + length (classes_in ds)) more in
       let rs = sym (flat_map-append refusal ds es) ∙ r in
       let here = none_before (said ++ own) rest h in
-      let one = all_plain k earlier ds (none_before (flat_map refusal ds) (flat_map refusal es) rs) (none_before said own here) in
-      let two = walk_quiet (after c k x) names more (none_behind (flat_map refusal ds) (flat_map refusal es) rs) (none_behind (said ++ own) rest h) in
+      let one = all_plain k earlier n ds (none_before (flat_map refusal ds) (flat_map refusal es) rs) (none_before said own here) in
+      let two = walk_quiet (after c k x) names (n + length (classes_in ds)) more (none_behind (flat_map refusal ds) (flat_map refusal es) rs) (none_behind (said ++ own) rest h) in
       record {
         plain = record {
           own = plain_two roles c.meaning earlier ds es ∙ two_none (all_plain_said roles c.meaning earlier ds) (all_plain_said roles c.meaning names es) one.own two.plain.own;

@@ -5,6 +5,7 @@ use Rattle.py_binder.specs.declared.scope.Scope.{Scope}
 use Rattle.py_typed.specs.Statements.{typed_stmt}
 use Rattle.py_check_context.specs.Context.{Context}
 use Rattle.py_check_places.specs.Views.{known_at}
+use Rattle.py_check_definitions.specs.Views.{classes_seen}
 use Rattle.py_check.specs.Module.{own_statements, fixed_sorts}
 use Rattle.py_check.specs.Parts.{module_context_of, own_along}
 use Rattle.py_check.proofs.WholeLemmas.{same_context}
@@ -17,7 +18,7 @@ returns-clause-typed c =
 
 pub returns-clause-told : goal.returns-clause-told
 returns-clause-told c =
-    let P : Context → List Scope → Type 0 = λ w insides. IfOk c.statements_in.result (λ o. c.statements_in.new.faults ≡ c.args.faults.now ++ own_along w c.args.module_context.now.known.now.variables.keys insides (body_tree c.args.body.now)) in
+    let P : Context → List Scope → Type 0 = λ w insides. IfOk c.statements_in.result (λ o. c.statements_in.new.faults ≡ c.args.faults.now ++ own_along (classes_seen c.args.module_context.now.headers.now) w c.args.module_context.now.known.now.variables.keys insides (body_tree c.args.body.now)) in
     subst₂ P (same_context _ (module_context_of c.args.module_context.now) c.args.scopes.now.top c.in_ok-names.ensures) c.as_slice.ensures c.statements_in.ensures.told
 
 pub returns-clause-known : goal.returns-clause-known

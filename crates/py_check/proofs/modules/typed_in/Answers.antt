@@ -6,7 +6,7 @@ use Rattle.py_typed.specs.Statements.{TypedStmt, TypedFunc, typed_func, typed_mo
 use Rattle.py_check_context.specs.Context.{VarSort}
 use Rattle.py_check_places.specs.Views.{known_at}
 use Rattle.py_check_statements.proofs.BodyLemmas.{always}
-use Rattle.py_check_definitions.specs.Views.{headed_of}
+use Rattle.py_check_definitions.specs.Views.{headed_of, classes_seen}
 use Rattle.py_check.specs.Module.{module_by, context_in, own_statements, fixed_sorts, bodies_said, typed_functions}
 use Rattle.py_check.specs.Parts.{module_context_of, own_along, statements_along}
 use Rattle.py_check.specs.Fixed.{AreFixed}
@@ -32,8 +32,8 @@ returns c =
     let R : List VarSort → List TypedFunc → Type 0 = λ sorts funcs. P sorts funcs own.got in
     record {
       typed = subst₂ R (c.in_ok-funcs.ensures.known ∙ fixed) (c.in_ok-funcs.ensures.typed ∙ ap (λ (k : List VarSort). typed_functions e k fs) fixed) (subst Q c.in_ok-own.ensures.typed c.with_functions.ensures);
-      told = always c.with_functions.result (c.typed_functions.new.faults ≡ c.args.faults.now ++ statements_along e top insides fs m)
+      told = always c.with_functions.result (c.typed_functions.new.faults ≡ c.args.faults.now ++ statements_along (classes_seen c.args.module_context.now.headers.now) e top insides fs m)
           (c.in_ok-funcs.ensures.told
           ∙ ap₂ (λ (l : List Diag) (k : List VarSort). l ++ bodies_said e k fs) c.in_ok-own.ensures.told fixed
-          ∙ append_assoc c.args.faults.now (own_along (context_in e top) e.variables insides m) (bodies_said e (fixed_sorts (context_in e top) e.variables m) fs));
+          ∙ append_assoc c.args.faults.now (own_along (classes_seen c.args.module_context.now.headers.now) (context_in e top) e.variables insides m) (bodies_said e (fixed_sorts (context_in e top) e.variables m) fs));
     }

@@ -9,10 +9,10 @@ use Rattle.py_check_definitions.proofs.definitions.add_marks.Goals as goal
 
 pub returns-clause-typed : goal.returns-clause-typed
 returns-clause-typed c =
-    let P : List ExprTree → Type 0 = λ es. IfOk c.add_decorators.result (λ typed. typed ≡ decorators_typed (context c.args.scope.now) (known_at c.args.place.now) es) in
-    subst P (ap (map expr_tree) c.as_slice.ensures ∙ ap (λ (t : FuncTree). t.marks) (sym (func_tree_at c.args.f.now))) c.add_decorators.ensures.typed
+    let P : List ExprTree → Type 0 = λ es. IfOk c.add_parts.result (λ typed. typed ≡ decorators_typed (context c.args.scope.now) (known_at c.args.place.now) es) in
+    subst P (ap (map expr_tree) c.as_slice.ensures ∙ ap (λ (t : FuncTree). t.marks) (sym (func_tree_at c.args.f.now))) c.add_parts.ensures.typed
 
 pub returns-clause-told : goal.returns-clause-told
 returns-clause-told c =
-    let P : List ExprTree → Type 0 = λ es. IfOk c.add_decorators.result (λ typed. c.add_decorators.new.faults ≡ c.args.faults.now ++ decorators_said (context c.args.scope.now) (known_at c.args.place.now) es) in
-    subst P (ap (map expr_tree) c.as_slice.ensures ∙ ap (λ (t : FuncTree). t.marks) (sym (func_tree_at c.args.f.now))) c.add_decorators.ensures.told
+    let P : List ExprTree → Type 0 = λ es. IfOk c.add_parts.result (λ typed. c.add_parts.new.faults ≡ c.args.faults.now ++ decorators_said (context c.args.scope.now) (known_at c.args.place.now) es) in
+    subst P (ap (map expr_tree) c.as_slice.ensures ∙ ap (λ (t : FuncTree). t.marks) (sym (func_tree_at c.args.f.now))) c.add_parts.ensures.told
