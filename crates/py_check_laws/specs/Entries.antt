@@ -1,7 +1,7 @@
 -- WHERE THE ENTRIES OF A STATEMENT STAND: at its own place, or they are those of its parts.
 --
--- A list of entries is put in order by their places, and what was said first at one place stays first there. So where a statement
--- and a part of it begin with one token, the statement's entry comes first: either nothing is said of the part, or it is said behind.
+-- A list of entries is put in order by their places, and what was said first at one place stays first there. Of a statement and a
+-- part that begins with the same token these laws do not say which of the two an entry at that token is of.
 use Rattle.std.specs.Prelude.{◌≡◌, Bool, true, false, List, ◌++◌, map, ◌⊎◌}
 use Rattle.py_syntax.specs.declared.token.Span.{Span}
 use Rattle.py_syntax.specs.Statements as node
@@ -19,8 +19,8 @@ is_for (node.For target e body) = true
 is_for n = false
 
 -- all that is said of a statement is at its own place, or else it is what is said of its parts and hangs nowhere on the place. So
--- where a statement has an entry, nothing is said of any part of it. Only a `for` may have both, since its entry silences nothing in
--- its body: its own stands in front of all that is said there
+-- where a statement has an entry, nothing is said of a part that begins elsewhere. Only a `for` may have both, since its entry
+-- silences nothing in its body: its own stands in front of all that is said there
 abbrev pub StatementOwnOrOfParts : Type 0
 StatementOwnOrOfParts =
     (c : Context) (ret : ReturnSort) (a : Around) (k : Known) (span : Span) (n : StmtNode)
