@@ -16,8 +16,9 @@ use py_typed::Checked;
 use std::alloc::Global;
 use value_core::{Many, Memory};
 
-/// The intermediate code of a module. Each operation has the line of the expression or of the statement whose own it is. Behind no operation that may fail stands a test of its result: `error_edges` puts such tests
-/// in. Want of memory is the only other answer.
+/// The intermediate code of a module. Each operation that may fail has the line of the expression or of the statement
+/// whose own it is. Behind no operation that may fail stands a test of its result: `error_edges` puts such tests in. Want
+/// of memory is the only other answer.
 pub fn build(alloc: Global, checked: &Checked) -> Result<Program, Memory>
     requires { ModuleSuits (typed_module checked.now) }
     ensures means { IfOk result (DoesAsModule (typed_module checked.now)) }

@@ -1,4 +1,6 @@
--- The source lines of the code of an expression: each operation has that of the node whose own it is.
+-- The source lines of the code of an expression. Each part has a stretch of code that computes it, with its own lines, and what
+-- stands around these stretches has the line of the node. So an operation that may fail has the line of the node whose own it is;
+-- one that never fails may be counted to the stretch of the last part in front of it.
 use Rattle.std.specs.Prelude.{ℕ, List, [], ◌∷◌, Option, Some, None}
 use Rattle.py_syntax.specs.declared.token.Span.{Span}
 use Rattle.py_typed.specs.Sorts.{Sort}

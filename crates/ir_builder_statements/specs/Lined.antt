@@ -1,4 +1,5 @@
--- The source lines of the code of statements: each operation has that of the expression or of the statement whose own it is.
+-- The source lines of the code of statements: that of the expression or of the statement whose own an operation is, as far as
+-- stretches of code say it.
 use Rattle.std.specs.Prelude.{ℕ, List, [], ◌∷◌, ◌++◌, Option, Some, None}
 use Rattle.py_typed.specs.Sorts.{Sort}
 use Rattle.py_typed.specs.Expressions.{TypedExpr}
