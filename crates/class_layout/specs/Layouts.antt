@@ -48,7 +48,7 @@ method_in (Some (MethodMember f)) = Some f
 method_in (Some (AttributeMember t)) = None
 
 -- of each class: the attributes by their places in an instance, the methods by their places, and for each method the function of the first
--- class along the order that has one, which is the member of the class. None exactly where the class has no such attribute or method
+-- class along the order that has one, which is the member of the class. What a class lacks has no place and no function there
 pub record Holds (classes : List ClassEntry) (t : LayoutTable) : Type 0 where
   pub names : (c : ℕ) → c < length classes → attribute_names_in t c ≡ attribute_names classes c
   pub slots : (c : ℕ) (name : List ℕ) → c < length classes → slot_in t c name ≡ place_in name (attributes classes c)

@@ -22,14 +22,14 @@ pub struct LayoutTable {
 }
 
 impl LayoutTable {
-    /// The place of an attribute in an instance of a class. `None` exactly where the class has no such attribute.
+    /// The place of an attribute in an instance of a class. `None` for an attribute that the class lacks, and only then.
     pub fn slot_of(&self, class: usize, attr: &Name) -> Option<usize>
         ensures { result ≡ slot_in self.now class attr.now }
     {
         place_in(self.attributes.as_slice(), class, attr)
     }
 
-    /// The place of a method in the list of the methods of a class. `None` exactly where the class has no such method.
+    /// The place of a method in the list of the methods of a class. `None` for a method that the class lacks, and only then.
     pub fn method_slot(&self, class: usize, m: &Name) -> Option<usize>
         ensures { result ≡ method_slot_in self.now class m.now }
     {

@@ -3,9 +3,9 @@
 -- Resolution Order").
 --
 -- A class has a type where all of this holds, asked in this order: its name is new; it has no decorator, or `trait` alone; its bases
--- are classes that stand earlier in the text, no two the same; at most one base is no trait, and it comes first, and a trait has
--- only traits as bases, no attributes and no `__init__`; the class and those above it have an order (C3). The first that does not
--- hold is the class's fault. All this needs names and syntax alone.
+-- are classes that stand earlier in the text, no two the same; all of them but the first are traits, of a trait the first too, and
+-- a trait has no attributes and no `__init__`; the class and those above it have an order (C3). The first that does not hold is
+-- the class's fault. All this needs names and syntax alone.
 --
 -- Where a base is an earlier class without a type the class has none either, and nothing is said of it. A fault, too, is only said
 -- where each decorator and each base is typed, which is the walk's to ask: an unknown name or a faulty expression there silences

@@ -78,8 +78,8 @@ module _ (said : List ℕ → Option Meaning) where
   abbrev pub class_named : ExprTree → Option ℕ
   class_named e = class_number (named e)
 
-  -- the name of the class of a number is new: it means that class, so no def, class or import earlier in the text has it, and it is
-  -- no builtin
+  -- the name of the class of a number is new: it means that class, so nothing that is defined or imported before has it, and it
+  -- is no builtin
   abbrev pub is_new : ℕ → List ℕ → Bool
   is_new own name = is_number own (class_number (meaning_of name))
 

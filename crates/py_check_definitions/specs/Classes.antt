@@ -3,8 +3,8 @@
 -- The header of a class hangs on names and syntax alone. What is wrong with it is said where each of its decorators and bases has a
 -- type. A name there is only asked to be known, and any other expression is typed like everywhere, with what is known where the
 -- class stands. Of a class without a type in a decorator nothing more is said. As a base it is the header's to judge: nothing is
--- said of a class under an earlier one without a type, and a base that stands further down, or is the class itself, is refused
--- whatever comes of it.
+-- said of a class under an earlier one without a type, and the class itself, or one that is defined behind it, is refused as
+-- a base whatever comes of it.
 use Rattle.std.specs.Prelude.{ℕ, Bool, ◌&&◌, if◌then◌else◌, List, [], Option, Some, None, slice_get}
 use Rattle.py_syntax.specs.declared.token.Span.{Span}
 use Rattle.py_syntax.specs.Statements.{Suite, ClassTree}
