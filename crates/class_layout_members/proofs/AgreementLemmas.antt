@@ -35,7 +35,7 @@ agree_signatures (Some s) (Some t) (Some u) e h =
     (subst (λ z. are_same_types z (sorts_of u.params) ≡ true) (one_row (sorts_of s.params) (sorts_of t.params) (and_left (same_row s.params t.params) (is_same_type s.ret t.ret) e)) (and_left (same_row s.params u.params) (is_same_type s.ret u.ret) h))
     (subst (λ z. is_same_type z u.ret ≡ true) (one_type s.ret t.ret (and_right (same_row s.params t.params) (is_same_type s.ret t.ret) e)) (and_right (same_row s.params u.params) (is_same_type s.ret u.ret) h))
 
-agree_both : (q : List ℕ) (d e f : Definition) → agree q d e ≡ true → agree q d f ≡ true → agree q e f ≡ true
+pub agree_both : (q : List ℕ) (d e f : Definition) → agree q d e ≡ true → agree q d f ≡ true → agree q e f ≡ true
 agree_both q (OfType s) (OfType t) (OfType u) x y = subst (λ z. is_same_type z u ≡ true) (one_type s t x) y
 agree_both q (OfType s) (OfType t) (OfSignature u) x y = absurd (cc)
 agree_both q (OfType s) (OfSignature t) f x y = absurd (cc)

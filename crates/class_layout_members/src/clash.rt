@@ -99,7 +99,11 @@ fn all_agree(members: &[Member<'_>], firsts: &IndexMap<Name, Definition<'_>>) ->
 }
 
 /// The first definition of each name.
-fn first_definitions<'a>(
+///
+/// # Errors
+///
+/// `Memory` alone.
+pub fn first_definitions<'a>(
     alloc: Global,
     members: &[Member<'a>],
 ) -> Result<IndexMap<Name, Definition<'a>>, Memory>
@@ -113,7 +117,11 @@ fn first_definitions<'a>(
 }
 
 /// The names with a definition that does not agree with the first one.
-fn clashing_names(
+///
+/// # Errors
+///
+/// `Memory` alone.
+pub fn clashing_names(
     alloc: Global,
     members: &[Member<'_>],
     firsts: &IndexMap<Name, Definition<'_>>,
@@ -144,7 +152,7 @@ fn add_if_other(
 }
 
 /// Whether a definition does not agree with the first one of its name.
-fn is_other(member: &Member<'_>, firsts: &IndexMap<Name, Definition<'_>>) -> bool
+pub fn is_other(member: &Member<'_>, firsts: &IndexMap<Name, Definition<'_>>) -> bool
     ensures { result ≡ spec.is_other member.now.name.now (definitions_in firsts.now member.now.name.now) (definition member.now.definition) }
 {
     match firsts.get(member.name) {

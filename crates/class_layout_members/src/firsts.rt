@@ -8,7 +8,11 @@ use indexmap::IndexMap;
 use value_core::{Memory, Name};
 
 /// Notes a value of a name of which none was noted.
-pub(crate) fn add_first<T: Copy>(
+///
+/// # Errors
+///
+/// `Memory` alone.
+pub fn add_first<T: Copy>(
     firsts: &mut IndexMap<Name, T>,
     name: &Name,
     value: T,
@@ -23,7 +27,11 @@ pub(crate) fn add_first<T: Copy>(
 }
 
 /// Notes the values that another map has, of names of which none was noted.
-pub(crate) fn add_missing<T: Copy>(
+///
+/// # Errors
+///
+/// `Memory` alone.
+pub fn add_missing<T: Copy>(
     firsts: &mut IndexMap<Name, T>,
     more: &IndexMap<Name, T>,
 ) -> Result<(), Memory>

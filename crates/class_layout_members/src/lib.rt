@@ -10,7 +10,11 @@ mod functions;
 mod member;
 mod names;
 
-pub use clash::{clash_along, definitions_along, definitions_in_front};
+pub use clash::{
+    clash_along, clashing_names, definitions_along, definitions_in_front, first_definitions,
+    is_other,
+};
+pub use firsts::{add_first, add_missing};
 pub use functions::{functions_along, functions_of};
-pub use member::Definition;
+pub use member::{Definition, Member, agree};
 pub use names::{add_names, names_above, names_of};

@@ -29,8 +29,8 @@ pub enum Definition<'a> {
 /// A name with what a class says of it.
 #[derive(Clone, Copy)]
 pub struct Member<'a> {
-    pub(crate) name: &'a Name,
-    pub(crate) definition: Definition<'a>,
+    pub name: &'a Name,
+    pub definition: Definition<'a>,
 }
 
 /// The members of classes in a row: of each its attributes, and then its methods.
@@ -93,7 +93,7 @@ fn attributes_at(classes: &[ClassInfo], class: usize) -> &[(Name, Ty)]
 }
 
 /// Whether two definitions of a name agree: one type, or one signature.
-pub(crate) fn agree(name: &Name, d: &Definition<'_>, e: &Definition<'_>) -> bool
+pub fn agree(name: &Name, d: &Definition<'_>, e: &Definition<'_>) -> bool
     ensures { result ≡ spec.agree name.now (definition d.now) (definition e.now) }
 {
     match (*d, *e) {

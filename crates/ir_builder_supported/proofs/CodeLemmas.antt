@@ -1,5 +1,5 @@
 -- What is found where the code stands in a comparison, at a definition, and among the definitions of functions.
-use Rattle.ir_builder_supported.proofs.Common.{◌≡◌, ◌∙◌, refl, sym, ap, arith, ℕ, suc, ◌+◌, ◌<◌, max, Bool, true, false, cond, List, [], ◌∷◌, length, map, get_or, drop, Option, Some, None, slice_get, filter, option_map, slice_get-map, StmtTree, Suite, stmt_tree, trees, suite_definitions, sort, TStmt, size-TStmt, typed_expr, typed_node, typed_comparison, comparisons_of, type_of, Variable, TypedFunc, TypedModule, TypedSuite, typed_stmt, typed_act, typed_suite, typed_arm, arms_of, typed_func, Unbuilt, unbuilt, chain_form, node_form, function_form, is_form, is_function, is_def, definition_line, uncompiled_form, noted, expression_least, part_least, chain_least, statement_least, act_least, suite_least, arms_least, functions_least}
+use Rattle.ir_builder_supported.proofs.Common.{◌≡◌, ◌∙◌, refl, sym, ap, arith, ℕ, suc, ◌+◌, ◌<◌, max, Bool, true, false, List, [], ◌∷◌, length, map, get_or, drop, Option, Some, None, slice_get, option_map, slice_get-map, StmtTree, Suite, stmt_tree, trees, suite_definitions, sort, TStmt, size-TStmt, typed_expr, typed_node, typed_comparison, comparisons_of, type_of, Variable, TypedFunc, TypedModule, TypedSuite, typed_stmt, typed_act, typed_suite, typed_arm, arms_of, typed_func, Unbuilt, unbuilt, chain_form, node_form, function_form, is_form, is_function, line_or_none, function_lines, uncompiled_form, noted, expression_least, part_least, chain_least, statement_least, act_least, suite_least, arms_least, functions_least, classes_least}
 use Rattle.std.proofs.lemmas.List.{drop_more}
 use Rattle.std.specs.declared.boxed.Box.{Box}
 use Rattle.std.specs.declared.alloc.Global.{Global}
@@ -47,47 +47,27 @@ if_found locals globals s arms arms2 other other2 is a o found first last one al
     ∙ sym (ap (act_least locals globals found s.line) (ap typed_act is ∙ typed_act-If arms other))
     ∙ sym (ap (statement_least locals globals found) (typed_stmt_at s))
 
-pub module_found : (m : Suite) (t : TypedModule) (definitions : List StmtTree) (globals : List Variable) (top : TypedSuite) (functions : List TypedFunc) → globals ≡ t.globals → definitions ≡ filter is_def (suite_definitions m) → top ≡ t.top → functions ≡ t.funcs → (found last : Option Unbuilt) → found ≡ suite_least [] globals None top → last ≡ functions_least globals definitions found 0 functions → last ≡ uncompiled_form m t
-module_found m t definitions globals top functions g d o f found last one all =
+pub module_found : (m : Suite) (t : TypedModule) (definitions : List StmtTree) (lines : List ℕ) (globals : List Variable) (top : TypedSuite) (functions : List TypedFunc) → globals ≡ t.globals → definitions ≡ suite_definitions m → lines ≡ function_lines definitions → top ≡ t.top → functions ≡ t.funcs → (first own last : Option Unbuilt) → first ≡ classes_least None definitions → own ≡ suite_least [] globals first top → last ≡ functions_least globals lines own 0 functions → last ≡ uncompiled_form m t
+module_found m t definitions lines globals top functions g d l o f first own last zero one all =
     all
-    ∙ ap (λ x. functions_least globals definitions x 0 functions) one
-    ∙ ap (λ l. functions_least l definitions (suite_least [] l None top) 0 functions) g
-    ∙ ap (λ l. functions_least t.globals l (suite_least [] t.globals None top) 0 functions) d
-    ∙ ap (λ l. functions_least t.globals (filter is_def (suite_definitions m)) (suite_least [] t.globals None l) 0 functions) o
-    ∙ ap (functions_least t.globals (filter is_def (suite_definitions m)) (suite_least [] t.globals None t.top) 0) f
+    ∙ ap (λ x. functions_least globals lines x 0 functions) (one ∙ ap (λ x. suite_least [] globals x top) zero)
+    ∙ ap (λ x. functions_least x lines (suite_least [] x (classes_least None definitions) top) 0 functions) g
+    ∙ ap (λ x. functions_least t.globals x (suite_least [] t.globals (classes_least None definitions) top) 0 functions) l
+    ∙ ap (λ x. functions_least t.globals (function_lines x) (suite_least [] t.globals (classes_least None x) top) 0 functions) d
+    ∙ ap (λ x. functions_least t.globals (function_lines (suite_definitions m)) (suite_least [] t.globals (classes_least None (suite_definitions m)) x) 0 functions) o
+    ∙ ap (functions_least t.globals (function_lines (suite_definitions m)) (suite_least [] t.globals (classes_least None (suite_definitions m)) t.top) 0) f
     ∙ module_same m t
 
 -- one function more of a row
-pub function_found : (globals : List Variable) (definitions : List StmtTree) (functions : List TFunc) (n : ℕ) (f : TFunc) (line : ℕ) (found next last : Option Unbuilt) → n < length functions → f ≡ get_or functions n f → line ≡ definition_line (slice_get definitions n) → next ≡ noted (is_function (typed_func f)) (unbuilt line (function_form (typed_func f))) found (suite_least (typed_func f).locals globals found (typed_func f).body) → functions_least globals definitions found n (map typed_func (drop n functions)) ≡ last → functions_least globals definitions next (n + 1) (map typed_func (drop (n + 1) functions)) ≡ last
-function_found globals definitions functions n f line found next last low is place one all =
+pub function_found : (globals : List Variable) (lines : List ℕ) (functions : List TFunc) (n : ℕ) (f : TFunc) (line : ℕ) (found next last : Option Unbuilt) → n < length functions → f ≡ get_or functions n f → line ≡ line_or_none (slice_get lines n) → next ≡ noted (is_function (typed_func f)) (unbuilt line (function_form (typed_func f))) found (suite_least (typed_func f).locals globals found (typed_func f).body) → functions_least globals lines found n (map typed_func (drop n functions)) ≡ last → functions_least globals lines next (n + 1) (map typed_func (drop (n + 1) functions)) ≡ last
+function_found globals lines functions n f line found next last low is place one all =
     let rest : List TypedFunc = map typed_func (drop (n + 1) functions) in
     let on : n + 1 ≡ suc n = omega arith in
-    ap (λ k. functions_least globals definitions next k rest) on
-    ∙ ap (λ o. functions_least globals definitions o (suc n) rest)
+    ap (λ k. functions_least globals lines next k rest) on
+    ∙ ap (λ o. functions_least globals lines o (suc n) rest)
     (one ∙ ap (λ l. noted (is_function (typed_func f)) (unbuilt l (function_form (typed_func f))) found (suite_least (typed_func f).locals globals found (typed_func f).body)) place)
-    ∙ sym (ap (λ l. functions_least globals definitions found n (map typed_func l)) (drop_more functions n f low ∙ ap (λ g. g ∷ drop (n + 1) functions) (sym is)))
+    ∙ sym (ap (λ l. functions_least globals lines found n (map typed_func l)) (drop_more functions n f low ∙ ap (λ g. g ∷ drop (n + 1) functions) (sym is)))
     ∙ all
-
-line_at : (s : Stmt) → s.span.line ≡ definition_line (Some (stmt_tree s))
-line_at s = sym (ap (λ t. definition_line (Some t)) (stmt_tree_at s))
-
-pub line_found : (definitions : List (Bor Stmt)) (n : ℕ) (s : Bor Stmt) → slice_get definitions n ≡ Some s → s.now.span.line ≡ definition_line (slice_get (trees definitions) n)
-line_found definitions n s is =
-    line_at s.now
-    ∙ sym (ap (λ o. definition_line (option_map (λ (d : Bor Stmt). stmt_tree d.now) o)) is)
-    ∙ sym (ap definition_line (slice_get-map (λ (d : Bor Stmt). stmt_tree d.now) definitions n))
-
--- a filter by what elements stand for keeps what the elements that it keeps stand for
-pub filter_stands : {A B : Type 0} (of : A → B) (test : B → Bool) (xs : List A) → map of (filter (λ x. test (of x)) xs) ≡ filter test (map of xs)
-filter_stands of test [] = refl
-filter_stands of test (x ∷ xs) = kept (test (of x)) (filter_stands of test xs)
-  where
-    kept : (b : Bool) → map of (filter (λ y. test (of y)) xs) ≡ filter test (map of xs) → map of (cond b (x ∷ filter (λ y. test (of y)) xs) (filter (λ y. test (of y)) xs)) ≡ cond b (of x ∷ filter test (map of xs)) (filter test (map of xs))
-    kept true e = ap (λ l. of x ∷ l) e
-    kept false e = e
-
-pub functions_kept : (before after : List (Bor Stmt)) → after ≡ filter (λ (s : Bor Stmt). is_def (stmt_tree s.now)) before → trees after ≡ filter is_def (trees before)
-functions_kept before after e = ap trees e ∙ filter_stands (λ (s : Bor Stmt). stmt_tree s.now) is_def before
 
 -- the size of an arm of an `if`, which is that of its body
 abbrev pub arm_size : TExpr × List TStmt → ℕ

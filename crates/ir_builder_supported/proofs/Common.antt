@@ -5,11 +5,11 @@ pub use Rattle.ir_builder_frames.specs.Matching.{parameter_sorts}
 pub use Rattle.ir_builder_operations.specs.Operating.{is_arithmetic, is_whole}
 pub use Rattle.ir_builder_supported.specs.Expressions.{are_pairs, chain_forms, expression_forms, is_form, or_parts, part_forms, row_forms}
 pub use Rattle.ir_builder_supported.specs.Forms.{chain_form, expression_at, expression_form, function_form, is_none, kind, node_form, targets_form, unbuilt, update_form}
-pub use Rattle.ir_builder_supported.specs.Least.{act_least, alone_least, arms_least, chain_least, expression_least, function_least, functions_least, noted, part_least, returned_least, row_least, statement_least, suite_least}
-pub use Rattle.ir_builder_supported.specs.Statements.{act_forms, alone_forms, are_scalars, arms_forms, definition_line, function_forms, functions_forms, is_def, is_function, is_one, is_taken, is_updated, returned_forms, statement_forms, suite_forms, takes_result, uncompiled_form}
+pub use Rattle.ir_builder_supported.specs.Least.{act_least, alone_least, arms_least, chain_least, class_least, classes_least, expression_least, function_least, functions_least, noted, part_least, returned_least, row_least, statement_least, suite_least}
+pub use Rattle.ir_builder_supported.specs.Statements.{act_forms, alone_forms, are_scalars, arms_forms, class_form, def_line, def_lines, function_forms, function_lines, functions_forms, is_function, is_one, is_taken, is_updated, line_or_none, lines_held, returned_forms, statement_forms, suite_forms, takes_result, uncompiled_form}
 pub use Rattle.py_check_names.specs.Outline.{suite_definitions}
 pub use Rattle.py_check_names.specs.Walked.{trees}
-pub use Rattle.py_check_unbuilt.specs.Later.{least, lesser}
+pub use Rattle.py_check_unbuilt.specs.Least.{least, lesser}
 pub use Rattle.py_check_unbuilt.specs.declared.form.Unbuilt.{Unbuilt}
 pub use Rattle.py_syntax.specs.Statements.{StmtTree, Suite, body_tree, module_tree, stmt_tree}
 pub use Rattle.py_syntax.specs.declared.token.Span.{Span}
@@ -26,6 +26,6 @@ pub use Rattle.py_typed.specs.declared.statement.TStmt.{TStmt, size-TStmt}
 pub use Rattle.std.proofs.Common.{Bool, List, None, Option, Some, [], ap, arith, cond, drop, false, get_or, inl, inr, length, map, max, refl, rules, subst, suc, sym, true, zero, ℕ, ⊎_elim, ◌*◌, ◌++◌, ◌+◌, ◌<◌, ◌∙◌, ◌∷◌, ◌≡◌, ◌⊎◌}
 pub use Rattle.std.proofs.lemmas.Bool.{leb-true, or_cases}
 pub use Rattle.std.proofs.lemmas.Option.{same_Some, slice_get-get_or, slice_get-map}
-pub use Rattle.std.specs.List.{filter, flat_map, list_any}
+pub use Rattle.std.specs.List.{flat_map, list_any}
 pub use Rattle.std.specs.Option.{option_map}
 pub use Rattle.std.specs.Prelude.{if◌then◌else◌, nat_le, negsuc, not, pos, slice_get, ℤ, ◌&&◌, ◌||◌}

@@ -1,5 +1,6 @@
 -- The first form that is found along a tree is the least of those that stand in it.
-use Rattle.ir_builder_supported.proofs.Common.{◌≡◌, ◌∙◌, refl, sym, ap, ℕ, suc, Bool, true, false, List, [], ◌∷◌, ◌++◌, Option, Some, None, ◌&&◌, slice_get, filter, StmtTree, Suite, suite_definitions, TypedExpr, typed, TypedNode, Neg, Not, Truth, Arith, Concat, Compare, And, Or, Cond, At, Call, Print, Len, ToStr, Coerce, TypedExprs, no_exprs, expr_then, Comparisons, no_comparisons, comparison_then, type_of, Variable, TypedFunc, TypedModule, TypedStmt, on_line, TypedAct, Do, Assign, Aug, If, While, Return, Break, Continue, Pass, TypedSuite, no_stmts, stmt_then, Arms, no_arms, arm_then, Unbuilt, lesser, least, is_arithmetic, is_scalar, unbuilt, node_form, expression_form, expression_at, targets_form, update_form, function_form, or_parts, is_form, expression_forms, part_forms, row_forms, chain_forms, alone_forms, is_one, is_updated, returned_forms, statement_forms, act_forms, suite_forms, arms_forms, is_function, is_def, definition_line, function_forms, functions_forms, uncompiled_form, noted, expression_least, part_least, row_least, chain_least, alone_least, returned_least, statement_least, act_least, suite_least, arms_least, function_least, functions_least}
+use Rattle.ir_builder_supported.proofs.Common.{◌≡◌, ◌∙◌, refl, sym, ap, ℕ, suc, Bool, true, false, List, [], ◌∷◌, ◌++◌, Option, Some, None, ◌&&◌, slice_get, flat_map, StmtTree, Suite, suite_definitions, TypedExpr, typed, TypedNode, Neg, Not, Truth, Arith, Concat, Compare, And, Or, Cond, At, Call, Print, Len, ToStr, Coerce, TypedExprs, no_exprs, expr_then, Comparisons, no_comparisons, comparison_then, type_of, Variable, TypedFunc, TypedModule, TypedStmt, on_line, TypedAct, Do, Assign, Aug, If, While, Return, Break, Continue, Pass, TypedSuite, no_stmts, stmt_then, Arms, no_arms, arm_then, Unbuilt, lesser, least, is_arithmetic, is_scalar, unbuilt, node_form, expression_form, expression_at, targets_form, update_form, function_form, or_parts, is_form, expression_forms, part_forms, row_forms, chain_forms, alone_forms, is_one, is_updated, returned_forms, statement_forms, act_forms, suite_forms, arms_forms, is_function, line_or_none, function_forms, functions_forms, function_lines, class_form, uncompiled_form, noted, expression_least, part_least, row_least, chain_least, alone_least, returned_least, statement_least, act_least, suite_least, arms_least, function_least, functions_least, class_least, classes_least}
+use Rattle.py_syntax.specs.Statements.{at, ClassDef}
 
 -- the least of two rows is found in the one and then in the other
 least_append : (found : Option Unbuilt) (xs ys : List Unbuilt) → least found (xs ++ ys) ≡ least (least found xs) ys
@@ -84,15 +85,32 @@ module _ (locals globals : List Variable) where
 -- ---- functions
 
 module _ (globals : List Variable) where
-  function_same : (found : Option Unbuilt) (definition : Option StmtTree) (f : TypedFunc) → function_least globals found definition f ≡ least found (function_forms globals definition f)
-  function_same found definition f = noted_same (is_function f) (unbuilt (definition_line definition) (function_form f)) found (suite_least f.locals globals found f.body) (suite_forms f.locals globals f.body) (suite_same f.locals globals found f.body)
+  function_same : (found : Option Unbuilt) (line : ℕ) (f : TypedFunc) → function_least globals found line f ≡ least found (function_forms globals line f)
+  function_same found line f = noted_same (is_function f) (unbuilt line (function_form f)) found (suite_least f.locals globals found f.body) (suite_forms f.locals globals f.body) (suite_same f.locals globals found f.body)
 
-  functions_same : (definitions : List StmtTree) (found : Option Unbuilt) (n : ℕ) (fs : List TypedFunc) → functions_least globals definitions found n fs ≡ least found (functions_forms globals definitions n fs)
-  functions_same definitions found n [] = refl
-  functions_same definitions found n (f ∷ more) =
-      joined found _ _ (function_forms globals (slice_get definitions n) f) (functions_forms globals definitions (suc n) more) (function_same found (slice_get definitions n) f)
-      (functions_same definitions (function_least globals found (slice_get definitions n) f) (suc n) more)
+  functions_same : (lines : List ℕ) (found : Option Unbuilt) (n : ℕ) (fs : List TypedFunc) → functions_least globals lines found n fs ≡ least found (functions_forms globals lines n fs)
+  functions_same lines found n [] = refl
+  functions_same lines found n (f ∷ more) =
+      joined found _ _ (function_forms globals (line_or_none (slice_get lines n)) f) (functions_forms globals lines (suc n) more) (function_same found (line_or_none (slice_get lines n)) f)
+      (functions_same lines (function_least globals found (line_or_none (slice_get lines n)) f) (suc n) more)
 
-pub module_same : (m : Suite) (t : TypedModule) → functions_least t.globals (filter is_def (suite_definitions m)) (suite_least [] t.globals None t.top) 0 t.funcs ≡ uncompiled_form m t
+-- ---- classes
+
+class_same : (found : Option Unbuilt) (s : StmtTree) → class_least found s ≡ least found (class_form s)
+class_same found (at (ClassDef name bases body marks) span) = refl
+class_same found _ = refl
+
+classes_same : (found : Option Unbuilt) (definitions : List StmtTree) → classes_least found definitions ≡ least found (flat_map class_form definitions)
+classes_same found [] = refl
+classes_same found (s ∷ more) =
+    joined found _ _ (class_form s) (flat_map class_form more) (class_same found s) (classes_same (class_least found s) more)
+
+-- ---- modules
+
+pub module_same : (m : Suite) (t : TypedModule) → functions_least t.globals (function_lines (suite_definitions m)) (suite_least [] t.globals (classes_least None (suite_definitions m)) t.top) 0 t.funcs ≡ uncompiled_form m t
 module_same m t =
-    joined None _ _ (suite_forms [] t.globals t.top) (functions_forms t.globals (filter is_def (suite_definitions m)) 0 t.funcs) (suite_same [] t.globals None t.top) (functions_same t.globals (filter is_def (suite_definitions m)) (suite_least [] t.globals None t.top) 0 t.funcs)
+    let classes : Option Unbuilt = classes_least None (suite_definitions m) in
+    let own : Option Unbuilt = suite_least [] t.globals classes t.top in
+    let lines : List ℕ = function_lines (suite_definitions m) in
+    joined None classes (functions_least t.globals lines own 0 t.funcs) (flat_map class_form (suite_definitions m)) (suite_forms [] t.globals t.top ++ functions_forms t.globals lines 0 t.funcs) (classes_same None (suite_definitions m))
+    (joined classes own (functions_least t.globals lines own 0 t.funcs) (suite_forms [] t.globals t.top) (functions_forms t.globals lines 0 t.funcs) (suite_same [] t.globals classes t.top) (functions_same t.globals lines own 0 t.funcs))

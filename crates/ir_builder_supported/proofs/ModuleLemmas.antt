@@ -1,5 +1,5 @@
 -- A well typed module all of which is compiled is one that is built.
-use Rattle.ir_builder_supported.proofs.Common.{◌≡◌, refl, sym, ◌∙◌, ap, subst, arith, ℕ, zero, suc, ◌+◌, Bool, true, false, List, [], ◌∷◌, ◌++◌, length, map, Option, Some, None, leb-true, or_cases, same_Some, not, ◌&&◌, ◌||◌, nat_le, slice_get, list_any, flat_map, filter, StmtTree, Suite, suite_definitions, ClassEntry, Signature, is_same_type, is_nothing, is_closed, Variable, TypedFunc, TypedModule, init_class, is_called_in, all_differ, suite_typed, and_left, and_right, one_type, Unbuilt, lesser, least, parameter_sorts, is_scalar, is_result, unbuilt, is_none, function_form, suite_forms, are_scalars, is_function, is_def, definition_line, function_forms, functions_forms}
+use Rattle.ir_builder_supported.proofs.Common.{◌≡◌, refl, sym, ◌∙◌, ap, subst, arith, ℕ, zero, suc, ◌+◌, Bool, true, false, List, [], ◌∷◌, ◌++◌, length, map, Option, Some, None, leb-true, or_cases, same_Some, not, ◌&&◌, ◌||◌, nat_le, slice_get, list_any, flat_map, Suite, suite_definitions, ClassEntry, Signature, is_same_type, is_nothing, is_closed, Variable, TypedFunc, TypedModule, init_class, is_called_in, all_differ, suite_typed, and_left, and_right, one_type, Unbuilt, lesser, least, parameter_sorts, is_scalar, is_result, unbuilt, is_none, function_form, suite_forms, are_scalars, is_function, line_or_none, function_forms, functions_forms, function_lines, class_form}
 use Rattle.std.proofs.lemmas.List.Folds.{list_any-append}
 use Rattle.std.specs.Str.{bytes_eq}
 use Rattle.c_core.specs.WellFormed.{is_identifier, names_differ}
@@ -51,14 +51,14 @@ at_place test i (y ∷ ys) zero n x is h e =
     subst (λ j. test j x ≡ true) (sym (omega arith)) (subst (λ z. test i z ≡ true) (same_Some y x e) (and_left (test i y) (all_at (suc i) test ys) h))
 at_place test i (y ∷ ys) (suc k) n x is h e = at_place test (suc i) ys k n x (omega arith) (and_right (test i y) (all_at (suc i) test ys) h) e
 
-is_form_of : (globals : List Variable) (definitions : List StmtTree) (n : ℕ) (fs : List TypedFunc) (k : ℕ) (f : TypedFunc) → functions_forms globals definitions n fs ≡ [] → slice_get fs k ≡ Some f → (is_function f ≡ true) × (suite_forms f.locals globals f.body ≡ [])
-is_form_of globals definitions n [] k f p e = absurd (cc)
-is_form_of globals definitions n (g ∷ more) zero f p e =
-    let here : function_forms globals (slice_get definitions n) g ≡ [] = none_left (function_forms globals (slice_get definitions n) g) (functions_forms globals definitions (suc n) more) p in
+is_form_of : (globals : List Variable) (lines : List ℕ) (n : ℕ) (fs : List TypedFunc) (k : ℕ) (f : TypedFunc) → functions_forms globals lines n fs ≡ [] → slice_get fs k ≡ Some f → (is_function f ≡ true) × (suite_forms f.locals globals f.body ≡ [])
+is_form_of globals lines n [] k f p e = absurd (cc)
+is_form_of globals lines n (g ∷ more) zero f p e =
+    let here : function_forms globals (line_or_none (slice_get lines n)) g ≡ [] = none_left (function_forms globals (line_or_none (slice_get lines n)) g) (functions_forms globals lines (suc n) more) p in
     subst (λ h. (is_function h ≡ true) × (suite_forms h.locals globals h.body ≡ [])) (same_Some g f e)
-    (form_of (is_function g) (unbuilt (definition_line (slice_get definitions n)) (function_form g)) (suite_forms g.locals globals g.body) here, parts_of (is_function g) (unbuilt (definition_line (slice_get definitions n)) (function_form g)) (suite_forms g.locals globals g.body) here)
-is_form_of globals definitions n (g ∷ more) (suc k) f p e =
-    is_form_of globals definitions (suc n) more k f (none_right (function_forms globals (slice_get definitions n) g) (functions_forms globals definitions (suc n) more) p) e
+    (form_of (is_function g) (unbuilt (line_or_none (slice_get lines n)) (function_form g)) (suite_forms g.locals globals g.body) here, parts_of (is_function g) (unbuilt (line_or_none (slice_get lines n)) (function_form g)) (suite_forms g.locals globals g.body) here)
+is_form_of globals lines n (g ∷ more) (suc k) f p e =
+    is_form_of globals lines (suc n) more k f (none_right (function_forms globals (line_or_none (slice_get lines n)) g) (functions_forms globals lines (suc n) more) p) e
 
 none_is : {A : Type 0} (o : Option A) → is_none o ≡ true → o ≡ None
 none_is None h = refl
@@ -75,13 +75,13 @@ module _ (m : TypedModule) where
   named : (f : TypedFunc) → f.class ≡ None → own_name is_identifier m f ≡ f.name ∷ []
   named f h = rw h refl
 
-  all_named : (definitions : List StmtTree) (n : ℕ) (fs : List TypedFunc) → functions_forms m.globals definitions n fs ≡ [] → flat_map (own_name is_identifier m) fs ≡ map (λ (f : TypedFunc). f.name) fs
-  all_named definitions n [] p = refl
-  all_named definitions n (f ∷ more) p =
-      let here : function_forms m.globals (slice_get definitions n) f ≡ [] = none_left (function_forms m.globals (slice_get definitions n) f) (functions_forms m.globals definitions (suc n) more) p in
-      let own = named f (no_method f (form_of (is_function f) (unbuilt (definition_line (slice_get definitions n)) (function_form f)) (suite_forms f.locals m.globals f.body) here)) in
+  all_named : (lines : List ℕ) (n : ℕ) (fs : List TypedFunc) → functions_forms m.globals lines n fs ≡ [] → flat_map (own_name is_identifier m) fs ≡ map (λ (f : TypedFunc). f.name) fs
+  all_named lines n [] p = refl
+  all_named lines n (f ∷ more) p =
+      let here : function_forms m.globals (line_or_none (slice_get lines n)) f ≡ [] = none_left (function_forms m.globals (line_or_none (slice_get lines n)) f) (functions_forms m.globals lines (suc n) more) p in
+      let own = named f (no_method f (form_of (is_function f) (unbuilt (line_or_none (slice_get lines n)) (function_form f)) (suite_forms f.locals m.globals f.body) here)) in
       ap (λ l. l ++ flat_map (own_name is_identifier m) more) own
-      ∙ ap (λ l. f.name ∷ l) (all_named definitions (suc n) more (none_right (function_forms m.globals (slice_get definitions n) f) (functions_forms m.globals definitions (suc n) more) p))
+      ∙ ap (λ l. f.name ∷ l) (all_named lines (suc n) more (none_right (function_forms m.globals (line_or_none (slice_get lines n)) f) (functions_forms m.globals lines (suc n) more) p))
 
   -- what a well typed function has
   record Parts (n : ℕ) (f : TypedFunc) : Type 0 where
@@ -112,12 +112,12 @@ module _ (m : TypedModule) where
     sym (one_type f.ret s.ret (and_right (same_row (parameter_types f) s.params) (is_same_type f.ret s.ret) h)),
   )
 
-  module _ (tree : Suite) (typed : is_well_typed is_identifier m ≡ true) (forms : functions_forms m.globals (filter is_def (suite_definitions tree)) 0 m.funcs ≡ []) where
+  module _ (tree : Suite) (typed : is_well_typed is_identifier m ≡ true) (forms : functions_forms m.globals (function_lines (suite_definitions tree)) 0 m.funcs ≡ []) where
     function_parts : (n : ℕ) (f : TypedFunc) → slice_get m.funcs n ≡ Some f → Parts n f
     function_parts n f is = parts n f (at_place (func_typed is_identifier m) 0 m.funcs n n f (omega arith) (and_right _ _ (and_left _ _ typed)) is)
 
     formed : (n : ℕ) (f : TypedFunc) → slice_get m.funcs n ≡ Some f → (is_function f ≡ true) × (suite_forms f.locals m.globals f.body ≡ [])
-    formed n f is = is_form_of m.globals (filter is_def (suite_definitions tree)) 0 m.funcs n f forms is
+    formed n f is = is_form_of m.globals (function_lines (suite_definitions tree)) 0 m.funcs n f forms is
 
     all_signed : (vs : List Variable) (init : Option ℕ) → AllSigned m vs init
     all_signed vs init n f s is function found =
@@ -153,7 +153,7 @@ module _ (m : TypedModule) where
           functions = function_suits;
           differ =
               sym (one_test (map (λ (f : TypedFunc). f.name) m.funcs))
-              ∙ subst (λ l. all_differ l ≡ true) (all_named (filter is_def (suite_definitions tree)) 0 m.funcs forms) (differ_left functions classes (differ_right others (functions ++ classes) (and_right _ _ two)));
+              ∙ subst (λ l. all_differ l ≡ true) (all_named (function_lines (suite_definitions tree)) 0 m.funcs forms) (differ_left functions classes (differ_right others (functions ++ classes) (and_right _ _ two)));
           identifiers = and_left _ _ (and_left _ _ globals);
           globals_differ = sym (one_test others) ∙ and_right _ _ (and_left _ _ globals);
           top = suite_suits m [] None no_variables (all_signed [] None) None [] false false m.top (and_right _ _ typed) top;
@@ -164,5 +164,8 @@ module _ (m : TypedModule) where
 
 pub compiled_suits : CompiledSuits
 compiled_suits tree m typed none =
-    let all = no_form (suite_forms [] m.globals m.top ++ functions_forms m.globals (filter is_def (suite_definitions tree)) 0 m.funcs) none in
-    module_suits m tree typed (none_right (suite_forms [] m.globals m.top) (functions_forms m.globals (filter is_def (suite_definitions tree)) 0 m.funcs) all) (none_left (suite_forms [] m.globals m.top) (functions_forms m.globals (filter is_def (suite_definitions tree)) 0 m.funcs) all)
+    let own : List Unbuilt = suite_forms [] m.globals m.top in
+    let functions : List Unbuilt = functions_forms m.globals (function_lines (suite_definitions tree)) 0 m.funcs in
+    let all = no_form (flat_map class_form (suite_definitions tree) ++ (own ++ functions)) none in
+    let both : own ++ functions ≡ [] = none_right (flat_map class_form (suite_definitions tree)) (own ++ functions) all in
+    module_suits m tree typed (none_right own functions both) (none_left own functions both)

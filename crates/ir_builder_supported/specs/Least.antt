@@ -1,17 +1,17 @@
 -- How the first form is found: along the tree, with the one found so far. `FormLemmas` shows that it is the least of those that
 -- `Statements` lists.
 use Rattle.std.specs.Prelude.{ℕ, suc, Bool, true, false, ◌&&◌, List, [], ◌∷◌, Option, Some, None, slice_get}
-use Rattle.py_syntax.specs.Statements.{StmtTree}
+use Rattle.py_syntax.specs.Statements.{StmtTree, at, ClassDef}
 use Rattle.py_typed.specs.Expressions.{TypedExpr, typed, TypedNode, Neg, Not, Truth, Arith, Concat, Compare, And, Or, Cond, At, Call, Print, Len, ToStr, Coerce, TypedExprs, no_exprs, expr_then, Comparisons, no_comparisons, comparison_then, type_of}
 use Rattle.py_typed.specs.Statements.{Variable, TypedFunc, TypedStmt, on_line, TypedAct, Do, Assign, Aug, Del, If, While, ForRange, ForList, ForDict, Try, Raise, Return, Break, Continue, Assert, Pass, TypedSuite, no_stmts, stmt_then, Arms, no_arms, arm_then}
 use Rattle.py_check_unbuilt.specs.declared.form.Form.TheVariants as form
 use Rattle.py_check_unbuilt.specs.declared.form.Unbuilt.{Unbuilt}
-use Rattle.py_check_unbuilt.specs.Later.{lesser}
+use Rattle.py_check_unbuilt.specs.Least.{lesser}
 use Rattle.ir_builder_operations.specs.Operating.{is_arithmetic}
 use Rattle.ir_builder_expressions.specs.Parts.{is_scalar}
 use Rattle.ir_builder_supported.specs.Forms.{unbuilt, node_form, expression_form, expression_at, targets_form, update_form, function_form}
 use Rattle.ir_builder_supported.specs.Expressions.{is_form}
-use Rattle.ir_builder_supported.specs.Statements.{is_one, is_updated, is_function, definition_line}
+use Rattle.ir_builder_supported.specs.Statements.{is_one, is_updated, is_function, line_or_none}
 
 -- one more form, unless it is compiled; what is in it has led to `rest`
 abbrev pub noted : Bool → Unbuilt → Option Unbuilt → Option Unbuilt → Option Unbuilt
@@ -88,9 +88,17 @@ module _ (locals globals : List Variable) where
     arms_least found (arm_then test body more) = arms_least (suite_least (expression_least found test) body) more
 
 module _ (globals : List Variable) where
-  abbrev pub function_least : Option Unbuilt → Option StmtTree → TypedFunc → Option Unbuilt
-  function_least found definition f = noted (is_function f) (unbuilt (definition_line definition) (function_form f)) found (suite_least f.locals globals found f.body)
+  abbrev pub function_least : Option Unbuilt → ℕ → TypedFunc → Option Unbuilt
+  function_least found line f = noted (is_function f) (unbuilt line (function_form f)) found (suite_least f.locals globals found f.body)
 
-  abbrev pub functions_least : List StmtTree → Option Unbuilt → ℕ → List TypedFunc → Option Unbuilt
-  functions_least definitions found n [] = found
-  functions_least definitions found n (f ∷ more) = functions_least definitions (function_least found (slice_get definitions n) f) (suc n) more
+  abbrev pub functions_least : List ℕ → Option Unbuilt → ℕ → List TypedFunc → Option Unbuilt
+  functions_least lines found n [] = found
+  functions_least lines found n (f ∷ more) = functions_least lines (function_least found (line_or_none (slice_get lines n)) f) (suc n) more
+
+abbrev pub class_least : Option Unbuilt → StmtTree → Option Unbuilt
+class_least found (at (ClassDef name bases body marks) span) = Some (lesser (unbuilt span.line form.Class) found)
+class_least found s = found
+
+abbrev pub classes_least : Option Unbuilt → List StmtTree → Option Unbuilt
+classes_least found [] = found
+classes_least found (s ∷ more) = classes_least (class_least found s) more

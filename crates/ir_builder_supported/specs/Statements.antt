@@ -1,8 +1,9 @@
--- The statements, expressions and functions of a typed module that are not compiled, and the lines on which they stand. A statement
--- stands on its own line, and what stands inside of one on no line before it.
+-- The classes, statements, expressions and functions of a typed module that are not compiled, and the lines on which they stand. A
+-- statement stands on its own line, and what stands inside of one on no line before it.
 use Rattle.std.specs.Prelude.{ℕ, suc, Bool, true, false, ◌&&◌, ◌||◌, nat_le, List, [], ◌∷◌, ◌++◌, length, Option, Some, None, slice_get}
-use Rattle.std.specs.List.{list_all, filter}
-use Rattle.py_syntax.specs.Statements.{StmtTree, at, Def, Suite}
+use Rattle.std.specs.List.{list_all, flat_map}
+use Rattle.py_syntax.specs.Statements as tree
+use Rattle.py_syntax.specs.Statements.{StmtTree, at, Def, ClassDef, Suite}
 use Rattle.py_typed.specs.Sorts.{Sort}
 use Rattle.py_typed.specs.Fits.{is_same_type}
 use Rattle.py_typed.specs.Expressions.{TypedExpr, typed, Print, type_of}
@@ -10,7 +11,7 @@ use Rattle.py_typed.specs.Statements.{Variable, TypedFunc, TypedModule, TypedTar
 use Rattle.py_check_names.specs.Outline.{suite_definitions}
 use Rattle.py_check_unbuilt.specs.declared.form.Form.TheVariants as form
 use Rattle.py_check_unbuilt.specs.declared.form.Unbuilt.{Unbuilt}
-use Rattle.py_check_unbuilt.specs.Later.{least}
+use Rattle.py_check_unbuilt.specs.Least.{least}
 use Rattle.ir_builder_operations.specs.Operating.{is_arithmetic}
 use Rattle.ir_builder_expressions.specs.Parts.{is_int, is_i64, is_scalar, is_result}
 use Rattle.ir_builder_supported.specs.Forms.{unbuilt, expression_form, expression_at, targets_form, update_form, is_none, function_form}
@@ -92,25 +93,47 @@ abbrev pub is_function : TypedFunc → Bool
 is_function f = is_none f.class && (nat_le f.params (length f.locals) && (are_scalars f.locals && is_result f.ret))
 
 -- it stands on the line of its definition
-abbrev pub definition_line : Option StmtTree → ℕ
-definition_line None = 0
-definition_line (Some (at node span)) = span.line
+abbrev pub line_or_none : Option ℕ → ℕ
+line_or_none None = 0
+line_or_none (Some line) = line
 
 module _ (globals : List Variable) where
-  abbrev pub function_forms : Option StmtTree → TypedFunc → List Unbuilt
-  function_forms definition f = or_parts (is_function f) (unbuilt (definition_line definition) (function_form f)) (suite_forms f.locals globals f.body)
+  abbrev pub function_forms : ℕ → TypedFunc → List Unbuilt
+  function_forms line f = or_parts (is_function f) (unbuilt line (function_form f)) (suite_forms f.locals globals f.body)
 
-  -- functions from the one of this number on, among the functions' definitions
-  abbrev pub functions_forms : List StmtTree → ℕ → List TypedFunc → List Unbuilt
-  functions_forms definitions n [] = []
-  functions_forms definitions n (f ∷ more) = function_forms (slice_get definitions n) f ++ functions_forms definitions (suc n) more
+  -- functions from the one of this number on, where functions stand on these lines
+  abbrev pub functions_forms : List ℕ → ℕ → List TypedFunc → List Unbuilt
+  functions_forms lines n [] = []
+  functions_forms lines n (f ∷ more) = function_forms (line_or_none (slice_get lines n)) f ++ functions_forms lines (suc n) more
 
--- a definition of a function
-abbrev pub is_def : StmtTree → Bool
-is_def (at (Def name params ret body marks) span) = true
-is_def s = false
+-- ---- definitions
 
--- THE STATEMENT, expression or function of a module that is not compiled and stands on the first line with any, where there is one:
--- of several on that line the first, in the order above. The module has this tree and is this typed one
+-- the line of a definition of a function
+abbrev pub def_line : StmtTree → List ℕ
+def_line (at (Def name params ret body marks) span) = span.line ∷ []
+def_line s = []
+
+abbrev pub def_lines : Suite → List ℕ
+def_lines tree.no_stmts = []
+def_lines (tree.stmt_then s more) = def_line s ++ def_lines more
+
+-- the lines of the functions that a definition holds: of itself, or of the methods of a class
+abbrev pub lines_held : StmtTree → List ℕ
+lines_held (at (Def name params ret body marks) span) = span.line ∷ []
+lines_held (at (ClassDef name bases body marks) span) = def_lines body
+lines_held s = []
+
+-- THE LINES of a module's functions, by their numbers
+abbrev pub function_lines : List StmtTree → List ℕ
+function_lines definitions = flat_map lines_held definitions
+
+-- a class, which stands where its first decorator does
+abbrev pub class_form : StmtTree → List Unbuilt
+class_form (at (ClassDef name bases body marks) span) = unbuilt span.line form.Class ∷ []
+class_form s = []
+
+-- THE CLASS, statement, expression or function of a module that is not compiled and stands on the first line with any, where there is
+-- one: of several on that line the first, in the order here. The module has this tree and is this typed one. An import has no code
 abbrev pub uncompiled_form : Suite → TypedModule → Option Unbuilt
-uncompiled_form m t = least None (suite_forms [] t.globals t.top ++ functions_forms t.globals (filter is_def (suite_definitions m)) 0 t.funcs)
+uncompiled_form m t =
+    least None (flat_map class_form (suite_definitions m) ++ (suite_forms [] t.globals t.top ++ functions_forms t.globals (function_lines (suite_definitions m)) 0 t.funcs))

@@ -2,14 +2,13 @@
 //!
 //! Each function takes the first found so far, and gives the first with those of what it goes over. Those that go over statements
 //! take the variables of the function and of the module too.
-ghost use Rattle.std.specs.Prelude.{◌≡◌, map, slice_get, Some, IfOk};
-ghost use Rattle.std.specs.List.{filter};
-ghost use Rattle.py_check_unbuilt.specs.Later.{lesser};
-ghost use Rattle.py_syntax.specs.Statements.{module_tree, stmt_tree};
+ghost use Rattle.std.specs.Prelude.{◌≡◌, ◌++◌, map, slice_get, Some, IfOk};
+ghost use Rattle.py_check_unbuilt.specs.Least.{lesser};
+ghost use Rattle.py_syntax.specs.Statements.{module_tree, stmt_tree, body_tree};
 ghost use Rattle.py_check_names.specs.Walked.{trees};
 ghost use Rattle.py_typed.specs.Expressions.{typed_expr, exprs_of, comparisons_of, typed_comparison};
 ghost use Rattle.py_typed.specs.Statements.{typed_stmt, typed_suite, typed_arm, arms_of, maybe_typed, variable, typed_func, typed_module};
-ghost use Rattle.ir_builder_supported.specs.Statements.{uncompiled_form, is_function, is_def, definition_line};
+ghost use Rattle.ir_builder_supported.specs.Statements.{uncompiled_form, is_function, def_line, def_lines, lines_held, function_lines, line_or_none};
 ghost use Rattle.ir_builder_supported.specs.Forms as form;
 ghost use Rattle.ir_builder_supported.specs.Least as find;
 
@@ -22,7 +21,8 @@ use py_typed::{Checked, TExpr, TFunc, TKind, TStmt, TStmtKind, Var};
 use std::alloc::Global;
 use value_core::{Many, Memory};
 
-/// The statement, expression or function of a module that is not compiled and stands on the first line with any, where there is one.
+/// The class, statement, expression or function of a module that is not compiled and stands on the first line with any, where there is
+/// one.
 pub fn uncompiled_form(
     alloc: Global,
     parsed: &Module,
@@ -30,11 +30,12 @@ pub fn uncompiled_form(
 ) -> Result<Option<Unbuilt>, Memory>
     ensures { IfOk result (λ found. found ≡ uncompiled_form (module_tree parsed.now) (typed_module checked.now)) }
 {
-    let mut definitions = definitions_in(alloc, parsed.body.as_slice())?;
-    keep_functions(&mut definitions);
+    let definitions = definitions_in(alloc, parsed.body.as_slice())?;
+    let lines = function_lines(alloc, definitions.as_slice())?;
     let globals = checked.globals.as_slice();
-    let found = in_suite(checked.top.as_slice(), &[], globals, None);
-    Ok(in_functions(&definitions, checked.funcs.as_slice(), globals, found))
+    let found = in_classes(definitions.as_slice(), None);
+    let found = in_suite(checked.top.as_slice(), &[], globals, found);
+    Ok(in_functions(lines.as_slice(), checked.funcs.as_slice(), globals, found))
 }
 
 /// With something that is not compiled.
@@ -215,42 +216,95 @@ fn in_function(f: &TFunc, line: usize, globals: &[Var], found: Option<Unbuilt>) 
     }
 }
 
-/// Keeps of definitions and imports those that define functions.
-fn keep_functions(definitions: &mut Vec<&Stmt>)
-    ensures { trees definitions.new.items ≡ filter is_def (trees definitions.old.items) }
+/// In definitions, of which classes are not compiled.
+fn in_classes(definitions: &[&Stmt], found: Option<Unbuilt>) -> Option<Unbuilt>
+    ensures { result ≡ find.classes_least found (trees definitions.now) }
 {
-    definitions.retain(|s| is_def(s));
+    let mut found = found;
+    for s in definitions {
+        found = in_class(*s, found);
+    }
+    found
 }
 
-/// Whether a statement defines a function.
-fn is_def(s: &Stmt) -> bool
-    ensures { result ≡ is_def (stmt_tree s.now) }
+fn in_class(s: &Stmt, found: Option<Unbuilt>) -> Option<Unbuilt>
+    ensures { result ≡ find.class_least found (stmt_tree s.now) }
 {
-    matches!(s.kind, StmtKind::Def(_))
-}
-
-/// The line of the definition of a number, 0 where there is none.
-fn line_of(definitions: &[&Stmt], n: usize) -> usize
-    ensures { result ≡ definition_line (slice_get (trees definitions.now) n) }
-{
-    match definitions.get(n) {
-        None => 0,
-        Some(s) => s.span.line,
+    match &s.kind {
+        StmtKind::Class(_) => with(unbuilt(s.span.line, Form::Class), found),
+        _ => found,
     }
 }
 
-/// In functions, of which each stands among the functions' definitions at its number.
+/// The lines of the functions that these definitions hold, by the functions' numbers.
+fn function_lines(alloc: Global, definitions: &[&Stmt]) -> Result<Vec<usize>, Memory>
+    ensures { IfOk result (λ lines. lines.items ≡ function_lines (trees definitions.now)) }
+{
+    let mut lines = Vec::new(alloc);
+    for s in definitions {
+        add_lines(*s, &mut lines)?;
+    }
+    Ok(lines)
+}
+
+/// Adds the lines of the functions that a definition holds.
+fn add_lines(s: &Stmt, lines: &mut Vec<usize>) -> Result<(), Memory>
+    ensures { IfOk result (λ done. lines.new.items ≡ lines.old.items ++ lines_held (stmt_tree s.now)) }
+{
+    match &s.kind {
+        StmtKind::Def(_) => {
+            lines.push(s.span.line)?;
+            Ok(())
+        }
+        StmtKind::Class(c) => add_methods(c.body.as_slice(), lines),
+        _ => Ok(()),
+    }
+}
+
+fn add_methods(body: &[Stmt], lines: &mut Vec<usize>) -> Result<(), Memory>
+    ensures { IfOk result (λ done. lines.new.items ≡ lines.old.items ++ def_lines (body_tree body.now)) }
+{
+    for s in body {
+        add_line(s, lines)?;
+    }
+    Ok(())
+}
+
+/// Adds the line of a statement that defines a function.
+fn add_line(s: &Stmt, lines: &mut Vec<usize>) -> Result<(), Memory>
+    ensures { IfOk result (λ done. lines.new.items ≡ lines.old.items ++ def_line (stmt_tree s.now)) }
+{
+    match &s.kind {
+        StmtKind::Def(_) => {
+            lines.push(s.span.line)?;
+            Ok(())
+        }
+        _ => Ok(()),
+    }
+}
+
+/// The line of the function of a number, 0 where there is none.
+fn line_of(lines: &[usize], n: usize) -> usize
+    ensures { result ≡ line_or_none (slice_get lines.now n) }
+{
+    match lines.get(n) {
+        None => 0,
+        Some(line) => *line,
+    }
+}
+
+/// In functions, which stand on these lines by their numbers.
 fn in_functions(
-    definitions: &[&Stmt],
+    lines: &[usize],
     functions: &[TFunc],
     globals: &[Var],
     found: Option<Unbuilt>,
 ) -> Option<Unbuilt>
-    ensures { result ≡ find.functions_least (map variable globals.now) (trees definitions.now) found 0 (map typed_func functions.now) }
+    ensures { result ≡ find.functions_least (map variable globals.now) lines.now found 0 (map typed_func functions.now) }
 {
     let mut found = found;
     for (n, f) in functions.iter().enumerate() {
-        found = in_function(f, line_of(definitions, n), globals, found);
+        found = in_function(f, line_of(lines, n), globals, found);
     }
     found
 }

@@ -3,7 +3,6 @@ use Rattle.std.proofs.Common.{◌≡◌, refl, sym, ◌∙◌, ap, subst, ℕ, L
 use Rattle.std.specs.Prelude.{IfOk}
 use Rattle.py_syntax.specs.Statements.{Suite}
 use Rattle.py_check_unbuilt.specs.declared.form.Unbuilt as built
-use Rattle.py_check_unbuilt.specs.Later.{later_form}
 use Rattle.py_typed.specs.Statements.{TypedModule}
 use Rattle.ir_builder_supported.specs.Statements.{uncompiled_form}
 use Rattle.py_parser_source.specs.declared.fault.SourceFault.{SourceFault}
@@ -18,7 +17,7 @@ use Rattle.mypyc_top_compiler.specs.declared.typing.ModuleError.{ModuleError}
 use Rattle.mypyc_top_compiler.specs.declared.typing.ModuleError.TheVariants.{Faulty, Memory}
 use Rattle.mypyc_top_compiler.specs.Types.{types_said, typed_tree}
 use Rattle.mypyc_top_compiler.specs.Source.{IsTyped}
-use Rattle.mypyc_top_compiler.specs.Faults.{unbuilt_entry, unbuilt_at, or_else, of_compiling, of_typed, told, AreFaults}
+use Rattle.mypyc_top_compiler.specs.Faults.{unbuilt_entry, unbuilt_at, or_else, of_compiling, told, AreFaults}
 use Rattle.mypyc_top_compiler.specs.FaultLaws.{FaultsAreOne, TypedModulesAreOne}
 use Rattle.mypyc_top_compiler.specs.Found.{Tells, Judges}
 
@@ -27,42 +26,30 @@ no_entry e es is = cc
 
 -- ---- trees
 
--- a form without typing rules
-pub later_tells : (T : Type 0) (mode : Emit) (m : Suite) (u : built.Unbuilt) → later_form m ≡ Some u → Tells {T = T} (told mode m) (Err (Faulty (Unbuilt u)))
-later_tells T mode m u is =
-    let same : told mode m ≡ unbuilt_entry u ∷ [] = ap (λ o. or_else (unbuilt_at o) (of_typed mode m)) is in
-    (same, λ none. no_entry (unbuilt_entry u) [] (sym same ∙ none))
-
--- and none
-pub typed_tells : {T : Type 0} (mode : Emit) (m : Suite) (r : Result T ModuleError) → later_form m ≡ None → Tells (of_typed mode m) r → Tells (told mode m) r
-typed_tells mode m r is tells =
-    let same : told mode m ≡ of_typed mode m = ap (λ o. or_else (unbuilt_at o) (of_typed mode m)) is in
-    subst (λ es. Tells es r) (sym same) tells
-
 -- what is wrong with names and types
 first_of : (es others : List Entry) → ¬ (es ≡ []) → or_else es others ≡ es
 first_of [] others some = absurd (some refl)
 first_of (e ∷ es) others some = refl
 
-pub types_tell : (T U : Type 0) (mode : Emit) (m : Suite) (e : ModuleError) → Tells {T = T} (types_said m) (Err e) → Tells {T = U} (of_typed mode m) (Err e)
+pub types_tell : (T U : Type 0) (mode : Emit) (m : Suite) (e : ModuleError) → Tells {T = T} (types_said m) (Err e) → Tells {T = U} (told mode m) (Err e)
 types_tell T U mode m (Faulty faults) tells =
-    let same : of_typed mode m ≡ types_said m = first_of (types_said m) (of_compiling mode (uncompiled_form m (typed_tree m))) tells.1 in
+    let same : told mode m ≡ types_said m = first_of (types_said m) (of_compiling mode (uncompiled_form m (typed_tree m))) tells.1 in
     (same ∙ tells.0, λ none. tells.1 (sym same ∙ none))
 types_tell T U mode m Memory tells = tt
 
 -- what is not compiled
-of_form : (mode : Emit) (m : Suite) (t : TypedModule) (found : Option built.Unbuilt) → types_said m ≡ [] → t ≡ typed_tree m → unbuilt_at found ≡ of_compiling mode (uncompiled_form m t) → of_typed mode m ≡ unbuilt_at found
+of_form : (mode : Emit) (m : Suite) (t : TypedModule) (found : Option built.Unbuilt) → types_said m ≡ [] → t ≡ typed_tree m → unbuilt_at found ≡ of_compiling mode (uncompiled_form m t) → told mode m ≡ unbuilt_at found
 of_form mode m t found none same is =
     ap (λ es. or_else es (of_compiling mode (uncompiled_form m (typed_tree m)))) none
     ∙ sym (ap (λ x. of_compiling mode (uncompiled_form m x)) same)
     ∙ sym is
 
-pub all_compiled : (mode : Emit) (m : Suite) (t : TypedModule) (found : Option built.Unbuilt) → types_said m ≡ [] → t ≡ typed_tree m → unbuilt_at found ≡ of_compiling mode (uncompiled_form m t) → found ≡ None → of_typed mode m ≡ []
+pub all_compiled : (mode : Emit) (m : Suite) (t : TypedModule) (found : Option built.Unbuilt) → types_said m ≡ [] → t ≡ typed_tree m → unbuilt_at found ≡ of_compiling mode (uncompiled_form m t) → found ≡ None → told mode m ≡ []
 all_compiled mode m t found none same is all = of_form mode m t found none same is ∙ ap unbuilt_at all
 
-pub uncompiled_tells : (T : Type 0) (mode : Emit) (m : Suite) (t : TypedModule) (found : Option built.Unbuilt) (u : built.Unbuilt) → types_said m ≡ [] → t ≡ typed_tree m → unbuilt_at found ≡ of_compiling mode (uncompiled_form m t) → found ≡ Some u → Tells {T = T} (of_typed mode m) (Err (Faulty (Unbuilt u)))
+pub uncompiled_tells : (T : Type 0) (mode : Emit) (m : Suite) (t : TypedModule) (found : Option built.Unbuilt) (u : built.Unbuilt) → types_said m ≡ [] → t ≡ typed_tree m → unbuilt_at found ≡ of_compiling mode (uncompiled_form m t) → found ≡ Some u → Tells {T = T} (told mode m) (Err (Faulty (Unbuilt u)))
 uncompiled_tells T mode m t found u none same is there =
-    let all : of_typed mode m ≡ unbuilt_entry u ∷ [] = of_form mode m t found none same is ∙ ap unbuilt_at there in
+    let all : told mode m ≡ unbuilt_entry u ∷ [] = of_form mode m t found none same is ∙ ap unbuilt_at there in
     (all, λ nothing. no_entry (unbuilt_entry u) [] (sym all ∙ nothing))
 
 -- ---- files

@@ -3,7 +3,6 @@ use Rattle.std.proofs.Common.{◌≡◌, refl, sym, ◌∙◌, ap, subst, ℕ, t
 use Rattle.std.specs.Prelude.{if◌then◌else◌, IfOk}
 use Rattle.py_syntax.specs.Statements.{Suite}
 use Rattle.py_check_unbuilt.specs.declared.form.Unbuilt.{Unbuilt}
-use Rattle.py_check_unbuilt.specs.Later.{later_form}
 use Rattle.py_typed.specs.Statements.{TypedModule}
 use Rattle.py_typed.specs.WellTypedModule.{is_well_typed}
 use Rattle.py_check.specs.Module.{diagnostics, typed}
@@ -17,7 +16,7 @@ use Rattle.py_check_source_laws.specs.Written.{QuietFileIsWellTyped}
 use Rattle.mypyc_top_words.specs.declared.words.Emit.{Emit}
 use Rattle.mypyc_top_compiler.specs.declared.typing.ModuleError.{ModuleError}
 use Rattle.mypyc_top_compiler.specs.Types.{types_said, typed_tree}
-use Rattle.mypyc_top_compiler.specs.Faults.{compiles, unbuilt_at, or_else, of_compiling, of_typed, told}
+use Rattle.mypyc_top_compiler.specs.Faults.{compiles, unbuilt_at, or_else, of_compiling, told}
 use Rattle.mypyc_top_compiler.specs.Found.{Tells}
 use Rattle.mypyc_top_compiler.proofs.TypeLemmas.{no_diagnostics}
 
@@ -48,8 +47,7 @@ told_suits : (mode : Emit) (m : Suite) → (diagnostics m ≡ [] → is_well_typ
 told_suits mode m well_typed none compiled =
     let found : Option Unbuilt = uncompiled_form m (typed_tree m) in
     let compiling : List Entry = of_compiling mode found in
-    let both : of_typed mode m ≡ [] = no_other (unbuilt_at (later_form m)) (of_typed mode m) none in
-    tree_suits m well_typed (no_first (types_said m) compiling both) (all_compiled mode found compiled (no_other (types_said m) compiling both))
+    tree_suits m well_typed (no_first (types_said m) compiling none) (all_compiled mode found compiled (no_other (types_said m) compiling none))
 
 pub file_suits : {T : Type 0} → QuietFileIsWellTyped → (tree : T → TypedModule) (mode : Emit) (bytes : List ℕ) (m : Suite) (r : Result T ModuleError) → IsModule bytes m → IfOk r (λ found. tree found ≡ typed_tree m) → Tells (told mode m) r → IfOk r (λ found. compiles mode ≡ true → ModuleSuits (tree found))
 file_suits well_typed tree mode bytes m (Ok found) is same tells = λ compiled.

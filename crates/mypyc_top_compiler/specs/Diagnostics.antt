@@ -20,7 +20,7 @@ entries_text file es = flat_map (entry_text file) es ++ found_text (length es)
 
 -- ---- the lines on errors
 
--- what is said of an entry besides: a form that is not built is named
+-- what is said of an entry besides: a form that is not compiled is named
 abbrev pub note_behind : List ℕ → ℕ → Option (List ℕ) → List ℕ
 note_behind file line None = []
 note_behind file line (Some note) =

@@ -1,13 +1,12 @@
 -- All that is wrong with a file, by its bytes and by what is asked for. The rules go in this order, and the first that is
--- broken ends the search: the file is a text; its characters are tokens; its tokens are a module; each form of the module
--- has typing rules; its names and types are right; and, where it is compiled, each form can be. Only names and types can be
--- wrong at several places: every other entry stands alone.
+-- broken ends the search: the file is a text; its characters are tokens; its tokens are a module; its names and types are
+-- right; and, where it is compiled, each form can be. Only names and types can be wrong at several places: every other entry
+-- stands alone.
 use Rattle.std.specs.Prelude.{ℕ, Bool, true, false, if◌then◌else◌, List, [], ◌∷◌, Option, Some, option_to_list, codes}
 use Rattle.std.specs.Option.{option_map}
 use Rattle.py_syntax.specs.Statements.{Suite}
 use Rattle.py_check_unbuilt.specs.declared.form.Unbuilt.{Unbuilt}
 use Rattle.py_check_unbuilt.specs.Forms.{form_text}
-use Rattle.py_check_unbuilt.specs.Later.{later_form}
 use Rattle.ir_builder_supported.specs.Statements.{uncompiled_form}
 use Rattle.py_parser_source.specs.Entries.{Entry, Telling}
 use Rattle.py_parser_source.specs.Faults as source
@@ -15,7 +14,7 @@ use Rattle.mypyc_top_words.specs.declared.words.Emit.{Emit}
 use Rattle.mypyc_top_words.specs.declared.words.Emit.TheVariants.{Check, C, Run, Runc}
 use Rattle.mypyc_top_compiler.specs.Types.{types_said, typed_tree}
 
--- the entry for a form that is not built, where there is one; its note says which form it is
+-- the entry for a form that is not compiled, where there is one; its note says which form it is
 abbrev pub unbuilt_entry : Unbuilt → Entry
 unbuilt_entry u = record { line = u.line; text = codes "Form is not built yet"; code = codes "unbuilt"; note = Some (form_text u.form) }
 
@@ -38,13 +37,9 @@ or_else (e ∷ es) others = e ∷ es
 abbrev pub of_compiling : Emit → Option Unbuilt → List Entry
 of_compiling mode found = if compiles mode then unbuilt_at found else []
 
--- what is told of a module that has this tree, where each form has typing rules
-abbrev pub of_typed : Emit → Suite → List Entry
-of_typed mode m = or_else (types_said m) (of_compiling mode (uncompiled_form m (typed_tree m)))
-
 -- what is told of a module that has this tree
 abbrev pub told : Emit → Telling
-told mode m = or_else (unbuilt_at (later_form m)) (of_typed mode m)
+told mode m = or_else (types_said m) (of_compiling mode (uncompiled_form m (typed_tree m)))
 
 -- THE FAULTS of a file in a mode
 abbrev pub AreFaults : Emit → List ℕ → List Entry → Type 0

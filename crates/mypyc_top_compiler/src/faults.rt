@@ -17,7 +17,7 @@ use value_core::{Many, Memory};
 pub enum Faults {
     /// It is no module.
     OfSource(SourceFault),
-    /// This form is not built.
+    /// This form is not compiled.
     Unbuilt(Unbuilt),
     /// What is wrong with its names and types, by place.
     OfTypes(Many<Diag>),
@@ -40,7 +40,7 @@ pub fn lines_of(alloc: Global, file: &str, faults: &Faults) -> Result<Vec<u8>, M
     }
 }
 
-/// The lines on errors that tell of what is wrong with a file: a form that is not built is named.
+/// The lines on errors that tell of what is wrong with a file: a form that is not compiled is named.
 #[tactic(auto, using(crate::proofs::NoteLemmas::no_notes))]
 pub fn notes_of(alloc: Global, file: &str, faults: &Faults) -> Result<Vec<u8>, Memory>
     ensures { IfOk result (λ text. text.items ≡ notes_text file.now (entries_of faults.now)) }

@@ -6,7 +6,7 @@ ghost use Rattle.ir_builder_supported.specs.Statements.{uncompiled_form};
 ghost use Rattle.ir_builder_statements.specs.Modules.{ModuleSuits};
 ghost use Rattle.mypyc_top_compiler.specs.Types.{types_said, typed_tree};
 ghost use Rattle.mypyc_top_compiler.specs.Source.{IsTyped};
-ghost use Rattle.mypyc_top_compiler.specs.Faults.{compiles, unbuilt_at, of_compiling, of_typed, told, AreFaults};
+ghost use Rattle.mypyc_top_compiler.specs.Faults.{compiles, unbuilt_at, of_compiling, told, AreFaults};
 ghost use Rattle.mypyc_top_compiler.specs.Found.{Tells, Judges};
 
 use crate::faults::Faults;
@@ -15,7 +15,7 @@ use mypyc_top_words::Emit;
 use py_binder::bind;
 use py_check::{CheckError, check};
 use py_check_source_laws::quiet_files_are_well_typed;
-use py_check_unbuilt::{Unbuilt, later_form};
+use py_check_unbuilt::Unbuilt;
 use py_parser_source::{SourceError, read_module};
 use py_syntax::Module;
 use py_typed::Checked;
@@ -59,24 +59,12 @@ pub fn read_typed(alloc: Global, mode: Emit, bytes: &[u8]) -> Result<Checked, Mo
     }
 }
 
-/// The typed module of a tree, or all that is wrong with it: a form that has no typing rules, or else its types, or else what
-/// cannot be compiled.
-#[tactic(auto, using(crate::proofs::FaultLemmas::later_tells, crate::proofs::FaultLemmas::typed_tells))]
+/// The typed module of a tree, or all that is wrong with it in this mode: its names and types, or else the first form that cannot
+/// be compiled.
+#[tactic(auto, using(crate::proofs::FaultLemmas::types_tell, crate::proofs::FaultLemmas::all_compiled))]
 fn typed_of(alloc: Global, mode: Emit, parsed: &Module) -> Result<Checked, ModuleError>
     ensures typed { IfOk result (λ checked. typed_module checked ≡ typed_tree (module_tree parsed.now)) }
     ensures tells { Tells (told mode (module_tree parsed.now)) result }
-{
-    match later_form(parsed) {
-        Some(unbuilt) => Err(ModuleError::Faulty(Faults::Unbuilt(unbuilt))),
-        None => compiled_of(alloc, mode, parsed),
-    }
-}
-
-/// The typed module of a tree whose forms all have typing rules.
-#[tactic(auto, using(crate::proofs::FaultLemmas::types_tell, crate::proofs::FaultLemmas::all_compiled))]
-fn compiled_of(alloc: Global, mode: Emit, parsed: &Module) -> Result<Checked, ModuleError>
-    ensures typed { IfOk result (λ checked. typed_module checked ≡ typed_tree (module_tree parsed.now)) }
-    ensures tells { Tells (of_typed mode (module_tree parsed.now)) result }
 {
     let checked = types_of(alloc, parsed)?;
     match form_not_compiled(alloc, mode, parsed, &checked)? {

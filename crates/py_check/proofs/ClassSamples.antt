@@ -31,8 +31,7 @@ A = codes "A"
 abbrev B : List ℕ
 B = codes "B"
 
--- where nothing is wrong with headers, classes are outside the profile as long as their bodies are not typed
-right : diagnostics (suite_of (class 1 A [] [] ∷ class 2 B (name 2 A ∷ []) [] ∷ [])) ≡ diag (on 1) (outside_profile A) ∷ diag (on 2) (outside_profile B) ∷ []
+right : diagnostics (suite_of (class 1 A [] [] ∷ class 2 B (name 2 A ∷ []) [] ∷ [])) ≡ []
 right = refl
 
 twice_one_name : diagnostics (suite_of (class 1 A [] [] ∷ class 2 A (name 2 A ∷ []) [] ∷ [])) ≡ diag (on 2) (already_defined A) ∷ []

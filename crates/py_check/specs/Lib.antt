@@ -1,4 +1,5 @@
 pub mod Module
 pub mod Outcome
 pub mod Parts
+pub mod Tables
 pub mod Fixed

@@ -1,6 +1,8 @@
 //! Functions with their bodies.
-ghost use Rattle.std.specs.Prelude.{◌≡◌, ◌++◌, map, IfOk};
+ghost use Rattle.std.specs.Prelude.{◌≡◌, ◌++◌, ℕ, List, None, map, IfOk};
 ghost use Rattle.std.specs.Option.{option_map};
+ghost use Rattle.std.specs.Str.{bytes_eq};
+ghost use Rattle.indexmap.specs.IndexMap.{get};
 ghost use Rattle.py_typed.specs.Sorts.{sort};
 ghost use Rattle.py_typed.specs.Statements.{typed_func, typed_stmt, typed_suite};
 ghost use Rattle.py_check_names.specs.Meanings as meanings;
@@ -13,13 +15,15 @@ ghost use Rattle.py_check.specs.Module as spec;
 ghost use Rattle.py_check.specs.Parts as views;
 ghost use Rattle.py_check.specs.Fixed.{AreFixed};
 
+use crate::contexts::{ModuleContext, declaring_of, first_name, next_init_of};
 use indexmap::IndexSet;
 use py_check_context::{Context, VarType};
 use py_check_definitions::{
-    Function, ModuleContext, numbers_of, own_types, param_numbers, type_or_none, typed_variables,
+    Function, numbers_of, own_types, param_numbers, type_or_none, typed_variables,
 };
 use py_check_names::{names_in, own_names};
 use py_check_places::Place;
+use py_check_signatures::{Owner, is_init};
 use py_check_statements::{Around, Inside, block};
 use py_check_values::Returns;
 use py_syntax_diagnostics::Diag;
@@ -36,7 +40,8 @@ pub(crate) fn typed_functions(
     place: &mut Place,
     faults: &mut Many<Diag>,
 ) -> Result<Many<TFunc>, Memory>
-    requires { AreFixed (known_at place.old).types.globals }
+    requires fixed { AreFixed (known_at place.old).types.globals }
+    requires nothing { (name : List ℕ) → get bytes_eq module_context.now.nothing.now name ≡ None }
     ensures typed { IfOk result (λ fs. map typed_func fs ≡ spec.typed_functions (views.module_context_of module_context.now) (known_at place.old).types.globals (map headed_of functions.now)) }
     ensures told { IfOk result (λ fs. faults.new ≡ faults.old ++ spec.bodies_said (views.module_context_of module_context.now) (known_at place.old).types.globals (map headed_of functions.now)) }
     ensures known { IfOk result (λ fs. (known_at place.new).types.globals ≡ (known_at place.old).types.globals) }
@@ -56,15 +61,28 @@ fn typed_function(
     place: &mut Place,
     faults: &mut Many<Diag>,
 ) -> Result<TFunc, Memory>
-    ensures typed { IfOk result (λ t. typed_func t ≡ spec.typed_function (spec.context_in (views.module_context_of module_context.now) f.now.inside.now) module_context.now.known.now.variables.keys (known_at place.old).types.globals (headed_of f.now)) }
-    ensures told { IfOk result (λ t. faults.new ≡ faults.old ++ (spec.body (spec.context_in (views.module_context_of module_context.now) f.now.inside.now) module_context.now.known.now.variables.keys (known_at place.old).types.globals (headed_of f.now)).said) }
-    ensures known { IfOk result (λ t. (known_at place.new).types.globals ≡ (spec.body_after (spec.context_in (views.module_context_of module_context.now) f.now.inside.now) module_context.now.known.now.variables.keys (known_at place.old).types.globals (headed_of f.now)).types.globals) }
+    requires { (name : List ℕ) → get bytes_eq module_context.now.nothing.now name ≡ None }
+    ensures typed { IfOk result (λ t. typed_func t ≡ spec.typed_function (spec.function_context (views.module_context_of module_context.now) (headed_of f.now)) module_context.now.known.now.variables.keys (known_at place.old).types.globals (headed_of f.now)) }
+    ensures told { IfOk result (λ t. faults.new ≡ faults.old ++ (spec.body (spec.function_context (views.module_context_of module_context.now) (headed_of f.now)) module_context.now.known.now.variables.keys (known_at place.old).types.globals (headed_of f.now)).said) }
+    ensures known { IfOk result (λ t. (known_at place.new).types.globals ≡ (spec.body_after (spec.function_context (views.module_context_of module_context.now) (headed_of f.now)) module_context.now.known.now.variables.keys (known_at place.old).types.globals (headed_of f.now)).types.globals) }
 {
     let names = names_in(alloc, module_context.known, f.inside)?;
+    let inside = match f.header.owner {
+        Owner::Module => None,
+        Owner::Class(class) => Some(py_check_context::Inside {
+            class,
+            first: first_name(f.tree.params.as_slice()),
+            is_init: is_init(f.header.owner, &f.tree.name),
+            declaring: declaring_of(module_context, class),
+            next_init: next_init_of(module_context.members, class),
+        }),
+    };
     let scope = Context {
         names: &names,
         sigs: module_context.signatures,
         classes: module_context.classes,
+        members: module_context.members,
+        inside,
     };
     function_in(
         alloc,
@@ -171,12 +189,22 @@ fn with_body(
     let ret = type_or_none(alloc, &f.header.ret)?;
     Ok(TFunc {
         name,
-        class: None,
+        class: class_of(f.header.owner),
         params: f.tree.params.len(),
         locals,
         ret,
         body: statements_or_none(alloc, body),
     })
+}
+
+/// The class that a function stands in, where that has a type.
+fn class_of(owner: Owner) -> Option<usize>
+    ensures { result ≡ spec.class_of owner }
+{
+    match owner {
+        Owner::Module => None,
+        Owner::Class(class) => class,
+    }
 }
 
 /// Statements in a row, or none where they are not typed.

@@ -4,10 +4,8 @@ ghost use Rattle.py_syntax_diagnostics.specs.Order as order;
 ghost use Rattle.py_typed.specs.Statements as tree;
 ghost use Rattle.py_check.specs.Outcome.{IsBound, Outcome, Decided};
 
-use crate::modules::typed_module;
+use crate::modules::typing_of;
 use py_binder::Scopes;
-use py_check_definitions::add_refusals;
-use py_check_names::definitions_in;
 use py_syntax::Module;
 use py_syntax_diagnostics::{Diag, by_place};
 use py_typed::Checked;
@@ -42,12 +40,8 @@ pub fn check(alloc: Global, m: &Module, scopes: &Scopes) -> Result<Checked, Chec
     requires { IsBound (module_tree m.now) scopes.now }
     ensures { Outcome (module_tree m.now) result }
 {
-    let mut faults = Many::new(alloc);
-    let body = m.body.as_slice();
-    let typed = typed_module(alloc, body, scopes, &mut faults)?;
-    let definitions = definitions_in(alloc, body)?;
-    add_refusals(alloc, definitions.as_slice(), &mut faults)?;
-    by_faults(typed, faults)
+    let typing = typing_of(alloc, m.body.as_slice(), scopes)?;
+    by_faults(typing.checked, typing.faults)
 }
 
 /// A typed tree, or what is wrong, by place.

@@ -15,9 +15,8 @@ ghost use Rattle.py_check.specs.Parts as views;
 
 use indexmap::IndexSet;
 use py_binder::Scope;
-use py_check_classes::ModuleClasses;
 use py_check_context::Context;
-use py_check_definitions::{Earlier, add_definitions};
+use py_check_definitions::{ClassTables, Earlier, add_definitions};
 use py_check_names::definitions_in;
 use py_check_places::Place;
 use py_check_statements::{Around, Inside, block};
@@ -34,14 +33,14 @@ use value_core::{Many, Memory};
 pub(crate) fn walk(
     alloc: Global,
     scope: &Context<'_>,
-    classes: &ModuleClasses,
+    classes: ClassTables<'_>,
     insides: &[Scope],
     body: &[Stmt],
     place: &mut Place,
     faults: &mut Many<Diag>,
 ) -> Result<Option<Many<TStmt>>, Memory>
     ensures typed { IfOk result (λ t. option_map (map typed_stmt) t ≡ (bodies.block (context scope.now) outside bodies.nothing_around (known_at place.old) (body_tree body.now)).got) }
-    ensures told { IfOk result (λ t. faults.new ≡ faults.old ++ views.walk_along (definitions.classes_seen classes.now) (context scope.now) (known_at place.old) [] 0 insides.now (body_tree body.now)) }
+    ensures told { IfOk result (λ t. faults.new ≡ faults.old ++ views.walk_along (definitions.classes_seen classes.entry) (context scope.now) (known_at place.old) [] 0 insides.now (body_tree body.now)) }
     ensures known { IfOk result (λ t. known_at place.new ≡ bodies.block_after (context scope.now) (known_at place.old) (body_tree body.now)) }
 {
     let mut typed = Some(Many::new(alloc));
@@ -70,13 +69,13 @@ fn add_definitions_of<'a>(
     alloc: Global,
     scope: &Context<'_>,
     place: &Place,
-    classes: &ModuleClasses,
+    classes: ClassTables<'_>,
     s: &Stmt,
     insides: &'a [Scope],
     earlier: &mut Earlier,
     faults: &mut Many<Diag>,
 ) -> Result<&'a [Scope], Memory>
-    ensures told { IfOk result (λ rest. faults.new ≡ faults.old ++ definitions.said_along (definitions.classes_seen classes.now) (context scope.now) (known_at place.now) earlier.old.names.keys earlier.old.classes insides.now (stmt_definitions (stmt_tree s.now))) }
+    ensures told { IfOk result (λ rest. faults.new ≡ faults.old ++ definitions.said_along (definitions.classes_seen classes.entry) (context scope.now) (known_at place.now) earlier.old.names.keys earlier.old.classes insides.now (stmt_definitions (stmt_tree s.now))) }
     ensures names { IfOk result (λ rest. earlier.new.names.keys ≡ definitions.names_behind earlier.old.names.keys (stmt_definitions (stmt_tree s.now))) }
     ensures classes { IfOk result (λ rest. earlier.new.classes ≡ definitions.classes_behind earlier.old.classes (stmt_definitions (stmt_tree s.now))) }
     ensures scopes { IfOk result (λ rest. rest.now ≡ definitions.scopes_behind insides.now (stmt_definitions (stmt_tree s.now))) }

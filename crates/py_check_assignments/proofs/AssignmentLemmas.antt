@@ -1,5 +1,5 @@
 -- What an assignment says, from what was said of its value.
-use Rattle.std.proofs.Common.{◌≡◌, ℕ, Bool, true, false, List, [], ◌∷◌, ◌++◌, reverse, map, Option, Some, None, Result, Ok, Err, IfOk, refl, ap, sym, ◌∙◌, subst, append_assoc}
+use Rattle.std.proofs.Common.{◌≡◌, ℕ, Bool, true, false, List, [], ◌∷◌, ◌++◌, reverse, map, Option, Some, None, is_some, Result, Ok, Err, IfOk, refl, ap, sym, ◌∙◌, subst, append_assoc}
 use Rattle.std.proofs.lemmas.List.{append-nil, reverse-append}
 use Rattle.std.specs.declared.boxed.Box.{Box}
 use Rattle.std.specs.declared.alloc.Global.{Global}
@@ -17,23 +17,24 @@ use Rattle.py_typed.specs.Sorts.{Sort, sort}
 use Rattle.py_typed.specs.Expressions.{TypedExpr, type_of}
 use Rattle.py_typed.specs.Statements as act
 use Rattle.py_typed.specs.Statements.{TypedTarget, TypedAct}
-use Rattle.py_check_messages.specs.Seen.{Seen, Message, Tells, Finds, behind, both, fails, judged, rule, ruled}
+use Rattle.py_check_messages.specs.Seen.{Seen, Message, Tells, Finds, behind, both, fails, judged, rule, ruled, silent}
 use Rattle.py_check_messages.proofs.RowLemmas.{two_parts}
 use Rattle.py_check_messages.specs.Messages.{no_target}
 use Rattle.py_check_annotations.specs.Annotations.{annotation}
 use Rattle.py_check_coercions.specs.Boxes.{boxed}
 use Rattle.py_check_coercions.specs.Several.{unless}
-use Rattle.py_check_values.specs.Assignments.{assignment}
+use Rattle.py_check_values.specs.Assignments.{assignment, lacking_fault}
 use Rattle.py_check_context.specs.Context.{Context}
 use Rattle.py_check_places.specs.Places.{Known, is_bound}
 use Rattle.py_check_places.specs.Shapes.{is_row, is_flat}
 use Rattle.py_check_values.specs.declared.aims.Aim as declared
 use Rattle.py_check_values.specs.Aims.{Aim, aim_seen}
-use Rattle.py_check_targets.specs.Targets.{asked_sort, act_of, target_of, targets_of, are_placed, value_assigned, assigned, given, given_after, name_aim, target_aims, aims_behind}
+use Rattle.py_check_targets.specs.Targets.{fault_or, asked_sort, act_of, target_of, targets_of, are_placed, value_assigned, placed, assigned, given, given_after, name_aim, target_aims, aims_behind}
 use Rattle.py_check_targets.specs.Views.{boxed_aim, boxed_act, boxed_sort}
 use Rattle.py_check_targets.proofs.LookLemmas.{one_look}
 use Rattle.py_check_targets.proofs.SeenLemmas.{seen_of}
 use Rattle.py_check_assignments.specs.Assignments.{asked_for, value_for, assigns, annotated_value, gives_value}
+use Rattle.py_check_assignments.specs.Views.{Shows}
 
 -- a rule of two parts, where both are typed
 pub parts_typed : {A B : Type 0} (span : Span) (f : A × B → Result TypedAct Message) (o : Option A) (p : Option B) (a : A) (b : B) (r : Result (Option (Box TStmtKind Global)) Memory) (old new : List Diag) → o ≡ Some a → p ≡ Some b → IfOk r (λ t. Tells boxed_act t old new (judged span (f (a, b)))) → IfOk r (λ t. Tells boxed_act t old new (ruled span f (option_zip o p)))
@@ -55,26 +56,37 @@ pub lost_says : {A B : Type 0} (view : B → A) (span : Span) (fault : Option Me
 lost_says view span None a right old new found wrong = absurd (let clash : true ≡ false = sym found.0 ∙ wrong in cc)
 lost_says view span (Some m) a right old new found wrong = (refl, found.1)
 
+-- what is wrong comes before a rule, and where nothing is
+pub wrong_says : (span : Span) (fault : Option Message) (x : Result TypedAct Message) (right : Bool) (old new : List Diag) → Finds right old new span fault → right ≡ false → Tells boxed_act None old new (judged span (fault_or fault x))
+wrong_says span None x right old new found wrong = absurd (let clash : true ≡ false = sym found.0 ∙ wrong in cc)
+wrong_says span (Some m) x right old new found wrong = (refl, found.1)
+
+pub right_says : (span : Span) (fault : Option Message) (x : Result TypedAct Message) (right : Bool) (r : Result (Option (Box TStmtKind Global)) Memory) (old mid new : List Diag) → Finds right old mid span fault → right ≡ true → IfOk r (λ t. Tells boxed_act t mid new (judged span x)) → IfOk r (λ t. Tells boxed_act t old new (judged span (fault_or fault x)))
+right_says span (Some m) x right r old mid new found holds h = absurd (let clash : false ≡ true = sym found.0 ∙ holds in cc)
+right_says span None x right r old mid new found holds h =
+    let P : List Diag → Type 0 = λ l. IfOk r (λ t. Tells boxed_act t l new (judged span x)) in
+    subst P found.1 h
+
 -- ---- targets without an annotation
 
 abbrev by_place : List ClassEntry → ExprTree → Option Sort → List Aim → TypedExpr → Bool → Result TypedAct Message
-by_place classes target asked aims x placed =
-    if placed then act_of (targets_of aims) (value_assigned classes (is_row target) asked aims x) else Err no_target
+by_place classes target asked aims x stands =
+    if stands then act_of (targets_of aims) (value_assigned classes (is_row target) asked aims x) else Err no_target
 
 -- targets that cannot be assigned to
-pub misplaced_says : (classes : List ClassEntry) (span : Span) (target : ExprTree) (asked : Option Sort) (aims : List Aim) (x : TypedExpr) (r : Result (Option (Box TStmtKind Global)) Memory) (old new : List Diag) → are_placed (is_flat target) aims ≡ false → IfOk r (λ t. Tells boxed_act t old new (fails {A = TypedAct} span no_target)) → IfOk r (λ t. Tells boxed_act t old new (judged span (assigned classes target asked (aims, x))))
+pub misplaced_says : (classes : List ClassEntry) (span : Span) (target : ExprTree) (asked : Option Sort) (aims : List Aim) (x : TypedExpr) (r : Result (Option (Box TStmtKind Global)) Memory) (old new : List Diag) → are_placed (is_flat target) aims ≡ false → IfOk r (λ t. Tells boxed_act t old new (fails {A = TypedAct} span no_target)) → IfOk r (λ t. Tells boxed_act t old new (judged span (placed classes target asked (aims, x))))
 misplaced_says classes span target asked aims x r old new misplaced h =
     let P : Bool → Type 0 = λ b. IfOk r (λ t. Tells boxed_act t old new (judged span (by_place classes target asked aims x b))) in
     subst P (sym misplaced) h
 
 -- a value is assigned to them
-pub assigned_says : (classes : List ClassEntry) (span : Span) (target : ExprTree) (asked : Option Sort) (aims : List Aim) (x : TypedExpr) (e : Option (Box TExpr Global)) (ts : List TypedTarget) (r : Result (Option (Box TStmtKind Global)) Memory) (old new : List Diag) → are_placed (is_flat target) aims ≡ true → Tells boxed e old new (judged span (value_assigned classes (is_row target) asked aims x)) → ts ≡ targets_of aims → IfOk r (λ t. option_map boxed_act t ≡ option_map (act.Assign ts) (option_map boxed e)) → IfOk r (λ t. Tells boxed_act t old new (judged span (assigned classes target asked (aims, x))))
-assigned_says classes span target asked aims x e ts (Ok t) old new placed told written h =
+pub placed_says : (classes : List ClassEntry) (span : Span) (target : ExprTree) (asked : Option Sort) (aims : List Aim) (x : TypedExpr) (e : Option (Box TExpr Global)) (ts : List TypedTarget) (r : Result (Option (Box TStmtKind Global)) Memory) (old new : List Diag) → are_placed (is_flat target) aims ≡ true → Tells boxed e old new (judged span (value_assigned classes (is_row target) asked aims x)) → ts ≡ targets_of aims → IfOk r (λ t. option_map boxed_act t ≡ option_map (act.Assign ts) (option_map boxed e)) → IfOk r (λ t. Tells boxed_act t old new (judged span (placed classes target asked (aims, x))))
+placed_says classes span target asked aims x e ts (Ok t) old new stands told written h =
     let V : Result TypedExpr Message = value_assigned classes (is_row target) asked aims x in
     let P : Bool → Type 0 = λ b. Tells boxed_act t old new (judged span (by_place classes target asked aims x b)) in
     let Q : List TypedTarget → Type 0 = λ l. Tells boxed_act t old new (judged span (act_of l V)) in
-    subst P (sym placed) (subst Q written (acts span ts V e t old new told h))
-assigned_says classes span target asked aims x e ts (Err m) old new placed told written h = tt
+    subst P (sym stands) (subst Q written (acts span ts V e t old new told h))
+placed_says classes span target asked aims x e ts (Err m) old new stands told written h = tt
 
 -- one more target is put behind the others
 pub target_step : (front after : List TypedTarget) (rest left : List declared.Aim) (a : declared.Aim) (whole : List TypedTarget) → rest ≡ left ++ a ∷ [] → after ≡ front ++ target_of (aim_seen a) → front ++ targets_of (map aim_seen (reverse rest)) ≡ whole → after ++ targets_of (map aim_seen (reverse left)) ≡ whole
@@ -111,7 +123,8 @@ several_says c k span target e v asked s t old new sought is type h =
 -- whatever a value was asked for, one target has only to take it
 abbrev taken : List ClassEntry → ExprTree → Bool → Option Sort → List Aim × TypedExpr → Result TypedAct Message
 taken classes target several asked p =
-    if are_placed (is_flat target) p.0 then act_of (targets_of p.0) (value_assigned classes several asked p.0 p.1) else Err no_target
+    fault_or (lacking_fault classes p.0)
+    (if are_placed (is_flat target) p.0 then act_of (targets_of p.0) (value_assigned classes several asked p.0 p.1) else Err no_target)
 
 pub one_says : {R : Type 0} (kind : R → Option (Box TStmtKind Global)) (r : Result R Memory) (c : Context) (k : Known) (span : Span) (target e : ExprTree) (old new : List Diag) → is_row target ≡ false → IfOk r (λ a. Tells boxed_act (kind a) old new (rule span (assigned c.classes target None) (both (target_aims c k target) (value_for c k target e)))) → IfOk r (λ a. Tells boxed_act (kind a) old new (assigns c k span target e))
 one_says kind r c k span target e old new one h =
@@ -138,11 +151,6 @@ gives_says kind (Ok a) c k span x y bound mark e aim t u o0 o1 o2 same before na
     let last = (ruled span G (option_zip (option_zip N M.got) V.got)).said in
     (all.0, all.1 ∙ ap (λ l. l ++ (V.said ++ last)) told.1 ∙ append_assoc o0 M.said (V.said ++ last) ∙ ap (λ l. o0 ++ l) (sym (append_assoc M.said V.said last)))
 
--- the annotation is refused
-pub no_annotation_says : (classes : List ClassEntry) (span : Span) (fault : Option Message) (a : Aim) (x : TypedExpr) (right : Bool) (old new : List Diag) → Finds right old new span fault → right ≡ false → Tells boxed_act None old new (judged span (given_after classes fault a x))
-no_annotation_says classes span None a x right old new found wrong = absurd (let clash : true ≡ false = sym found.0 ∙ wrong in cc)
-no_annotation_says classes span (Some m) a x right old new found wrong = (refl, found.1)
-
 -- the value is assigned
 pub given_says : (classes : List ClassEntry) (span : Span) (fault : Option Message) (a : Aim) (x : TypedExpr) (right : Bool) (e : Option (Box TExpr Global)) (r : Result (Option (Box TStmtKind Global)) Memory) (old mid new : List Diag) → Finds right old mid span fault → right ≡ true → Tells boxed e mid new (judged span (assignment classes a x)) → IfOk r (λ t. option_map boxed_act t ≡ option_map (act.Assign (target_of a)) (option_map boxed e)) → IfOk r (λ t. Tells boxed_act t old new (judged span (given_after classes fault a x)))
 given_says classes span fault a x right e (Err m) old mid new found holds told made = tt
@@ -150,3 +158,38 @@ given_says classes span (Some m) a x right e (Ok t) old mid new found holds told
 given_says classes span None a x right e (Ok t) old mid new found holds told made =
     let P : List Diag → Type 0 = λ l. Tells boxed_act t l new (judged span (act_of (target_of a) (assignment classes a x))) in
     subst P found.1 (acts span (target_of a) (assignment classes a x) e t mid new told made)
+
+-- ---- an attribute with an annotation
+
+typed_so : {A : Type 0} (span : Span) (x : Result TypedAct Message) (o : Option A) → (if is_some o then judged span x else silent) ≡ ruled span (λ q. x) o
+typed_so span x None = refl
+typed_so span x (Some a) = refl
+
+-- a rule that is the same whatever the parts are
+pub fixed_says : {A : Type 0} (span : Span) (x : Result TypedAct Message) (s : Seen A) (complete : Bool) (r : Result (Option (Box TStmtKind Global)) Memory) (old mid new : List Diag) → Shows complete old mid s → IfOk r (λ t. Tells boxed_act t mid new (if complete then judged span x else silent)) → IfOk r (λ t. Tells boxed_act t old new (rule span (λ q. x) s))
+fixed_says span x s complete (Err m) old mid new shows h = tt
+fixed_says span x s complete (Ok t) old mid new shows h =
+    let P : Seen TypedAct → Type 0 = λ y. Tells boxed_act t mid new y in
+    let Y = ruled span (λ q. x) s.got in
+    let told : Tells boxed_act t mid new Y = subst P (ap (λ b. if b then judged span x else silent) shows.0 ∙ typed_so span x s.got) h in
+    (told.0, told.1 ∙ ap (λ l. l ++ Y.said) shows.1 ∙ append_assoc old s.said Y.said)
+
+-- three parts, of which the second has only to be typed
+without_second : {A B C : Type 0} (span : Span) (g : A × C → Result TypedAct Message) (o : Option A) (m : Option B) (p : Option C) → ruled span g (if is_some m then option_zip o p else None) ≡ ruled span (λ q. g (q.0.0, q.1)) (option_zip (option_zip o m) p)
+without_second span g None None p = refl
+without_second span g None (Some b) p = refl
+without_second span g (Some a) None p = refl
+without_second span g (Some a) (Some b) None = refl
+without_second span g (Some a) (Some b) (Some x) = refl
+
+pub third_says : {A B C : Type 0} (span : Span) (g : A × C → Result TypedAct Message) (s : Seen A) (m : Seen B) (v : Seen C) (o : Option A) (p : Option C) (marked : Bool) (r : Result (Option (Box TStmtKind Global)) Memory) (o0 o1 o2 o3 o4 : List Diag) → o ≡ s.got → o1 ≡ o0 ++ s.said → Shows marked o1 o2 m → p ≡ v.got → o3 ≡ o2 ++ v.said
+    → IfOk r (λ t. Tells boxed_act t o3 o4 (ruled span g (if marked then option_zip o p else None))) → IfOk r (λ t. Tells boxed_act t o0 o4 (rule span (λ q. g (q.0.0, q.1)) (both (both s m) v)))
+third_says span g s m v o p marked (Err e) o0 o1 o2 o3 o4 is said shows value spoken h = tt
+third_says span g s m v o p marked (Ok t) o0 o1 o2 o3 o4 is said shows value spoken h =
+    let P : Seen TypedAct → Type 0 = λ y. Tells boxed_act t o3 o4 y in
+    let Y = ruled span (λ q. g (q.0.0, q.1)) (option_zip (option_zip s.got m.got) v.got) in
+    let told : Tells boxed_act t o3 o4 Y =
+    subst P (ap (λ b. ruled span g (if b then option_zip o p else None)) shows.0 ∙ ap (λ q. ruled span g (if is_some m.got then option_zip q p else None)) is ∙ ap (λ q. ruled span g (if is_some m.got then option_zip s.got q else None)) value ∙ without_second span g s.got m.got v.got) h in
+    let parts : o3 ≡ o0 ++ ((s.said ++ m.said) ++ v.said) =
+    spoken ∙ ap (λ l. l ++ v.said) (shows.1 ∙ ap (λ l. l ++ m.said) said ∙ append_assoc o0 s.said m.said) ∙ append_assoc o0 (s.said ++ m.said) v.said in
+    (told.0, told.1 ∙ ap (λ l. l ++ Y.said) parts ∙ append_assoc o0 ((s.said ++ m.said) ++ v.said) Y.said)

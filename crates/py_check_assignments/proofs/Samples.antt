@@ -1,22 +1,26 @@
 -- Assignments, typed by computing: what is said of each, and what is known behind it.
-use Rattle.std.proofs.Common.{◌≡◌, refl, ℕ, pos, List, [], ◌∷◌, codes, Some, None}
+use Rattle.std.proofs.Common.{◌≡◌, refl, ℕ, Bool, true, false, pos, List, [], ◌∷◌, codes, Some, None}
 use Rattle.std.specs.Prelude.{unwrap_or}
 use Rattle.std.specs.Map.{lookup}
 use Rattle.std.specs.Str.{bytes_eq}
 use Rattle.py_syntax.specs.declared.token.Span.{Span}
+use Rattle.py_syntax.specs.declared.expression.BinOp.TheVariants.{Add}
 use Rattle.py_syntax.specs.Expressions as tree
 use Rattle.py_syntax.specs.Expressions.{ExprTree, at, no_exprs, expr_then}
 use Rattle.py_syntax_diagnostics.specs.declared.diagnostic.Diag.{Diag}
 use Rattle.py_typed.specs.Sorts as sort
 use Rattle.py_typed.specs.Sorts.{no_sorts, sort_then}
+use Rattle.py_typed.specs.Classes.{ClassEntry}
 use Rattle.py_check_context.specs.declared.scope.Meaning.{Meaning}
 use Rattle.py_check_context.specs.declared.scope.Meaning.TheVariants as meaning
 use Rattle.py_check_context.specs.declared.scope.Builtin.TheVariants as builtin
+use Rattle.py_check_context.specs.Members.{Member, attribute, unknown, method}
 use Rattle.py_check_context.specs.Context.{Context, VarSort, unset, untyped, has}
 use Rattle.py_check_messages.specs.Seen.{diag}
-use Rattle.py_check_messages.specs.Messages.{no_target, already_defined, wrong_assignment, invalid_index}
+use Rattle.py_check_messages.specs.Messages.{no_target, no_attribute, not_a_value, already_defined, wrong_assignment, invalid_index}
 use Rattle.py_check_places.specs.Places.{Known}
-use Rattle.py_check_assignments.specs.Assignments.{assigns, binds, annotates, binds_annotated}
+use Rattle.py_check_targets.specs.Targets.{holds_none}
+use Rattle.py_check_assignments.specs.Assignments.{assigns, binds, annotates, binds_annotated, updates}
 
 abbrev p : Span
 p = record { line = 1; col = 1 }
@@ -40,6 +44,9 @@ c = record {
   meaning = λ x. unwrap_or (lookup (bytes_eq x) names) meaning.Unknown;
   signatures = [];
   classes = [];
+  member = λ n a. None;
+  init = λ n. None;
+  inside = None;
 }
 
 abbrev start : Known
@@ -97,9 +104,21 @@ first e = at (tree.Index e (at (tree.Int (pos 0)) p)) p
 bound_in_turn : says (pair (name (codes "x")) (first (only (name (codes "x"))))) (name (codes "w")) ≡ diag p (wrong_assignment [] sort.Str sort.Int) ∷ []
 bound_in_turn = refl
 
--- `x, [[x]][0] = u`: the value has to fit what it was asked for too, which was a list of what may be None
-asked_before : says (pair (name (codes "x")) (first (only (only (name (codes "x")))))) (name (codes "u")) ≡ diag p (wrong_assignment [] (sort.ListOf sort.Int) (sort.ListOf (sort.Optional sort.Int))) ∷ []
+-- `x, [[x]][0] = u`: the value has only to fit what the targets are once they are bound, and not what it was asked for, which was a
+-- list of what may be None
+bound_only : says (pair (name (codes "x")) (first (only (only (name (codes "x")))))) (name (codes "u")) ≡ []
+bound_only = refl
+
+abbrev three : ExprTree → ExprTree → ExprTree → ExprTree
+three a b e = at (tree.TupleOf (expr_then a (expr_then b (expr_then e no_exprs)))) p
+
+-- `x, x, [[x]][0] = None, 1, l`: a display with an item None has to fit what it was asked for too
+asked_before : says (three (name (codes "x")) (name (codes "x")) (first (only (only (name (codes "x")))))) (three nothing one (name (codes "l"))) ≡ diag p (wrong_assignment [] (sort.ListOf sort.Int) (sort.ListOf (sort.Optional sort.Int))) ∷ []
 asked_before = refl
+
+-- such an item may stand at any depth
+deep : holds_none (sort.TupleOf (sort_then sort.Int (sort_then (sort.TupleOf (sort_then sort.Nothing no_sorts)) no_sorts))) ≡ true
+deep = refl
 
 -- `1 = 1`
 no_name : says one one ≡ diag p no_target ∷ []
@@ -130,3 +149,79 @@ annotated_number = refl
 -- behind `x: int` nothing is known of x
 declared_again : (binds_annotated c start p (Some (codes "x")) (name (codes "x")) (name (codes "int")) None).names ≡ []
 declared_again = refl
+
+-- ---- attributes
+
+abbrev q : Span
+q = record { line = 2; col = 5 }
+
+-- what a class C has: an attribute a of type int, which the statement at p declares in `__init__`; b, which nothing declares and the
+-- target at q sets first; and a method m
+abbrev members : List (List ℕ × Member)
+members = (codes "a", attribute sort.Int) ∷ (codes "b", unknown q) ∷ (codes "m", method 0) ∷ []
+
+abbrev class_of : List ℕ → ClassEntry
+class_of x = record { name = x; is_trait = false; bases = []; attributes = (codes "a", sort.Int) ∷ []; methods = (codes "m", 0) ∷ [] }
+
+-- in a method of C of this kind
+abbrev in_method : Bool → Context
+in_method is_init = record {
+  meaning = λ x. unwrap_or (lookup (bytes_eq x) ((codes "self", meaning.Local 0) ∷ (codes "int", meaning.Builtin builtin.Int) ∷ [])) meaning.Unknown;
+  signatures = None ∷ [];
+  classes = class_of (codes "C") ∷ [];
+  member = λ n x. lookup (bytes_eq x) members;
+  init = λ n. None;
+  inside = Some (record { class = Some 0; first = Some (codes "self"); is_init = is_init; declaring = λ x. lookup (bytes_eq x) ((codes "a", p) ∷ []); next_init = None });
+}
+
+abbrev with_self : Known
+with_self = record {
+  types = record {
+    locals = has (sort.Instance 0) ∷ [];
+    globals = [];
+  };
+  locals_bound = 0 ∷ [];
+  globals_bound = [];
+  names = [];
+}
+
+abbrev self_at : Span → List ℕ → ExprTree
+self_at span x = at (tree.Attr (name (codes "self")) x) span
+
+abbrev says_in : Bool → ExprTree → ExprTree → List Diag
+says_in is_init target e = (assigns (in_method is_init) with_self p target e).said
+
+-- `self.a = 1` and `self.a = None`
+set : says_in false (self_at p (codes "a")) one ≡ []
+set = refl
+
+set_wrong : says_in false (self_at p (codes "a")) nothing ≡ diag p (wrong_assignment (class_of (codes "C") ∷ []) sort.Nothing sort.Int) ∷ []
+set_wrong = refl
+
+-- `self.m = 1`: the target has a rule of its own
+method_set : says_in false (self_at p (codes "m")) one ≡ diag p (not_a_value (codes "m")) ∷ []
+method_set = refl
+
+-- the target that sets b first, alone and beside a tuple in a tuple; any other place of it is silent
+set_first : says_in true (self_at q (codes "b")) one ≡ diag p (no_attribute (class_of (codes "C") ∷ []) (sort.Instance 0) (codes "b")) ∷ []
+set_first = refl
+
+set_among : says_in true (pair (self_at q (codes "b")) (pair (self_at p (codes "a")) (self_at p (codes "a")))) one ≡ diag p (no_attribute (class_of (codes "C") ∷ []) (sort.Instance 0) (codes "b")) ∷ []
+set_among = refl
+
+set_again : says_in true (self_at p (codes "b")) one ≡ []
+set_again = refl
+
+-- `self.b += 1`, which sets b first
+updated_first : (updates (in_method true) with_self p (self_at q (codes "b")) Add one).said ≡ diag p (no_attribute (class_of (codes "C") ∷ []) (sort.Instance 0) (codes "b")) ∷ []
+updated_first = refl
+
+-- `self.a: int = 1` at the statement that declares it, and at another one, and in another method
+annotated_there : (annotates (in_method true) with_self p None (self_at p (codes "a")) (name (codes "int")) (Some one)).said ≡ []
+annotated_there = refl
+
+annotated_elsewhere : (annotates (in_method true) with_self q None (self_at q (codes "a")) (name (codes "int")) (Some one)).said ≡ diag q (already_defined (codes "a")) ∷ []
+annotated_elsewhere = refl
+
+annotated_outside : (annotates (in_method false) with_self p None (self_at p (codes "a")) (name (codes "int")) None).said ≡ diag p no_target ∷ []
+annotated_outside = refl

@@ -2,7 +2,8 @@
 -- PEP 526).
 --
 -- All names of a target are bound, whether the whole holds or is refused. A value is asked for the types that its targets have
--- before anything is known of it; then it is bound to what they are, each once the names before it are bound.
+-- before anything is known of it; then it is bound to what they are, each once the names before it are bound. An annotation stands on a
+-- name, and in an `__init__` on an attribute of the object that it sets up.
 use Rattle.std.specs.Prelude.{ℕ, false, List, Option, Some, None, is_some, if◌then◌else◌}
 use Rattle.std.specs.Option.{option_map}
 use Rattle.py_syntax.specs.declared.token.Span.{Span}
@@ -19,8 +20,9 @@ use Rattle.py_check_messages.specs.Messages.{no_target}
 use Rattle.py_check_annotations.specs.Annotations.{annotation}
 use Rattle.py_check_coercions.specs.Several.{with_part}
 use Rattle.py_check_places.specs.Places.{Known, variable_at, is_bound}
-use Rattle.py_check_places.specs.Shapes.{is_row, is_item, bind_target}
-use Rattle.py_check_targets.specs.Targets.{target_aims, aims_behind, asked_sort, asked_by, assigned, declared, given, updated, name_aim, read_aim, seen_aim, typed_at}
+use Rattle.py_check_places.specs.Shapes.{is_row, is_access, bind_target}
+use Rattle.py_check_targets.specs.Attributes.{own_attribute, lacking_in, declaring_fault}
+use Rattle.py_check_targets.specs.Targets.{target_aims, aims_behind, asked_sort, asked_by, assigned, declared, given, declared_own, given_own, updated, updated_lacking, name_aim, read_aim, seen_aim, typed_at}
 
 -- what a variable asks of its value
 abbrev pub asked : VarSort → Wanted
@@ -63,16 +65,35 @@ module _ (c : Context) where
   annotates_name k span x mark None = declares k span x mark
   annotates_name k span x mark (Some e) = gives_value k span x mark e
 
-  -- what is no name has no annotation; its value is still asked for the type that it has
+  -- an attribute of the object that an `__init__` sets up; its value is asked for the type that it has
+  abbrev pub declares_own : Known → Span → List ℕ → ExprTree → ExprTree → Seen TypedAct
+  declares_own k span a target mark =
+      rule span (declared_own (declaring_fault c.inside a span)) (both (target_aims c k target) (annotation c.meaning mark))
+
+  abbrev pub gives_own : Known → Span → List ℕ → ExprTree → ExprTree → ExprTree → Seen TypedAct
+  gives_own k span a target mark e =
+      rule span (given_own c.classes target (declaring_fault c.inside a span))
+      (both (both (target_aims c k target) (annotation c.meaning mark)) (value_for k target e))
+
+  abbrev pub annotates_own : Known → Span → List ℕ → ExprTree → ExprTree → Option ExprTree → Seen TypedAct
+  annotates_own k span a target mark None = declares_own k span a target mark
+  annotates_own k span a target mark (Some e) = gives_own k span a target mark e
+
+  -- what is neither has no annotation; its value is still asked for the type that it has
   abbrev pub annotates_other : Known → Span → ExprTree → ExprTree → Option ExprTree → Seen TypedAct
   annotates_other k span target mark None =
       behind (both (target_aims c k target) (annotation c.meaning mark)) (λ p. with_part p (λ q. fails span no_target))
   annotates_other k span target mark (Some e) =
       behind (both (both (target_aims c k target) (annotation c.meaning mark)) (value_for k target e)) (λ p. with_part p (λ q. fails span no_target))
 
+  -- what is no name, by the attribute that it is of the object, if it is one
+  abbrev pub annotates_at : Known → Span → Option (ExprTree × List ℕ) → ExprTree → ExprTree → Option ExprTree → Seen TypedAct
+  annotates_at k span (Some p) target mark e = annotates_own k span p.1 target mark e
+  annotates_at k span None target mark e = annotates_other k span target mark e
+
   abbrev pub annotates : Known → Span → Option (List ℕ) → ExprTree → ExprTree → Option ExprTree → Seen TypedAct
   annotates k span (Some x) target mark e = annotates_name k span x mark e
-  annotates k span None target mark e = annotates_other k span target mark e
+  annotates k span None target mark e = annotates_at k span (own_attribute c.inside target) target mark e
 
   -- a name that gets no value is bound as by None: nothing is known of it
   abbrev pub value_sort : Known → List ℕ → Option ExprTree → Option Sort
@@ -88,11 +109,21 @@ module _ (c : Context) where
 
   abbrev pub updates_one : Known → Span → ExprTree → BinOp → ExprTree → Seen TypedAct
   updates_one k span target op e =
-      rule span (updated c.classes span op (read_aim c k (name_in target) (is_item target))) (both (typed_at c k free target) (typed_at c k free e))
+      rule span (updated c.classes span op (read_aim c k (name_in target) (is_access target))) (both (typed_at c k free target) (typed_at c k free e))
 
   -- a tuple is not updated
   abbrev pub updates_row : Known → Span → ExprTree → ExprTree → Seen TypedAct
   updates_row k span target e = behind (both (target_aims c k target) (typed_at c k free e)) (λ p. with_part p (λ q. fails span no_target))
 
+  -- an attribute that nothing declares is not read: its object is
+  abbrev pub updates_lacking : Known → Span → ExprTree × List ℕ → ExprTree → Seen TypedAct
+  updates_lacking k span p e = rule span (updated_lacking c.classes p.1) (both (typed_at c k free p.0) (typed_at c k free e))
+
+  -- a single target, by the attribute that it lacks, if it does
+  abbrev pub updates_single : Known → Span → Option (ExprTree × List ℕ) → ExprTree → BinOp → ExprTree → Seen TypedAct
+  updates_single k span None target op e = updates_one k span target op e
+  updates_single k span (Some p) target op e = updates_lacking k span p e
+
   abbrev pub updates : Known → Span → ExprTree → BinOp → ExprTree → Seen TypedAct
-  updates k span target op e = if is_row target then updates_row k span target e else updates_one k span target op e
+  updates k span target op e =
+      if is_row target then updates_row k span target e else updates_single k span (lacking_in c target) target op e

@@ -9,11 +9,13 @@ ghost use Rattle.py_typed.specs.Expressions.{type_of};
 ghost use Rattle.py_typed.specs.Statements as acts;
 ghost use Rattle.py_check_context.specs.Context.{context, var_sort, var_of, wanted};
 ghost use Rattle.py_check_flow.specs.Bindings.{name_in};
-ghost use Rattle.py_check_messages.specs.Seen.{Tells, Finds, behind, judged, ruled};
+ghost use Rattle.py_check_messages.specs.Seen.{Tells, Finds, behind, judged, ruled, silent};
 ghost use Rattle.py_check_messages.specs.Messages as message;
 ghost use Rattle.py_check_annotations.specs.Annotations as marks;
 ghost use Rattle.py_check_coercions.specs.Boxes.{boxed};
+ghost use Rattle.py_check_coercions.specs.Several.{unless};
 ghost use Rattle.py_check_places.specs.Places as places;
+ghost use Rattle.py_check_targets.specs.Attributes as attributes;
 ghost use Rattle.py_check_targets.specs.Targets as rule_of;
 ghost use Rattle.py_check_assignments.specs.Assignments as rules_of;
 ghost use Rattle.py_check_places.specs.Views.{known_at};
@@ -21,14 +23,17 @@ ghost use Rattle.py_check_values.specs.Aims.{aim_seen};
 ghost use Rattle.py_check_targets.specs.Views.{boxed_aim, boxed_act};
 ghost use Rattle.py_check_assignments.specs.Views.{Shows};
 
-use crate::assignments::{Assignment, act_of, asked_for, kept, put_target};
+use crate::assignments::{Assignment, act_of, asked_for, kept, put_target, takes_value};
 use crate::parts::{has_aims, refuse, refuse_value};
 use py_check_annotations::annotation;
 use py_check_context::{Context, Meaning, VarType, Want, meaning_of};
 use py_check_flow::name_in;
 use py_check_messages::{already_defined, cannot_assign};
-use py_check_places::{Place, bind_target};
-use py_check_targets::{in_box, name_aim, typed_at, value_type};
+use py_check_places::{Place, bind_target, is_row};
+use py_check_targets::{
+    OwnAttribute, asked_type, in_box, may_declare, name_aim, own_attribute, target_aims, typed_at,
+    value_asked, value_type,
+};
 use py_check_values::{Aim, assigned};
 use py_syntax::{Expr, Span};
 use py_syntax_diagnostics::Diag;
@@ -61,11 +66,171 @@ pub fn annotate(
             Ok(kind)
         }
         None => {
-            annotates_other(alloc, scope, place, span, target, mark, e, faults)?;
+            let kind = annotates_at(alloc, scope, place, span, target, mark, e, faults)?;
             bind_target(alloc, scope, place, false, target, None)?;
+            Ok(kind)
+        }
+    }
+}
+
+// What is no name, with its annotation.
+fn annotates_at(
+    alloc: Global,
+    scope: &Context<'_>,
+    place: &Place,
+    span: Span,
+    target: &Expr,
+    mark: &Expr,
+    e: &Option<Expr>,
+    faults: &mut Many<Diag>,
+) -> Result<Option<Box<TStmtKind>>, Memory>
+    ensures { IfOk result (λ t. Tells boxed_act t faults.old faults.new (rules_of.annotates_at (context scope.now) (known_at place.now) span (attributes.own_attribute (context scope.now).inside (expr_tree target.now)) (expr_tree target.now) (expr_tree mark.now) (maybe_expr e.now))) }
+{
+    match own_attribute(scope, target) {
+        Some(OwnAttribute { object: _, name }) => {
+            let own = AnnotatedAttribute { target, name };
+            annotates_own(alloc, scope, place, span, own, mark, e, faults)
+        }
+        None => {
+            annotates_other(alloc, scope, place, span, target, mark, e, faults)?;
             Ok(None)
         }
     }
+}
+
+/// An attribute that is annotated, as it is written, and its name.
+#[derive(Clone, Copy)]
+pub(crate) struct AnnotatedAttribute<'a> {
+    pub(crate) target: &'a Expr,
+    pub(crate) name: &'a Name,
+}
+
+// An attribute of the object that an `__init__` sets up.
+fn annotates_own(
+    alloc: Global,
+    scope: &Context<'_>,
+    place: &Place,
+    span: Span,
+    own: AnnotatedAttribute<'_>,
+    mark: &Expr,
+    e: &Option<Expr>,
+    faults: &mut Many<Diag>,
+) -> Result<Option<Box<TStmtKind>>, Memory>
+    ensures { IfOk result (λ t. Tells boxed_act t faults.old faults.new (rules_of.annotates_own (context scope.now) (known_at place.now) span own.entry.name.now (expr_tree own.entry.target.now) (expr_tree mark.now) (maybe_expr e.now))) }
+{
+    match e {
+        None => declares_own(alloc, scope, place, span, own, mark, faults),
+        Some(e) => gives_own(alloc, scope, place, span, own, mark, e, faults),
+    }
+}
+
+fn declares_own(
+    alloc: Global,
+    scope: &Context<'_>,
+    place: &Place,
+    span: Span,
+    own: AnnotatedAttribute<'_>,
+    mark: &Expr,
+    faults: &mut Many<Diag>,
+) -> Result<Option<Box<TStmtKind>>, Memory>
+    ensures { IfOk result (λ t. Tells boxed_act t faults.old faults.new (rules_of.declares_own (context scope.now) (known_at place.now) span own.entry.name.now (expr_tree own.entry.target.now) (expr_tree mark.now))) }
+{
+    let placed = has_aims(alloc, scope, place, own.target, faults)?;
+    let marked = is_type(alloc, scope, mark, faults)?;
+    let complete = placed && marked;
+    declared_own(alloc, scope, span, own.name, complete, faults)
+}
+
+// The same, where all parts are typed or not.
+fn declared_own(
+    alloc: Global,
+    scope: &Context<'_>,
+    span: Span,
+    a: &Name,
+    complete: bool,
+    faults: &mut Many<Diag>,
+) -> Result<Option<Box<TStmtKind>>, Memory>
+    ensures { IfOk result (λ t. Tells boxed_act t faults.old faults.new (if complete then judged span (unless (attributes.declaring_fault (context scope.now).inside a.now span) acts.Pass) else silent)) }
+{
+    if !complete {
+        return Ok(None);
+    }
+    if !may_declare(alloc, scope, span, a, faults)? {
+        return Ok(None);
+    }
+    let kind = kept(alloc, TStmtKind::Pass)?;
+    Ok(Some(kind))
+}
+
+fn gives_own(
+    alloc: Global,
+    scope: &Context<'_>,
+    place: &Place,
+    span: Span,
+    own: AnnotatedAttribute<'_>,
+    mark: &Expr,
+    e: &Expr,
+    faults: &mut Many<Diag>,
+) -> Result<Option<Box<TStmtKind>>, Memory>
+    ensures { IfOk result (λ t. Tells boxed_act t faults.old faults.new (rules_of.gives_own (context scope.now) (known_at place.now) span own.entry.name.now (expr_tree own.entry.target.now) (expr_tree mark.now) (expr_tree e.now))) }
+{
+    let aims = target_aims(alloc, scope, place, own.target, faults)?;
+    let marked = is_type(alloc, scope, mark, faults)?;
+    let asked = asked_type(alloc, is_row(own.target), &aims)?;
+    let e = value_asked(alloc, scope, place, asked.as_deref(), e, faults)?;
+    given_own(alloc, scope, span, own, marked, aims, e, faults)
+}
+
+// The same, where the annotation is a type or not.
+fn given_own(
+    alloc: Global,
+    scope: &Context<'_>,
+    span: Span,
+    own: AnnotatedAttribute<'_>,
+    marked: bool,
+    aims: Option<Many<Aim<'_>>>,
+    e: Option<Box<TExpr>>,
+    faults: &mut Many<Diag>,
+) -> Result<Option<Box<TStmtKind>>, Memory>
+    ensures { IfOk result (λ t. Tells boxed_act t faults.old faults.new (ruled span (rule_of.taken_own (context scope.now).classes (expr_tree own.entry.target.now) (attributes.declaring_fault (context scope.now).inside own.entry.name.now span)) (if marked then option_zip (option_map (map aim_seen) aims.entry) (option_map boxed e) else None))) }
+{
+    if !marked {
+        return Ok(None);
+    }
+    let Some(aims) = aims else {
+        return Ok(None);
+    };
+    let Some(e) = e else {
+        return Ok(None);
+    };
+    takes_own(alloc, scope, span, own, aims, e, faults)
+}
+
+// The same of parts that are typed.
+fn takes_own(
+    alloc: Global,
+    scope: &Context<'_>,
+    span: Span,
+    own: AnnotatedAttribute<'_>,
+    aims: Many<Aim<'_>>,
+    e: Box<TExpr>,
+    faults: &mut Many<Diag>,
+) -> Result<Option<Box<TStmtKind>>, Memory>
+    ensures { IfOk result (λ t. Tells boxed_act t faults.old faults.new (judged span (rule_of.taken_own (context scope.now).classes (expr_tree own.entry.target.now) (attributes.declaring_fault (context scope.now).inside own.entry.name.now span) (map aim_seen aims.entry, boxed e)))) }
+{
+    if !may_declare(alloc, scope, span, own.name, faults)? {
+        return Ok(None);
+    }
+    takes_value(
+        alloc,
+        scope.classes,
+        span,
+        own.target,
+        None,
+        aims,
+        e,
+        faults,
+    )
 }
 
 // A name with its annotation, and a value if one is given.
@@ -324,6 +489,7 @@ fn may_be_annotated(
         Aim::Held(_, _) => is_first(alloc, span, x, bound, faults),
         Aim::First(_, _) => is_first(alloc, span, x, bound, faults),
         Aim::Unwritten(_) => is_first(alloc, span, x, bound, faults),
+        Aim::Lacking(_, _) => is_first(alloc, span, x, bound, faults),
         Aim::Misplaced(_) => is_first(alloc, span, x, bound, faults),
     }
 }
@@ -344,7 +510,7 @@ fn is_first(
     Ok(true)
 }
 
-// What is no name has no annotation; its value is still asked for the type that it has.
+// What is neither has no annotation; its value is still asked for the type that it has.
 fn annotates_other(
     alloc: Global,
     scope: &Context<'_>,

@@ -27,7 +27,7 @@ use py_check_places::{Place, bind_target, is_flat, is_row};
 use py_check_targets::{
     aims_behind, asked_type, put_behind, takes_several, target_aims, value_asked, value_type,
 };
-use py_check_values::{Aim, assigned};
+use py_check_values::{Aim, are_declared, assigned};
 use py_syntax::{Expr, Span};
 use py_syntax_diagnostics::Diag;
 use py_typed::{Classes, TExpr, TStmtKind, Target, Ty};
@@ -213,8 +213,8 @@ fn assigned_to(
     takes_value(alloc, classes, span, target, asked, aims, e, faults)
 }
 
-// The same of parts that are typed.
-fn takes_value(
+/// The same of parts that are typed.
+pub(crate) fn takes_value(
     alloc: Global,
     classes: &Classes,
     span: Span,
@@ -225,6 +225,25 @@ fn takes_value(
     faults: &mut Many<Diag>,
 ) -> Result<Option<Box<TStmtKind>>, Memory>
     ensures { IfOk result (λ t. Tells boxed_act t faults.old faults.new (judged span (rule_of.assigned (map class_entry classes.now.list) (expr_tree target.now) (option_map sort (option_copied asked.entry)) (map aim_seen aims.entry, boxed e)))) }
+{
+    if !are_declared(alloc, classes, span, aims.as_slice(), faults)? {
+        return Ok(None);
+    }
+    places_value(alloc, classes, span, target, asked, aims, e, faults)
+}
+
+// The same where no target is an attribute that nothing declares.
+fn places_value(
+    alloc: Global,
+    classes: &Classes,
+    span: Span,
+    target: &Expr,
+    asked: Option<&Ty>,
+    aims: Many<Aim<'_>>,
+    e: Box<TExpr>,
+    faults: &mut Many<Diag>,
+) -> Result<Option<Box<TStmtKind>>, Memory>
+    ensures { IfOk result (λ t. Tells boxed_act t faults.old faults.new (judged span (rule_of.placed (map class_entry classes.now.list) (expr_tree target.now) (option_map sort (option_copied asked.entry)) (map aim_seen aims.entry, boxed e)))) }
 {
     if !are_placed(is_flat(target), aims.as_slice()) {
         return refused(alloc, span, faults);

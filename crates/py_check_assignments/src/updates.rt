@@ -13,21 +13,23 @@ ghost use Rattle.py_check_messages.specs.Seen.{Tells, judged};
 ghost use Rattle.py_check_coercions.specs.Boxes.{boxed};
 ghost use Rattle.py_check_operators.specs.Operators as operators;
 ghost use Rattle.py_check_places.specs.Shapes as shapes;
+ghost use Rattle.py_check_targets.specs.Attributes as attributes;
 ghost use Rattle.py_check_targets.specs.Targets as targets;
 ghost use Rattle.py_check_assignments.specs.Assignments as rules_of;
 ghost use Rattle.py_check_places.specs.Views.{known_at};
 ghost use Rattle.py_check_values.specs.Aims as aims;
 ghost use Rattle.py_check_values.specs.Aims.{aim_seen};
-ghost use Rattle.py_check_targets.specs.Views.{boxed_aim, boxed_act, boxed_sort};
+ghost use Rattle.py_check_targets.specs.Views.{boxed_aim, boxed_act, boxed_sort, own_seen};
 ghost use Rattle.py_check_assignments.specs.Views.{operands_seen};
 
 use crate::assignments::{is_placed, kept, written};
 use crate::parts::{has_aims, refuse_value, refused};
 use py_check_context::{Context, Meaning, Want, meaning_of};
 use py_check_flow::name_in;
+use py_check_messages::no_attribute;
 use py_check_operators::arithmetic_type;
-use py_check_places::{Place, bind_target, is_item, is_row};
-use py_check_targets::{name_aim, typed_at, value_aim};
+use py_check_places::{Place, bind_target, is_access, is_row};
+use py_check_targets::{OwnAttribute, lacking_in, name_aim, typed_at, value_aim};
 use py_check_values::{Aim, binds};
 use py_syntax::{BinOp, Expr, Span};
 use py_syntax_diagnostics::Diag;
@@ -70,8 +72,64 @@ fn updated(
     if is_row(target) {
         update_row(alloc, scope, place, span, target, e, faults)
     } else {
-        update_one(alloc, scope, place, span, target, op, e, faults)
+        update_single(alloc, scope, place, span, target, op, e, faults)
     }
+}
+
+// A single target.
+fn update_single(
+    alloc: Global,
+    scope: &Context<'_>,
+    place: &Place,
+    span: Span,
+    target: &Expr,
+    op: BinOp,
+    e: &Expr,
+    faults: &mut Many<Diag>,
+) -> Result<Option<Box<TStmtKind>>, Memory>
+    ensures { IfOk result (λ t. Tells boxed_act t faults.old faults.new (rules_of.updates_single (context scope.now) (known_at place.now) span (attributes.lacking_in (context scope.now) (expr_tree target.now)) (expr_tree target.now) op (expr_tree e.now))) }
+{
+    match lacking_in(scope, target) {
+        Some(own) => update_lacking(alloc, scope, place, span, own, e, faults),
+        None => update_one(alloc, scope, place, span, target, op, e, faults),
+    }
+}
+
+// An attribute that nothing declares is not updated.
+fn update_lacking(
+    alloc: Global,
+    scope: &Context<'_>,
+    place: &Place,
+    span: Span,
+    own: OwnAttribute<'_>,
+    e: &Expr,
+    faults: &mut Many<Diag>,
+) -> Result<Option<Box<TStmtKind>>, Memory>
+    ensures { IfOk result (λ t. Tells boxed_act t faults.old faults.new (rules_of.updates_lacking (context scope.now) (known_at place.now) span (own_seen own.entry) (expr_tree e.now))) }
+{
+    let object = typed_at(alloc, scope, place, Want::Free, own.object, faults)?;
+    let e = typed_at(alloc, scope, place, Want::Free, e, faults)?;
+    let Some(operands) = typed_operands(object, e) else {
+        return Ok(None);
+    };
+    updated_lacking(alloc, scope.classes, span, own.name, operands, faults)
+}
+
+// The same where the object and the operand are typed.
+fn updated_lacking(
+    alloc: Global,
+    classes: &Classes,
+    span: Span,
+    a: &Name,
+    operands: Operands,
+    faults: &mut Many<Diag>,
+) -> Result<Option<Box<TStmtKind>>, Memory>
+    ensures { IfOk result (λ t. Tells boxed_act t faults.old faults.new (judged span (targets.updated_lacking (map class_entry classes.now.list) a.now (operands_seen operands)))) }
+{
+    let Operands { read, e } = operands;
+    drop(e);
+    no_attribute(alloc, classes, span, &read.ty, a.as_str(), faults)?;
+    Ok(None)
 }
 
 // A tuple or a list is not updated.
@@ -91,7 +149,7 @@ fn update_row(
     Ok(None)
 }
 
-// A single target.
+// One that is read.
 fn update_one(
     alloc: Global,
     scope: &Context<'_>,
@@ -138,7 +196,7 @@ fn operation(
     operands: Operands,
     faults: &mut Many<Diag>,
 ) -> Result<Option<Box<TStmtKind>>, Memory>
-    ensures { IfOk result (λ t. Tells boxed_act t faults.old faults.new (judged span (targets.updated (context scope.now).classes span op (targets.read_aim (context scope.now) (known_at place.now) (bindings.name_in (expr_tree target.now)) (shapes.is_item (expr_tree target.now))) (operands_seen operands)))) }
+    ensures { IfOk result (λ t. Tells boxed_act t faults.old faults.new (judged span (targets.updated (context scope.now).classes span op (targets.read_aim (context scope.now) (known_at place.now) (bindings.name_in (expr_tree target.now)) (shapes.is_access (expr_tree target.now))) (operands_seen operands)))) }
 {
     let Operands { read, e } = operands;
     let classes = scope.classes;
@@ -175,11 +233,11 @@ fn read_aim<'a>(
     target: &'a Expr,
     read: Box<TExpr>,
 ) -> Result<Box<Aim<'a>>, Memory>
-    ensures { IfOk result (λ a. boxed_aim a ≡ targets.read_aim (context scope.now) (known_at place.now) (bindings.name_in (expr_tree target.now)) (shapes.is_item (expr_tree target.now)) (boxed read)) }
+    ensures { IfOk result (λ a. boxed_aim a ≡ targets.read_aim (context scope.now) (known_at place.now) (bindings.name_in (expr_tree target.now)) (shapes.is_access (expr_tree target.now)) (boxed read)) }
 {
     match name_in(target) {
         Some(x) => read_name(alloc, place, x, meaning_of(scope, x), read),
-        None => in_box(alloc, value_aim(is_item(target), read)),
+        None => in_box(alloc, value_aim(is_access(target), read)),
     }
 }
 

@@ -1,5 +1,5 @@
 -- Arguments and values, one by one from the front.
-use Rattle.std.proofs.Common.{◌≡◌, ℕ, suc, ◌||◌, List, [], ◌∷◌, ◌++◌, length, map, Option, Some, None, refl, ap, sym, ◌∙◌, arith, length-append, eq-eqb, Err, if◌then◌else◌}
+use Rattle.std.proofs.Common.{◌≡◌, ℕ, suc, false, ◌==◌, ◌||◌, List, [], ◌∷◌, ◌++◌, length, map, Option, Some, None, refl, ap, sym, ◌∙◌, arith, length-append, eq-eqb, ne_eqb, Err, if◌then◌else◌}
 use Rattle.std.specs.Prelude.{is_some}
 use Rattle.std.specs.Option.{option_map}
 use Rattle.std.specs.Fmt.{decimal}
@@ -7,22 +7,23 @@ use Rattle.std.specs.declared.boxed.Box.{Box}
 use Rattle.std.specs.declared.alloc.Global.{Global}
 use Rattle.value_core.specs.declared.exception.ExcClass.{ExcClass}
 use Rattle.py_syntax.specs.declared.token.Span.{Span}
-use Rattle.py_syntax.specs.Expressions.{ExprTree, Arguments, with_key}
+use Rattle.py_syntax.specs.Expressions.{ExprTree, Arguments, with_key, arg_tree, arguments_of}
+use Rattle.py_syntax.specs.declared.expression.Arg.{Arg}
 use Rattle.py_typed.specs.declared.expression.TExpr.{TExpr}
 use Rattle.py_typed.specs.declared.expression.TKind as kind
-use Rattle.py_typed.specs.declared.classes.Sig.{Sig}
+use Rattle.py_typed.specs.declared.types.Ty.{Ty}
 use Rattle.py_typed.specs.Sorts.{sort, Exc}
-use Rattle.py_typed.specs.Classes.{ClassEntry, signature}
+use Rattle.py_typed.specs.Classes.{ClassEntry}
 use Rattle.py_check_context.specs.Context.{Wanted, along}
 use Rattle.py_check_messages.specs.Messages.{wrong_number}
 use Rattle.py_check_coercions.specs.Rows.{unfit}
 use Rattle.py_check_coercions.specs.Boxes.{boxed}
 use Rattle.py_typed.specs.Expressions.{typed, typed_expr, typed_node}
 use Rattle.py_typed.proofs.ExpressionLemmas.{typed_node-MakeExc}
-use Rattle.py_check_calls.specs.Callees.{has_key}
+use Rattle.py_check_calls.specs.Callees.{has_key, is_none}
 use Rattle.py_check_calls.specs.Builtins.{the_only}
 use Rattle.py_check_calls.specs.Exceptions.{exception_made, exception_given, exception_call}
-use Rattle.py_check_calls.specs.Calls.{function_given, function_call}
+use Rattle.py_check_calls.specs.Calls.{takes, fitting, taken}
 
 -- ---- a list of one
 
@@ -52,10 +53,20 @@ count_map : {A B : Type 0} (f : A → B) (xs : List A) → length (map f xs) ≡
 count_map f [] = refl
 count_map f (x ∷ xs) = ap suc (count_map f xs)
 
-pub numbers_agree : (classes : List ClassEntry) (w : Wanted) (span : Span) (f : List ℕ) (i : ℕ) (s : Sig) (es : List TExpr) → length es ≡ length s.params → function_call classes w span f i (signature s) (map typed_expr es) ≡ function_given classes w span f i (signature s) (map typed_expr es) (unfit classes (along (signature s).params) 0 (map typed_expr es))
-numbers_agree classes w span f i s es e =
-    ap (λ b. if b then function_given classes w span f i (signature s) (map typed_expr es) (unfit classes (along (signature s).params) 0 (map typed_expr es)) else Err (wrong_number f (decimal (length (signature s).params))))
-    (eq-eqb (length (map typed_expr es)) (length (map sort s.params)) (count_map typed_expr es ∙ e ∙ sym (count_map sort s.params)))
+pub numbers_agree : (classes : List ClassEntry) (w : Wanted) (f : List ℕ) (params : List Ty) (ret : Ty) (es : List TExpr) → length es ≡ length params → taken classes w f (takes (map sort params) (sort ret)) (map typed_expr es) ≡ fitting classes w f (takes (map sort params) (sort ret)) (map typed_expr es) (unfit classes (along (map sort params)) 0 (map typed_expr es))
+numbers_agree classes w f params ret es e =
+    ap (λ b. if b then fitting classes w f (takes (map sort params) (sort ret)) (map typed_expr es) (unfit classes (along (map sort params)) 0 (map typed_expr es)) else Err (wrong_number f (decimal (length (map sort params)))))
+    (eq-eqb (length (map typed_expr es)) (length (map sort params)) (count_map typed_expr es ∙ e ∙ sym (count_map sort params)))
+
+-- ---- no arguments
+
+with_some : (key : Option ExprTree) (e : ExprTree) (more : Arguments) → false ≡ is_none (with_key key e more)
+with_some None e more = refl
+with_some (Some k) e more = refl
+
+pub none_there : (args : List Arg) → (length args == 0) ≡ is_none (arguments_of (map arg_tree args))
+none_there [] = refl
+none_there (a ∷ args) = ne_eqb (suc (length args)) 0 (λ e. cc) ∙ with_some (arg_tree a).key (arg_tree a).value (arguments_of (map arg_tree args))
 
 -- ---- exceptions
 

@@ -4,7 +4,7 @@ ghost use Rattle.std.specs.Option.{option_copied, option_map};
 ghost use Rattle.py_syntax.specs.Expressions.{arg_tree, arguments_of};
 ghost use Rattle.py_typed.specs.Sorts.{sort};
 ghost use Rattle.py_typed.specs.Expressions.{typed_expr};
-ghost use Rattle.py_check_context.specs.Context.{row};
+ghost use Rattle.py_check_context.specs.Context.{context, row};
 ghost use Rattle.py_check_messages.specs.Seen.{Tells};
 ghost use Rattle.py_check_coercions.specs.Boxes.{boxed};
 ghost use Rattle.py_check_calls.specs.Callees as callees;
@@ -13,7 +13,7 @@ ghost use Rattle.py_check_calls.specs.Calls as rule_of;
 
 use crate::callees::Callee;
 use crate::methods::method_row;
-use py_check_context::Row;
+use py_check_context::{Context, Row};
 use py_check_messages::keyword_argument;
 use py_syntax::{Arg, Span};
 use py_syntax_diagnostics::Diag;
@@ -34,16 +34,30 @@ pub fn has_key(args: &[Arg]) -> bool
 }
 
 /// What the arguments of a call are there for, by what is called and the typed part of it.
-pub fn arguments_row<'a>(callee: Callee<'a>, part: &'a Option<Box<TExpr>>) -> Row<'a>
-    ensures { row result ≡ rule_of.arguments_row (callee_seen callee.entry) (option_map boxed part.now) }
+pub fn arguments_row<'a>(
+    scope: &'a Context<'_>,
+    callee: Callee<'a>,
+    part: &'a Option<Box<TExpr>>,
+) -> Row<'a>
+    ensures { row result ≡ rule_of.arguments_row (context scope.now) (callee_seen callee.entry) (option_map boxed part.now) }
 {
     match callee {
         Callee::Function(_, _, sig) => Row::Along(sig.params.as_slice()),
+        Callee::Class(_, _, params) => Row::Along(params),
+        Callee::Trait(_, params) => Row::Along(params),
+        Callee::SuperInit(_, params) => Row::Along(params),
         Callee::Method(m) => match part {
-            Some(e) => method_row(m, &e.ty),
+            Some(e) => method_row(scope, m, &e.ty),
             None => Row::Along(&[]),
         },
-        _ => Row::Along(&[]),
+        Callee::Print
+        | Callee::Input
+        | Callee::Range
+        | Callee::Single(_)
+        | Callee::Exception(_)
+        | Callee::Voiceless
+        | Callee::Uncalled
+        | Callee::Value => Row::Along(&[]),
     }
 }
 

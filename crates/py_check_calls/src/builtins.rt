@@ -2,10 +2,9 @@
 ghost use Rattle.std.specs.Prelude.{◌≡◌, map, IfOk, Some};
 ghost use Rattle.std.specs.Option.{option_map};
 ghost use Rattle.py_typed.specs.Sorts.{sort};
-ghost use Rattle.py_typed.specs.Classes.{class_entry};
 ghost use Rattle.py_typed.specs.Expressions.{typed_expr};
 ghost use Rattle.py_typed.specs.WellTypedExpr as typing;
-ghost use Rattle.py_check_context.specs.Context.{wanted};
+ghost use Rattle.py_check_context.specs.Context.{context, wanted};
 ghost use Rattle.py_check_messages.specs.Seen.{Tells, judged, ruled};
 ghost use Rattle.py_check_coercions.specs.Boxes.{boxed};
 ghost use Rattle.py_check_calls.specs.Builtins as rule_of;
@@ -35,7 +34,7 @@ pub(crate) fn print_call(
     es: Option<Many<TExpr>>,
     faults: &mut Many<Diag>,
 ) -> Result<Option<Box<TExpr>>, Memory>
-    ensures { IfOk result (λ t. Tells boxed t faults.old faults.new (ruled site.entry.span (rule_of.print_call (map class_entry site.entry.classes.now.list) (wanted site.entry.want) site.entry.span) (option_map (map typed_expr) es))) }
+    ensures { IfOk result (λ t. Tells boxed t faults.old faults.new (ruled site.entry.span (rule_of.print_call (context site.entry.scope.now).classes (wanted site.entry.want) site.entry.span) (option_map (map typed_expr) es))) }
 {
     let Some(es) = es else {
         return Ok(None);
@@ -43,7 +42,7 @@ pub(crate) fn print_call(
     if let Some((i, s)) = unprintable(es.as_slice()) {
         wrong_argument(
             alloc,
-            site.classes,
+            site.scope.classes,
             site.span,
             i,
             "print",
@@ -119,7 +118,7 @@ pub(crate) fn single_call(
     es: Option<Many<TExpr>>,
     faults: &mut Many<Diag>,
 ) -> Result<Option<Box<TExpr>>, Memory>
-    ensures { IfOk result (λ t. Tells boxed t faults.old faults.new (ruled site.entry.span (rule_of.single_call (map class_entry site.entry.classes.now.list) f site.entry.span) (option_map (map typed_expr) es))) }
+    ensures { IfOk result (λ t. Tells boxed t faults.old faults.new (ruled site.entry.span (rule_of.single_call (context site.entry.scope.now).classes f site.entry.span) (option_map (map typed_expr) es))) }
 {
     let Some(es) = es else {
         return Ok(None);
@@ -139,12 +138,12 @@ fn single_given(
     e: Box<TExpr>,
     faults: &mut Many<Diag>,
 ) -> Result<Option<Box<TExpr>>, Memory>
-    ensures { IfOk result (λ t. Tells boxed t faults.old faults.new (judged site.entry.span (rule_of.single_given (map class_entry site.entry.classes.now.list) f site.entry.span (Some (boxed e))))) }
+    ensures { IfOk result (λ t. Tells boxed t faults.old faults.new (judged site.entry.span (rule_of.single_given (context site.entry.scope.now).classes f site.entry.span (Some (boxed e))))) }
 {
     if !single_takes(f, &e.ty) {
         wrong_argument(
             alloc,
-            site.classes,
+            site.scope.classes,
             site.span,
             1,
             single_name(f),

@@ -2,7 +2,7 @@
 ghost use Rattle.std.specs.Prelude.{◌≡◌, map, IfOk, Some};
 ghost use Rattle.std.specs.Option.{option_map};
 ghost use Rattle.py_typed.specs.Sorts.{sort};
-ghost use Rattle.py_typed.specs.Classes.{class_entry};
+ghost use Rattle.py_check_context.specs.Context.{context};
 ghost use Rattle.py_typed.specs.Expressions.{typed_expr};
 ghost use Rattle.py_check_messages.specs.Seen.{Tells, judged, ruled};
 ghost use Rattle.py_check_coercions.specs.Boxes.{boxed};
@@ -27,7 +27,7 @@ pub(crate) fn exception_call(
     es: Option<Many<TExpr>>,
     faults: &mut Many<Diag>,
 ) -> Result<Option<Box<TExpr>>, Memory>
-    ensures { IfOk result (λ t. Tells boxed t faults.old faults.new (ruled site.entry.span (rule_of.exception_call (map class_entry site.entry.classes.now.list) site.entry.span class) (option_map (map typed_expr) es))) }
+    ensures { IfOk result (λ t. Tells boxed t faults.old faults.new (ruled site.entry.span (rule_of.exception_call (context site.entry.scope.now).classes site.entry.span class) (option_map (map typed_expr) es))) }
 {
     let Some(es) = es else {
         return Ok(None);
@@ -51,12 +51,12 @@ fn exception_given(
     e: Box<TExpr>,
     faults: &mut Many<Diag>,
 ) -> Result<Option<Box<TExpr>>, Memory>
-    ensures { IfOk result (λ t. Tells boxed t faults.old faults.new (judged site.entry.span (rule_of.exception_given (map class_entry site.entry.classes.now.list) site.entry.span class (Some (boxed e))))) }
+    ensures { IfOk result (λ t. Tells boxed t faults.old faults.new (judged site.entry.span (rule_of.exception_given (context site.entry.scope.now).classes site.entry.span class (Some (boxed e))))) }
 {
     if !is_text(&e.ty) {
         wrong_argument(
             alloc,
-            site.classes,
+            site.scope.classes,
             site.span,
             1,
             class.name(),

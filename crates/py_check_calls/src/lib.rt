@@ -11,9 +11,10 @@ mod calls;
 mod exceptions;
 mod methods;
 mod sites;
+mod taking;
 
 pub use arguments::{arguments_row, has_key, positional};
-pub use callees::{Callee, Single, callee_of, is_named};
+pub use callees::{Callee, Single, callee_of, is_named, is_super_init};
 pub use calls::called;
 pub use exceptions::exception_made;
 pub use methods::attribute;

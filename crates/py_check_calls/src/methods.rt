@@ -1,153 +1,189 @@
-//! Calls of methods.
+//! What a value has under a name, and calls of the methods of lists.
 ghost use Rattle.std.specs.Prelude.{◌≡◌, map, IfOk};
 ghost use Rattle.std.specs.Option.{option_copied, option_map};
 ghost use Rattle.py_typed.specs.Sorts.{sort};
-ghost use Rattle.py_typed.specs.Classes.{class_entry};
 ghost use Rattle.py_typed.specs.Expressions.{typed_expr};
-ghost use Rattle.py_check_context.specs.Context.{wanted, row};
-ghost use Rattle.py_check_messages.specs.Seen.{Tells, judged, ruled};
+ghost use Rattle.py_check_context.specs.Members as members;
+ghost use Rattle.py_check_context.specs.Context.{context, wanted, row};
+ghost use Rattle.py_check_messages.specs.Seen.{Tells, ruled};
 ghost use Rattle.py_check_coercions.specs.Boxes.{boxed};
+ghost use Rattle.py_check_calls.specs.CalleesSeen.{had_seen};
 ghost use Rattle.py_check_calls.specs.Methods as rule_of;
 
 use crate::builtins::{gives_value, the_only};
 use crate::sites::CallSite;
 use py_check_coercions::{coerced, kept};
-use py_check_context::Row;
+use py_check_context::{ClassMembers, Context, Member, Row, member_in, signature_at};
 use py_check_messages::{
-    gives_nothing, no_attribute, not_a_value, not_callable, wrong_argument_type, wrong_number,
+    gives_nothing, no_attribute, none_has_no_attribute, not_a_value, wrong_argument_type,
+    wrong_number,
 };
 use py_syntax::Span;
 use py_syntax_diagnostics::Diag;
-use py_typed::{Classes, TExpr, TKind, Ty, copy_of, fits};
+use py_typed::{TExpr, TKind, Ty, copy_of, fits};
 use std::alloc::Global;
 use value_core::{Many, Memory, Name};
 
-/// What the arguments of a method are there for, by the type of the value.
-pub(crate) fn method_row<'a>(m: &Name, t: &'a Ty) -> Row<'a>
-    ensures { row result ≡ rule_of.method_row m.now (rule_of.item_of (sort t.now)) }
+/// What a value has under a name.
+#[derive(Clone, Copy)]
+pub(crate) enum Had<'a> {
+    /// An attribute of this type.
+    Attribute(&'a Ty),
+    /// A method, by the number of its function.
+    Method(usize),
+    /// `append` of a list with items of this type.
+    Append(&'a Ty),
+    /// `pop` of such a list.
+    Pop(&'a Ty),
+    /// An attribute without a type.
+    Untyped,
+    /// Nothing as it may be None; where it is not, it has this.
+    NoneHasNot,
+    HasNot,
+}
+
+/// What a value of this type has under a name, whether it is read or called.
+pub(crate) fn look_up<'a>(classes: &'a [ClassMembers], t: &'a Ty, a: &Name) -> Had<'a>
+    ensures { had_seen result ≡ rule_of.look_up (members.member_in classes.now) (sort t.now) a.now }
 {
     match t {
-        Ty::List(t) => {
-            if m.as_str() == "append" {
-                Row::First(t)
-            } else {
-                Row::Along(&[])
-            }
-        }
-        _ => Row::Along(&[]),
+        Ty::Class(n) => instance_has(member_in(classes, *n, a)),
+        Ty::Optional(t) => some_has(classes, t, a),
+        Ty::List(t) => list_has(t, a),
+        _ => Had::HasNot,
     }
 }
 
-/// `e.m(..)`.
-pub(crate) fn method_call(
-    alloc: Global,
-    site: CallSite<'_>,
-    m: &Name,
-    e: Box<TExpr>,
-    es: Option<Many<TExpr>>,
-    faults: &mut Many<Diag>,
-) -> Result<Option<Box<TExpr>>, Memory>
-    ensures { IfOk result (λ t. Tells boxed t faults.old faults.new (ruled site.entry.span (rule_of.method_call (map class_entry site.entry.classes.now.list) (wanted site.entry.want) site.entry.span m.now (boxed e)) (option_map (map typed_expr) es))) }
+fn instance_has<'a>(member: Option<&'a Member>) -> Had<'a>
+    ensures { had_seen result ≡ rule_of.instance_has (option_map members.member (option_copied member.entry)) }
 {
-    let Some(es) = es else {
-        return Ok(None);
-    };
-    if m.as_str() == "__init__" {
-        not_callable(alloc, site.span, faults)?;
-        return Ok(None);
+    match member {
+        None => Had::HasNot,
+        Some(Member::Attribute(t)) => Had::Attribute(t),
+        Some(Member::Untyped) | Some(Member::Unknown(_)) => Had::Untyped,
+        Some(Member::Method(f)) => Had::Method(*f),
     }
-    let Some(t) = item_of(alloc, &e.ty)? else {
-        no_attribute(alloc, site.classes, site.span, &e.ty, m.as_str(), faults)?;
-        return Ok(None);
-    };
-    list_call(alloc, site, m, e, t, es, faults)
+}
+
+// A value of this type or None.
+fn some_has<'a>(classes: &'a [ClassMembers], t: &Ty, a: &Name) -> Had<'a>
+    ensures { had_seen result ≡ rule_of.some_has (members.member_in classes.now) (sort t.now) a.now }
+{
+    match t {
+        Ty::Class(n) => optional_has(member_in(classes, *n, a)),
+        _ => Had::HasNot,
+    }
+}
+
+fn optional_has<'a>(member: Option<&'a Member>) -> Had<'a>
+    ensures { had_seen result ≡ rule_of.optional_has (option_map members.member (option_copied member.entry)) }
+{
+    match member {
+        None => Had::HasNot,
+        Some(Member::Attribute(_)) | Some(Member::Untyped) | Some(Member::Method(_)) => {
+            Had::NoneHasNot
+        }
+        Some(Member::Unknown(_)) => Had::Untyped,
+    }
+}
+
+fn list_has<'a>(t: &'a Ty, a: &Name) -> Had<'a>
+    ensures { had_seen result ≡ rule_of.list_has (sort t.now) a.now }
+{
+    if a.as_str() == "append" {
+        Had::Append(t)
+    } else if a.as_str() == "pop" {
+        Had::Pop(t)
+    } else {
+        Had::HasNot
+    }
 }
 
 /// `e.a` that is not called (Python Language Reference, "Attribute references").
 pub fn attribute(
     alloc: Global,
-    classes: &Classes,
+    scope: &Context<'_>,
     span: Span,
     a: &Name,
     e: Option<Box<TExpr>>,
     faults: &mut Many<Diag>,
 ) -> Result<Option<Box<TExpr>>, Memory>
-    ensures { IfOk result (λ t. Tells boxed t faults.old faults.new (ruled span (rule_of.attribute (map class_entry classes.now.list) a.now) (option_map boxed e))) }
+    ensures { IfOk result (λ t. Tells boxed t faults.old faults.new (rule_of.attribute (context scope.now) span a.now (option_map boxed e))) }
 {
     let Some(e) = e else {
         return Ok(None);
     };
-    if is_list_method(&e.ty, a) {
-        not_a_value(alloc, span, a.as_str(), faults)?;
-        return Ok(None);
-    }
-    no_attribute(alloc, classes, span, &e.ty, a.as_str(), faults)?;
-    Ok(None)
-}
-
-fn is_list_method(t: &Ty, m: &Name) -> bool
-    ensures { result ≡ rule_of.is_list_method (sort t.now) m.now }
-{
-    match t {
-        Ty::List(_) => m.as_str() == "append" || m.as_str() == "pop",
-        _ => false,
-    }
-}
-
-// The item type of a list.
-fn item_of(alloc: Global, t: &Ty) -> Result<Option<Ty>, Memory>
-    ensures { IfOk result (λ r. option_map sort r ≡ rule_of.item_of (sort t.now)) }
-{
-    match t {
-        Ty::List(t) => {
+    match look_up(scope.members, &e.ty, a) {
+        Had::Attribute(t) => {
             let t = copy_of(alloc, t)?;
-            Ok(Some(t))
+            let a = a.clone()?;
+            let e = kept(alloc, TKind::Attr(e, a), t, span)?;
+            Ok(Some(e))
         }
-        _ => Ok(None),
+        Had::Method(_) | Had::Append(_) | Had::Pop(_) => {
+            not_a_value(alloc, span, a.as_str(), faults)?;
+            Ok(None)
+        }
+        Had::Untyped => Ok(None),
+        Had::NoneHasNot => {
+            none_has_no_attribute(alloc, scope.classes, span, &e.ty, a.as_str(), faults)?;
+            Ok(None)
+        }
+        Had::HasNot => {
+            no_attribute(alloc, scope.classes, span, &e.ty, a.as_str(), faults)?;
+            Ok(None)
+        }
     }
 }
 
-// A method of a list with items of a type.
-fn list_call(
-    alloc: Global,
-    site: CallSite<'_>,
-    m: &Name,
-    e: Box<TExpr>,
-    t: Ty,
-    es: Many<TExpr>,
-    faults: &mut Many<Diag>,
-) -> Result<Option<Box<TExpr>>, Memory>
-    ensures { IfOk result (λ r. Tells boxed r faults.old faults.new (judged site.entry.span (rule_of.list_call (map class_entry site.entry.classes.now.list) (wanted site.entry.want) site.entry.span m.now (boxed e) (sort t) (map typed_expr es)))) }
+/// What the arguments of a method are there for, by the type of the value.
+pub(crate) fn method_row<'a>(scope: &'a Context<'_>, m: &Name, t: &'a Ty) -> Row<'a>
+    ensures { row result ≡ rule_of.method_row (context scope.now) m.now (sort t.now) }
 {
-    if m.as_str() == "append" {
-        return append_call(alloc, site, e, t, es, faults);
+    if m.as_str() == "__init__" {
+        Row::Along(&[])
+    } else {
+        had_row(scope, look_up(scope.members, t, m))
     }
-    if m.as_str() == "pop" {
-        return pop_call(alloc, site.span, e, t, es, faults);
-    }
-    no_attribute(alloc, site.classes, site.span, &e.ty, m.as_str(), faults)?;
-    Ok(None)
 }
 
-// `e.append(x)`.
-fn append_call(
+fn had_row<'a>(scope: &'a Context<'_>, had: Had<'a>) -> Row<'a>
+    ensures { row result ≡ rule_of.had_row (context scope.now) (had_seen had.entry) }
+{
+    match had {
+        Had::Method(f) => match signature_at(scope, f) {
+            Some(sig) => Row::Along(sig.params.as_slice()),
+            None => Row::Along(&[]),
+        },
+        Had::Append(t) => Row::First(t),
+        Had::Attribute(_) | Had::Pop(_) | Had::Untyped | Had::NoneHasNot | Had::HasNot => {
+            Row::Along(&[])
+        }
+    }
+}
+
+/// `e.append(x)`.
+pub(crate) fn append_call(
     alloc: Global,
     site: CallSite<'_>,
     e: Box<TExpr>,
     t: Ty,
-    es: Many<TExpr>,
+    es: Option<Many<TExpr>>,
     faults: &mut Many<Diag>,
 ) -> Result<Option<Box<TExpr>>, Memory>
-    ensures { IfOk result (λ r. Tells boxed r faults.old faults.new (judged site.entry.span (rule_of.append_call (map class_entry site.entry.classes.now.list) (wanted site.entry.want) site.entry.span (boxed e) (sort t) (map typed_expr es)))) }
+    ensures { IfOk result (λ r. Tells boxed r faults.old faults.new (ruled site.entry.span (rule_of.append_call (context site.entry.scope.now).classes (wanted site.entry.want) site.entry.span (boxed e) (sort t)) (option_map (map typed_expr) es))) }
 {
+    let Some(es) = es else {
+        return Ok(None);
+    };
     let Some(x) = the_only(alloc, es)? else {
         wrong_number(alloc, site.span, "append", "1", faults)?;
         return Ok(None);
     };
-    if !fits(&x.ty, &t, site.classes) {
+    if !fits(&x.ty, &t, site.scope.classes) {
         wrong_argument_type(
             alloc,
-            site.classes,
+            site.scope.classes,
             site.span,
             1,
             "append",
@@ -166,17 +202,20 @@ fn append_call(
     Ok(Some(e))
 }
 
-// `e.pop()`.
-fn pop_call(
+/// `e.pop()`.
+pub(crate) fn pop_call(
     alloc: Global,
     span: Span,
     e: Box<TExpr>,
     t: Ty,
-    es: Many<TExpr>,
+    es: Option<Many<TExpr>>,
     faults: &mut Many<Diag>,
 ) -> Result<Option<Box<TExpr>>, Memory>
-    ensures { IfOk result (λ r. Tells boxed r faults.old faults.new (judged span (rule_of.pop_call span (boxed e) (sort t) (map typed_expr es)))) }
+    ensures { IfOk result (λ r. Tells boxed r faults.old faults.new (ruled span (rule_of.pop_call span (boxed e) (sort t)) (option_map (map typed_expr) es))) }
 {
+    let Some(es) = es else {
+        return Ok(None);
+    };
     if !es.is_empty() {
         wrong_number(alloc, span, "pop", "0", faults)?;
         return Ok(None);

@@ -22,22 +22,35 @@ use std::alloc::Global;
 use value_core::{Many, Memory, Name};
 
 /// What definitions and imports say first of each name of a module, with the number of each class, and the headers of all classes
-/// by these numbers.
+/// by these numbers, with what is kept of their orders.
 #[derive(Drop)]
 pub struct ModuleClasses {
     pub said: IndexMap<Name, Meaning>,
     pub headers: Many<Header>,
+    pub orders: Many<Many<usize>>,
 }
 
 /// The classes of a module of these definitions, which stand in the order of the text.
 pub fn module_classes(alloc: Global, definitions: &[&Stmt]) -> Result<ModuleClasses, Memory>
     ensures said { IfOk result (λ classes. (name : List ℕ) → get bytes_eq classes.said name ≡ said_of_names (trees definitions.now) name) }
     ensures headers { IfOk result (λ classes. classes.headers ≡ spec.headers (trees definitions.now)) }
+    ensures kept { IfOk result (λ classes. kept.AreKept (map spec.entry classes.headers) classes.orders) }
 {
     let mut outline = outline_of(alloc, definitions)?;
     let said = numbered_names(alloc, &mut outline.said)?;
-    let headers = headers_of(alloc, &said, definitions)?;
-    Ok(ModuleClasses { said, headers })
+    let found = headers_of(alloc, &said, definitions)?;
+    Ok(ModuleClasses {
+        said,
+        headers: found.headers,
+        orders: found.orders,
+    })
+}
+
+/// The headers of classes, and what is kept of their orders.
+#[derive(Drop)]
+struct Headers {
+    headers: Many<Header>,
+    orders: Many<Many<usize>>,
 }
 
 /// The headers of these definitions' classes, where definitions and imports say this of names, with the number of each class.
@@ -45,15 +58,16 @@ fn headers_of(
     alloc: Global,
     said: &IndexMap<Name, Meaning>,
     definitions: &[&Stmt],
-) -> Result<Many<Header>, Memory>
-    ensures { IfOk result (λ headers. headers ≡ spec.headers_behind (get bytes_eq said.now) [] (classes_in (trees definitions.now))) }
+) -> Result<Headers, Memory>
+    ensures headers { IfOk result (λ found. found.headers ≡ spec.headers_behind (get bytes_eq said.now) [] (classes_in (trees definitions.now))) }
+    ensures kept { IfOk result (λ found. kept.AreKept (map spec.entry found.headers) found.orders) }
 {
     let mut headers = Many::new(alloc);
     let mut orders = Many::new(alloc);
     for s in definitions {
         add_definition(alloc, said, *s, &mut headers, &mut orders)?;
     }
-    Ok(headers)
+    Ok(Headers { headers, orders })
 }
 
 /// Adds the header of a definition that is a class, and what is kept of its order.

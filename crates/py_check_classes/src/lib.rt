@@ -18,4 +18,6 @@ mod say;
 pub use header::{Header, HeaderFault, Shape};
 pub use headers::{ModuleClasses, module_classes};
 pub use laws::{headers_are_sound, orders_hang_on_bases};
-pub use say::{add_header_said, typed_meaning};
+pub use names::with_number;
+pub use orders::order_row;
+pub use say::{add_header_said, has_type, typed_meaning};

@@ -58,7 +58,8 @@ fn class_counts(said: &[(Name, Meaning)]) -> usize
     count
 }
 
-fn with_number(next: usize, meaning: Meaning) -> Meaning
+/// What is said of a name, with this number where it is a class.
+pub fn with_number(next: usize, meaning: Meaning) -> Meaning
     ensures { result ≡ spec.with_number next meaning }
 {
     match meaning {

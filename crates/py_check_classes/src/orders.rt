@@ -46,7 +46,7 @@ fn orders_of(
 {
     let mut rows = Vec::new(alloc);
     for base in bases {
-        let row = row_of(alloc, headers, orders, *base)?;
+        let row = order_row(alloc, headers, orders, *base)?;
         rows.push(row)?;
     }
     Ok(rows)
@@ -69,7 +69,11 @@ fn with_bases<'a>(
 }
 
 /// The order of a class: along those that have one base, and then what is kept of the last.
-fn row_of(
+///
+/// # Errors
+///
+/// `Memory` alone.
+pub fn order_row(
     alloc: Global,
     headers: &[Header],
     orders: &Many<Many<usize>>,

@@ -63,7 +63,8 @@ pub fn typed_meaning(headers: &[Header], meaning: Meaning) -> Meaning
     }
 }
 
-fn has_type(header: Option<&Header>) -> bool
+/// Whether a class of this header has a type.
+pub fn has_type(header: Option<&Header>) -> bool
     ensures { result ≡ spec.has_type (option_copied header.entry) }
 {
     match header {

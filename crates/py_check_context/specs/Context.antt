@@ -1,5 +1,6 @@
--- What a rule may look at: what names mean, the signatures of functions, the classes, and the types of variables so far; and
--- what a place asks of the expression that stands there (Python Language Reference, "Naming and binding"; PEP 484).
+-- What a rule may look at: what names mean, the signatures of functions, the classes and their members, the method that a place
+-- stands in, and the types of variables so far; and what a place asks of the expression that stands there (Python Language Reference,
+-- "Naming and binding"; PEP 484).
 use Rattle.std.specs.Prelude.{ℕ, List, [], ◌∷◌, map, Option, Some, None, slice_get, unwrap_or}
 use Rattle.std.specs.Option.{option_map}
 use Rattle.std.specs.Str.{bytes_eq}
@@ -9,6 +10,7 @@ use Rattle.py_typed.specs.Classes.{ClassEntry, class_entry, Signature, signature
 use Rattle.py_check_context.specs.declared.scope.Meaning.{Meaning}
 use Rattle.py_check_context.specs.declared.scope.Meaning.TheVariants.{Unknown}
 use Rattle.py_check_context.specs.declared.scope.Context as declared
+use Rattle.py_check_context.specs.Members.{Member, Inside, member_in, init_in, inside}
 use Rattle.py_check_context.specs.declared.variables.VarType.{VarType}
 use Rattle.py_check_context.specs.declared.variables.VarType.TheVariants.{Unset, Untyped, Has}
 use Rattle.py_check_context.specs.declared.variables.Variables.{Variables}
@@ -24,12 +26,21 @@ pub record Context : Type 0 where
   -- by the numbers of functions: some have none
   pub signatures : List (Option Signature)
   pub classes : List ClassEntry
+  -- what the class of a number has under a name: its own, or else the first above it
+  pub member : ℕ → List ℕ → Option Member
+  -- and the function of its `__init__`
+  pub init : ℕ → Option ℕ
+  -- the method that the place stands in, if it stands in one
+  pub inside : Option Inside
 
 abbrev pub context : declared.Context → Context
 context s = record {
   meaning = λ x. unwrap_or (get bytes_eq s.names.now x) Unknown;
   signatures = map (option_map signature) s.sigs.now;
   classes = map class_entry s.classes.now.list;
+  member = member_in s.members.now;
+  init = init_in s.members.now;
+  inside = option_map inside s.inside;
 }
 
 abbrev pub some_signature : Option (Option Signature) → Option Signature

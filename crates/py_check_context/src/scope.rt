@@ -4,6 +4,7 @@ ghost use Rattle.std.specs.Option.{option_copied, option_map};
 ghost use Rattle.py_typed.specs.Classes.{signature};
 ghost use Rattle.py_check_context.specs.Context as spec;
 
+use crate::members::{ClassMembers, Inside};
 use indexmap::IndexMap;
 use py_typed::{Classes, Sig};
 use value_core::{ExcClass, Name};
@@ -60,13 +61,15 @@ pub enum Builtin {
     Super,
 }
 
-/// The names of a function or of the module, the signatures of all functions by their numbers, where they have one, and the
-/// classes.
+/// The names of a function or of the module, the signatures of all functions by their numbers, where they have one, the classes
+/// and their members by their numbers, and the method that the place stands in, if it stands in one.
 #[derive(Drop)]
 pub struct Context<'a> {
     pub names: &'a IndexMap<Name, Meaning>,
     pub sigs: &'a [Option<Sig>],
     pub classes: &'a Classes,
+    pub members: &'a [ClassMembers],
+    pub inside: Option<Inside<'a>>,
 }
 
 /// What a name means.

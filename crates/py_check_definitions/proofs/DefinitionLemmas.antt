@@ -1,5 +1,5 @@
 -- The walk over definitions says what is to be said of them.
-use Rattle.std.proofs.Common.{◌≡◌, ◌∙◌, ℕ, suc, ◌+◌, ◌<◌, not, ◌&&◌, ◌||◌, List, [], ◌∷◌, ◌++◌, length, map, drop, get_or, drop-cons, add-one, length-append, arith, refl, ap, ap₂, sym, Bor}
+use Rattle.std.proofs.Common.{◌≡◌, ◌∙◌, ℕ, suc, ◌+◌, ◌<◌, not, ◌&&◌, ◌||◌, List, [], ◌∷◌, ◌++◌, length, map, drop, get_or, drop-cons, add-one, length-append, arith, Option, Some, None, refl, ap, ap₂, sym, Bor}
 use Rattle.std.proofs.lemmas.List.{append_assoc, append-nil}
 use Rattle.std.proofs.lemmas.List.Folds.{list_any-append}
 use Rattle.std.specs.List.{flat_map}
@@ -7,9 +7,8 @@ use Rattle.std.specs.Str.{bytes_eq}
 use Rattle.indexmap.specs.IndexSet.{insert_all, insert_key}
 use Rattle.py_syntax.specs.declared.token.Span.{Span}
 use Rattle.py_syntax.specs.declared.statement.Stmt.{Stmt}
-use Rattle.py_syntax.specs.declared.statement.Class.{Class, fold_out-Class}
 use Rattle.py_syntax.specs.Statements as s
-use Rattle.py_syntax.specs.Statements.{StmtTree, StmtNode, HandlerTree, FuncTree, ClassTree, node_step, class_step, func_step, handler_step, stmt_step, stmt_tree, class_tree}
+use Rattle.py_syntax.specs.Statements.{StmtTree, StmtNode, Suite, FuncTree, stmt_tree}
 use Rattle.py_syntax_diagnostics.specs.declared.diagnostic.Diag.{Diag}
 use Rattle.py_binder.specs.declared.scope.Scope.{Scope}
 use Rattle.py_binder.specs.Scope.{contains, Roles, function_scope}
@@ -17,18 +16,20 @@ use Rattle.py_binder.proofs.TableLemmas.{contains_all}
 use Rattle.py_check_context.specs.declared.scope.Meaning.{Meaning}
 use Rattle.py_check_context.specs.Context.{Context}
 use Rattle.py_check_names.specs.Walked.{trees}
-use Rattle.py_check_names.specs.Outline.{held_by}
+use Rattle.py_check_names.specs.Outline.{held_by, method_in, methods_in}
 use Rattle.py_check_names.proofs.OutlineLemmas.{trees_at}
+use Rattle.py_check_signatures.specs.declared.headers.Owner.{Owner}
+use Rattle.py_check_signatures.specs.declared.headers.Owner.TheVariants as owner
 use Rattle.py_check_signatures.specs.Definitions.{is_builtin_name}
 use Rattle.py_check_classes.specs.Names.{class_in, classes_in}
+use Rattle.py_check_members.specs.Deeds.{taken_name}
+use Rattle.py_check_members.specs.Bodies.{body_said}
 use Rattle.py_check_places.specs.Places.{Known}
-use Rattle.py_check_definitions.specs.Classes.{ModuleClasses}
-use Rattle.py_check_definitions.specs.Definitions.{function_said, names_given, definition_said, definitions_said}
-use Rattle.py_check_definitions.specs.Views.{class_parts, said_at, said_along, names_behind, classes_behind, scopes_behind}
-
--- a class by its parts
-pub class_tree_at : (c : Class) → class_tree c ≡ class_parts c
-class_tree_at c = fold_out-Class StmtNode ClassTree FuncTree HandlerTree StmtTree node_step class_step func_step handler_step stmt_step c
+use Rattle.py_check_definitions.specs.Decorators.{decorators_said}
+use Rattle.py_check_definitions.specs.Owners.{typed_class}
+use Rattle.py_check_definitions.specs.Classes.{ModuleClasses, class_header_said}
+use Rattle.py_check_definitions.specs.Definitions.{function_said, with_taken, member_said, members_said, names_given, definition_said, definitions_said}
+use Rattle.py_check_definitions.specs.Views.{insert_taken, member_at, members_along, said_at, said_along, names_behind, classes_behind, scopes_behind}
 
 -- ---- the names that definitions give
 
@@ -112,12 +113,64 @@ classes_left n (x ∷ more) =
     let rest = classes_left (n + length (class_in x)) more in
     omega (arith, both, rest)
 
+-- ---- the body of a class
+
+same_taken : (a b : List (List ℕ)) → Same a b → (o : Option (List ℕ)) → Same (insert_taken a o) (with_taken b o)
+same_taken a b same None q = same q
+same_taken a b same (Some name) q = same_with a b same (name ∷ []) q
+
+module _ (roles : Roles) (c : Context) (k : Known) (whose : Owner) where
+  member_of : (a b : List (List ℕ)) → Same a b → (more : List FuncTree) (rest : List Scope) (node : StmtNode) (span : Span) → member_at c k whose a (map (function_scope roles) (method_in (s.at node span) ++ more) ++ rest) (s.at node span) ≡ member_said roles c k whose b (s.at node span)
+  member_of a b same more rest (s.Def name params ret body marks) span =
+      let f : FuncTree = record { name = name; params = params; ret = ret; body = body; marks = marks } in
+      ap (λ known. function_said c k span whose (not known && not (is_builtin_name name)) (function_scope roles f) f) (same name)
+  member_of a b same more rest (s.Annot target mark None) span = refl
+  member_of a b same more rest (s.Annot target mark (Some e)) span = refl
+  member_of a b same more rest (s.ClassDef name bases body marks) span = refl
+  member_of a b same more rest (s.Import name other) span = refl
+  member_of a b same more rest (s.From name names) span = refl
+  member_of a b same more rest (s.Do e) span = refl
+  member_of a b same more rest (s.Assign target e) span = refl
+  member_of a b same more rest (s.Aug target op e) span = refl
+  member_of a b same more rest (s.Del e) span = refl
+  member_of a b same more rest s.Pass span = refl
+  member_of a b same more rest s.Break span = refl
+  member_of a b same more rest s.Continue span = refl
+  member_of a b same more rest (s.Return e) span = refl
+  member_of a b same more rest (s.Raise e) span = refl
+  member_of a b same more rest (s.Global names) span = refl
+  member_of a b same more rest (s.Assert e message) span = refl
+  member_of a b same more rest (s.If arms other) span = refl
+  member_of a b same more rest (s.While test body) span = refl
+  member_of a b same more rest (s.For target e body) span = refl
+  member_of a b same more rest (s.Try body handlers last) span = refl
+
+  member_one : (a b : List (List ℕ)) → Same a b → (more : List FuncTree) (rest : List Scope) (x : StmtTree) → member_at c k whose a (map (function_scope roles) (method_in x ++ more) ++ rest) x ≡ member_said roles c k whose b x
+  member_one a b same more rest (s.at node span) = member_of a b same more rest node span
+
+  -- along a body, whose methods have the first of these scopes
+  members_say : (a b : List (List ℕ)) → Same a b → (body : Suite) (more : List FuncTree) (rest : List Scope) → members_along c k whose a (map (function_scope roles) (methods_in body ++ more) ++ rest) body ≡ members_said roles c k whose b body
+  members_say a b same s.no_stmts more rest = refl
+  members_say a b same (s.stmt_then x tail) more rest =
+      let a2 = insert_taken a (taken_name x) in
+      let b2 = with_taken b (taken_name x) in
+      let scopes_of : List FuncTree → List Scope = λ fs. map (function_scope roles) fs ++ rest in
+      ap (λ fs. member_at c k whose a (scopes_of fs) x ++ members_along c k whose a2 (drop (length (method_in x)) (scopes_of fs)) tail) (append_assoc (method_in x) (methods_in tail) more)
+      ∙ ap₂ (λ (p q : List Diag). p ++ q) (member_one a b same (methods_in tail ++ more) rest x)
+      (ap (λ l. members_along c k whose a2 l tail) (behind_front (function_scope roles) (method_in x) (methods_in tail ++ more) rest)
+      ∙ members_say a2 b2 (same_taken a b same (taken_name x)) tail more rest)
+
+nothing_earlier : Same [] []
+nothing_earlier q = refl
+
 module _ (roles : Roles) (classes : ModuleClasses) (c : Context) (k : Known) where
   one_said : (a b : List (List ℕ)) → Same a b → (n : ℕ) (more : List FuncTree) (rest : List Scope) (node : StmtNode) (span : Span) → said_at classes c k a n (map (function_scope roles) (held_by (s.at node span) ++ more) ++ rest) (s.at node span) ≡ definition_said roles classes c k b n (s.at node span)
   one_said a b same n more rest (s.Def name params ret body marks) span =
       let f : FuncTree = record { name = name; params = params; ret = ret; body = body; marks = marks } in
-      ap (λ known. function_said c k span (not known && not (is_builtin_name name)) (function_scope roles f) f) (same name)
-  one_said a b same n more rest (s.ClassDef name bases body marks) span = refl
+      ap (λ known. function_said c k span owner.Module (not known && not (is_builtin_name name)) (function_scope roles f) f) (same name)
+  one_said a b same n more rest (s.ClassDef name bases body marks) span =
+      ap (λ l. decorators_said c k marks ++ decorators_said c k bases ++ l ++ body_said c.meaning body ++ class_header_said classes c k n span (record { name = name; bases = bases; body = body; marks = marks }))
+      (members_say roles c k (owner.Class (typed_class classes.headers n)) [] [] nothing_earlier body more rest)
   one_said a b same n more rest (s.Import name other) span = refl
   one_said a b same n more rest (s.From name names) span = refl
   one_said a b same n more rest (s.Do e) span = refl

@@ -3,3 +3,5 @@ pub mod DefinitionLemmas
 pub mod FunctionLemmas
 pub mod StartLemmas
 pub mod VariableLemmas
+pub mod OutlineLemmas
+mod Examples

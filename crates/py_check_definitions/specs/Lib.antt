@@ -1,6 +1,9 @@
 pub mod Decorators
+pub mod Names
+pub mod Owners
 pub mod Classes
 pub mod Definitions
+pub mod Refused
 pub mod Starts
 pub mod Variables
 pub mod Views

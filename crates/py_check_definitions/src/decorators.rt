@@ -1,17 +1,13 @@
 //! What decorators and bases are asked for.
 ghost use Rattle.std.specs.Prelude.{◌≡◌, ◌++◌, map, is_some, IfOk};
 ghost use Rattle.std.specs.Option.{option_copied};
-ghost use Rattle.std.specs.Str.{bytes_eq};
-ghost use Rattle.indexmap.specs.IndexMap.{get};
 ghost use Rattle.py_syntax.specs.Expressions.{expr_tree};
 ghost use Rattle.py_check_context.specs.Context.{context, free};
 ghost use Rattle.py_check_targets.specs.Targets as aims;
 ghost use Rattle.py_check_places.specs.Views.{known_at};
 ghost use Rattle.py_check_definitions.specs.Decorators as spec;
-ghost use Rattle.py_check_definitions.specs.Classes as classes_spec;
 ghost use Rattle.py_check_definitions.specs.Views as views;
 
-use py_check_classes::{ModuleClasses, typed_meaning};
 use py_check_context::{Context, Meaning, Want, meaning_of};
 use py_check_flow::name_in;
 use py_check_places::Place;
@@ -23,11 +19,9 @@ use value_core::{Many, Memory, Name};
 
 /// Where a name stands that is only asked to be there.
 #[derive(Clone, Copy)]
-pub(crate) enum Asked<'a> {
-    /// In a decorator of a function.
+pub(crate) enum Asked {
+    /// In a decorator.
     Decorator,
-    /// In a decorator of a class of a module with these classes.
-    Mark(&'a ModuleClasses),
     /// Among the bases of a class.
     Base,
 }
@@ -37,11 +31,11 @@ pub(crate) fn add_parts(
     alloc: Global,
     scope: &Context<'_>,
     place: &Place,
-    asked: Asked<'_>,
+    asked: Asked,
     parts: &[Expr],
     faults: &mut Many<Diag>,
 ) -> Result<bool, Memory>
-    ensures typed { IfOk result (λ typed. typed ≡ spec.parts_typed (context scope.now) (known_at place.now) (views.names_there asked.entry (context scope.now)) (map expr_tree parts.now)) }
+    ensures typed { IfOk result (λ typed. typed ≡ spec.parts_typed (context scope.now) (known_at place.now) (views.names_there asked (context scope.now)) (map expr_tree parts.now)) }
     ensures told { IfOk result (λ typed. faults.new ≡ faults.old ++ spec.decorators_said (context scope.now) (known_at place.now) (map expr_tree parts.now)) }
 {
     let mut typed = true;
@@ -57,12 +51,12 @@ fn add_part(
     alloc: Global,
     scope: &Context<'_>,
     place: &Place,
-    asked: Asked<'_>,
+    asked: Asked,
     name: Option<&Name>,
     e: &Expr,
     faults: &mut Many<Diag>,
 ) -> Result<bool, Memory>
-    ensures typed { IfOk result (λ typed. typed ≡ spec.asked_typed (context scope.now) (known_at place.now) (views.names_there asked.entry (context scope.now)) (option_copied name.entry) (expr_tree e.now)) }
+    ensures typed { IfOk result (λ typed. typed ≡ spec.asked_typed (context scope.now) (known_at place.now) (views.names_there asked (context scope.now)) (option_copied name.entry) (expr_tree e.now)) }
     ensures told { IfOk result (λ typed. faults.new ≡ faults.old ++ spec.asked_said (context scope.now) (known_at place.now) (option_copied name.entry) (expr_tree e.now)) }
 {
     match name {
@@ -71,33 +65,13 @@ fn add_part(
     }
 }
 
-fn is_name_there(scope: &Context<'_>, asked: Asked<'_>, x: &Name) -> bool
-    ensures { result ≡ views.names_there asked.entry (context scope.now) x.now }
+fn is_name_there(scope: &Context<'_>, asked: Asked, x: &Name) -> bool
+    ensures { result ≡ views.names_there asked (context scope.now) x.now }
 {
     let meaning = meaning_of(scope, x);
     match asked {
         Asked::Decorator => is_there(meaning),
-        Asked::Mark(classes) => is_there(mark_meaning(classes, meaning, x)),
         Asked::Base => is_base_there(meaning),
-    }
-}
-
-/// What a name means in a decorator of a class, where it means this to typing.
-fn mark_meaning(classes: &ModuleClasses, meaning: Meaning, x: &Name) -> Meaning
-    ensures { result ≡ classes_spec.mark_meaning classes.now.headers meaning (get bytes_eq classes.now.said x.now) }
-{
-    match meaning {
-        Meaning::UntypedClass => class_meaning(classes, x),
-        other => other,
-    }
-}
-
-fn class_meaning(classes: &ModuleClasses, x: &Name) -> Meaning
-    ensures { result ≡ classes_spec.mark_meaning classes.now.headers Meaning.UntypedClass (get bytes_eq classes.now.said x.now) }
-{
-    match classes.said.get(x) {
-        Some(meaning) => typed_meaning(classes.headers.as_slice(), *meaning),
-        None => Meaning::UntypedClass,
     }
 }
 

@@ -1,15 +1,17 @@
 //! What is said of definitions and imports where they stand.
-ghost use Rattle.std.specs.Prelude.{◌≡◌, ◌+◌, ◌++◌, length, map, drop, IfOk};
+ghost use Rattle.std.specs.Prelude.{◌≡◌, ◌+◌, ◌++◌, length, map, drop, slice_get, IfOk};
 ghost use Rattle.std.specs.List.{flat_map};
 ghost use Rattle.std.specs.Option.{option_copied};
 ghost use Rattle.std.specs.Str.{bytes_eq};
 ghost use Rattle.indexmap.specs.IndexSet.{insert_all};
-ghost use Rattle.py_syntax.specs.Statements.{stmt_tree, func_tree, class_tree, body_tree};
+ghost use Rattle.py_syntax.specs.Statements.{stmt_tree, func_tree, class_tree};
 ghost use Rattle.py_check_context.specs.Context.{context};
 ghost use Rattle.py_check_names.specs.Walked.{trees, func_trees};
 ghost use Rattle.py_check_names.specs.Outline as outline;
-ghost use Rattle.py_check_signatures.specs.Headers as headers;
 ghost use Rattle.py_check_classes.specs.Names.{class_in};
+ghost use Rattle.py_check_classes.specs.Views.{class_parts};
+ghost use Rattle.py_check_overrides.specs.Overrides.{override_said};
+ghost use Rattle.py_check_overrides.specs.Views.{verdict};
 ghost use Rattle.py_check_places.specs.Views.{known_at};
 ghost use Rattle.py_check_definitions.specs.Decorators as asked;
 ghost use Rattle.py_check_definitions.specs.Classes as classes_spec;
@@ -17,18 +19,29 @@ ghost use Rattle.py_check_definitions.specs.Definitions as spec;
 ghost use Rattle.py_check_definitions.specs.Views as views;
 
 use crate::decorators::{Asked, add_parts};
+use crate::members::add_members;
+use crate::owners::typed_class;
 use indexmap::IndexSet;
 use py_binder::Scope;
-use py_check_classes::{Header, ModuleClasses, add_header_said};
+use py_check_classes::{Header, add_header_said};
 use py_check_context::{Context, Meaning};
+use py_check_members::add_body_said;
 use py_check_messages::{outside_import, outside_profile};
 use py_check_names::{add_name, definitions_in, may_import_all, outline_of};
+use py_check_overrides::{Verdict, add_override_said};
 use py_check_places::Place;
-use py_check_signatures::{add_def_fault, header_of, is_new, own_count};
+use py_check_signatures::{Owner, add_def_fault, header_of, is_new, own_count};
 use py_syntax::{Class, Func, Span, Stmt, StmtKind};
 use py_syntax_diagnostics::Diag;
 use std::alloc::Global;
 use value_core::{Many, Memory, Name};
+
+/// The classes of a module by their numbers: their headers, and what comes of the test that the definitions of their members agree.
+#[derive(Clone, Copy)]
+pub struct ClassTables<'a> {
+    pub headers: &'a [Header],
+    pub verdicts: &'a [Verdict<'a>],
+}
 
 /// What stands earlier in the text: the names that definitions and imports give there, and how many classes.
 #[derive(Drop)]
@@ -43,13 +56,13 @@ pub fn add_definitions<'a>(
     alloc: Global,
     scope: &Context<'_>,
     place: &Place,
-    classes: &ModuleClasses,
+    classes: ClassTables<'_>,
     definitions: &[&Stmt],
     insides: &'a [Scope],
     earlier: &mut Earlier,
     faults: &mut Many<Diag>,
 ) -> Result<&'a [Scope], Memory>
-    ensures told { IfOk result (λ rest. faults.new ≡ faults.old ++ views.said_along (views.classes_seen classes.now) (context scope.now) (known_at place.now) earlier.old.names.keys earlier.old.classes insides.now (trees definitions.now)) }
+    ensures told { IfOk result (λ rest. faults.new ≡ faults.old ++ views.said_along (views.classes_seen classes.entry) (context scope.now) (known_at place.now) earlier.old.names.keys earlier.old.classes insides.now (trees definitions.now)) }
     ensures names { IfOk result (λ rest. earlier.new.names.keys ≡ views.names_behind earlier.old.names.keys (trees definitions.now)) }
     ensures classes { IfOk result (λ rest. earlier.new.classes ≡ views.classes_behind earlier.old.classes (trees definitions.now)) }
     ensures scopes { IfOk result (λ rest. rest.now ≡ views.scopes_behind insides.now (trees definitions.now)) }
@@ -64,7 +77,7 @@ pub fn add_definitions<'a>(
 }
 
 /// The scopes behind so many.
-fn behind<'a>(insides: &'a [Scope], held: usize) -> &'a [Scope]
+pub(crate) fn behind<'a>(insides: &'a [Scope], held: usize) -> &'a [Scope]
     ensures { result.now ≡ drop held insides.now }
 {
     let end = insides.len();
@@ -85,7 +98,7 @@ fn put_behind(alloc: Global, s: &Stmt, earlier: &mut Earlier) -> Result<usize, M
 }
 
 /// So many classes, and one more where this is a class.
-fn with_class(count: usize, s: &Stmt) -> Result<usize, Memory>
+pub(crate) fn with_class(count: usize, s: &Stmt) -> Result<usize, Memory>
     ensures { IfOk result (λ n. n ≡ count + length (class_in (stmt_tree s.now))) }
 {
     match &s.kind {
@@ -118,26 +131,31 @@ fn add_definition(
     alloc: Global,
     scope: &Context<'_>,
     place: &Place,
-    classes: &ModuleClasses,
+    classes: ClassTables<'_>,
     earlier: &Earlier,
     insides: &[Scope],
     s: &Stmt,
     faults: &mut Many<Diag>,
 ) -> Result<(), Memory>
-    ensures { IfOk result (λ done. faults.new ≡ faults.old ++ views.said_at (views.classes_seen classes.now) (context scope.now) (known_at place.now) earlier.now.names.keys earlier.now.classes insides.now (stmt_tree s.now)) }
+    ensures { IfOk result (λ done. faults.new ≡ faults.old ++ views.said_at (views.classes_seen classes.entry) (context scope.now) (known_at place.now) earlier.now.names.keys earlier.now.classes insides.now (stmt_tree s.now)) }
 {
     match &s.kind {
         StmtKind::Def(f) => {
             let defined = Defined {
                 span: s.span,
+                owner: Owner::Module,
                 fresh: is_new(&earlier.names, &f.name),
                 tree: f,
             };
             add_first(alloc, scope, place, defined, insides, faults)
         }
         StmtKind::Class(c) => {
-            let number = earlier.classes;
-            add_class(alloc, scope, place, classes, number, s.span, c, faults)
+            let defined = DefinedClass {
+                span: s.span,
+                number: earlier.classes,
+                tree: c,
+            };
+            add_class(alloc, scope, place, classes, defined, insides, faults)
         }
         StmtKind::Import(_, _) => outside_import(alloc, s.span, faults),
         StmtKind::From(source, names) => {
@@ -150,16 +168,25 @@ fn add_definition(
     }
 }
 
-/// A function that is defined at a place of the text, and whether its name is new there.
+/// A function that is defined at a place of the text, whose it is, and whether its name is new there.
 #[derive(Clone, Copy)]
-struct Defined<'a> {
+pub(crate) struct Defined<'a> {
+    pub(crate) span: Span,
+    pub(crate) owner: Owner,
+    pub(crate) fresh: bool,
+    pub(crate) tree: &'a Func,
+}
+
+/// A class that is defined at a place of the text, with its number.
+#[derive(Clone, Copy)]
+struct DefinedClass<'a> {
     span: Span,
-    fresh: bool,
-    tree: &'a Func,
+    number: usize,
+    tree: &'a Class,
 }
 
 /// Adds what is said of a function, whose names are the first of these, if there are any.
-fn add_first(
+pub(crate) fn add_first(
     alloc: Global,
     scope: &Context<'_>,
     place: &Place,
@@ -167,7 +194,7 @@ fn add_first(
     insides: &[Scope],
     faults: &mut Many<Diag>,
 ) -> Result<(), Memory>
-    ensures { IfOk result (λ done. faults.new ≡ faults.old ++ views.first_said (context scope.now) (known_at place.now) defined.entry.span defined.entry.fresh insides.now (func_tree defined.entry.tree.now)) }
+    ensures { IfOk result (λ done. faults.new ≡ faults.old ++ views.first_said (context scope.now) (known_at place.now) defined.entry.span defined.entry.owner defined.entry.fresh insides.now (func_tree defined.entry.tree.now)) }
 {
     match insides {
         [] => Ok(()),
@@ -184,11 +211,16 @@ fn add_function(
     inside: &Scope,
     faults: &mut Many<Diag>,
 ) -> Result<(), Memory>
-    ensures { IfOk result (λ done. faults.new ≡ faults.old ++ spec.function_said (context scope.now) (known_at place.now) defined.entry.span defined.entry.fresh inside.now (func_tree defined.entry.tree.now)) }
+    ensures { IfOk result (λ done. faults.new ≡ faults.old ++ spec.function_said (context scope.now) (known_at place.now) defined.entry.span defined.entry.owner defined.entry.fresh inside.now (func_tree defined.entry.tree.now)) }
 {
-    let Defined { span, fresh, tree } = defined;
+    let Defined {
+        span,
+        owner,
+        fresh,
+        tree,
+    } = defined;
     let marked = add_marks(alloc, scope, place, tree, faults)?;
-    let header = header_of(alloc, scope, tree, faults)?;
+    let header = header_of(alloc, scope, owner, tree, faults)?;
     let own = own_count(inside);
     add_def_fault(alloc, span, fresh, own, marked, tree, &header, faults)
 }
@@ -214,43 +246,77 @@ fn add_marks(
     )
 }
 
-/// Adds what is said of the class of a number: first of its decorators and bases, then of its methods' annotations and its header.
+/// Adds what is said of a class: first of its decorators and bases, then of its body, whose methods have the first of these scopes,
+/// and last of its header and its members.
 fn add_class(
     alloc: Global,
     scope: &Context<'_>,
     place: &Place,
-    classes: &ModuleClasses,
-    number: usize,
-    span: Span,
-    c: &Class,
+    classes: ClassTables<'_>,
+    defined: DefinedClass<'_>,
+    insides: &[Scope],
     faults: &mut Many<Diag>,
 ) -> Result<(), Memory>
-    ensures { IfOk result (λ done. faults.new ≡ faults.old ++ spec.class_said (context scope.now) (known_at place.now) (views.classes_seen classes.now) number span (class_tree c.now)) }
+    ensures { IfOk result (λ done. faults.new ≡ faults.old ++ views.class_along (views.classes_seen classes.entry) (context scope.now) (known_at place.now) defined.entry.number defined.entry.span insides.now (class_tree defined.entry.tree.now)) }
 {
-    add_class_parts(alloc, scope, place, classes, number, span, c, faults)
+    add_class_parts(alloc, scope, place, classes, defined, insides, faults)
 }
 
 fn add_class_parts(
     alloc: Global,
     scope: &Context<'_>,
     place: &Place,
-    classes: &ModuleClasses,
-    number: usize,
-    span: Span,
-    c: &Class,
+    classes: ClassTables<'_>,
+    defined: DefinedClass<'_>,
+    insides: &[Scope],
     faults: &mut Many<Diag>,
 ) -> Result<(), Memory>
-    ensures { IfOk result (λ done. faults.new ≡ faults.old ++ spec.class_said (context scope.now) (known_at place.now) (views.classes_seen classes.now) number span (views.class_parts c.now)) }
+    ensures { IfOk result (λ done. faults.new ≡ faults.old ++ views.class_along (views.classes_seen classes.entry) (context scope.now) (known_at place.now) defined.entry.number defined.entry.span insides.now (class_parts defined.entry.tree.now)) }
 {
-    let marks = c.marks.as_slice();
-    let bases = c.bases.as_slice();
-    let marked = add_parts(alloc, scope, place, Asked::Mark(classes), marks, faults)?;
+    let DefinedClass { span, number, tree } = defined;
+    let marks = tree.marks.as_slice();
+    let bases = tree.bases.as_slice();
+    let body = tree.body.as_slice();
+    let owner = Owner::Class(typed_class(classes.headers, number));
+    let marked = add_parts(alloc, scope, place, Asked::Decorator, marks, faults)?;
     let based = add_parts(alloc, scope, place, Asked::Base, bases, faults)?;
-    add_methods(alloc, scope, c.body.as_slice(), faults)?;
+    add_members(alloc, scope, place, owner, body, insides, faults)?;
+    add_body_said(alloc, scope, body, faults)?;
     if !(marked && based) {
         return Ok(());
     }
-    add_header(alloc, span, &c.name, classes.headers.get(number), faults)
+    add_whole(alloc, scope, classes, number, span, &tree.name, faults)
+}
+
+/// Adds what is said of the class of a number as a whole: of its header, and of its members.
+fn add_whole(
+    alloc: Global,
+    scope: &Context<'_>,
+    classes: ClassTables<'_>,
+    number: usize,
+    span: Span,
+    name: &Name,
+    faults: &mut Many<Diag>,
+) -> Result<(), Memory>
+    ensures { IfOk result (λ done. faults.new ≡ faults.old ++ classes_spec.whole_said (views.classes_seen classes.entry) (context scope.now).classes number span name.now) }
+{
+    add_header(alloc, span, name, classes.headers.get(number), faults)?;
+    add_members_said(alloc, scope, span, classes.verdicts, number, faults)
+}
+
+/// Adds what comes of the test that the definitions of the members of the class of a number agree.
+fn add_members_said(
+    alloc: Global,
+    scope: &Context<'_>,
+    span: Span,
+    verdicts: &[Verdict<'_>],
+    number: usize,
+    faults: &mut Many<Diag>,
+) -> Result<(), Memory>
+    ensures { IfOk result (λ done. faults.new ≡ faults.old ++ override_said (context scope.now).classes span (slice_get (map verdict verdicts.now) number)) }
+{
+    let classes = scope.classes.list.as_slice();
+    add_override_said(alloc, classes, span, verdicts.get(number), faults)
 }
 
 /// Adds what is said of a class of this header.
@@ -266,38 +332,6 @@ fn add_header(
     match header {
         Some(header) => add_header_said(alloc, span, name, header, faults),
         None => Ok(()),
-    }
-}
-
-/// Adds what is said in the annotations of methods.
-fn add_methods(
-    alloc: Global,
-    scope: &Context<'_>,
-    body: &[Stmt],
-    faults: &mut Many<Diag>,
-) -> Result<(), Memory>
-    ensures { IfOk result (λ done. faults.new ≡ faults.old ++ flat_map (headers.header_said (context scope.now).meaning) (outline.methods_in (body_tree body.now))) }
-{
-    for s in body {
-        add_method(alloc, scope, s, faults)?;
-    }
-    Ok(())
-}
-
-fn add_method(
-    alloc: Global,
-    scope: &Context<'_>,
-    s: &Stmt,
-    faults: &mut Many<Diag>,
-) -> Result<(), Memory>
-    ensures { IfOk result (λ done. faults.new ≡ faults.old ++ flat_map (headers.header_said (context scope.now).meaning) (outline.method_in (stmt_tree s.now))) }
-{
-    match &s.kind {
-        StmtKind::Def(f) => {
-            header_of(alloc, scope, f, faults)?;
-            Ok(())
-        }
-        _ => Ok(()),
     }
 }
 

@@ -357,6 +357,7 @@ fn name_target(aim: Option<Box<Aim<'_>>>) -> Option<Target>
         Aim::First(target, _) => Some(target),
         Aim::Barred(_) => None,
         Aim::Unwritten(_) => None,
+        Aim::Lacking(_, _) => None,
         Aim::Misplaced(_) => None,
     }
 }

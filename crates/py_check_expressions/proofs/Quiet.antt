@@ -1,15 +1,19 @@
 -- What is typed has said nothing: of the words of typing, and of each kind of expression.
 use Rattle.std.proofs.Common.{◌≡◌, ℕ, suc, Bool, true, false, List, [], ◌∷◌, ◌++◌, map, Option, Some, None, Result, Ok, Err, refl, ap, sym, ◌∙◌, not, if◌then◌else◌}
+use Rattle.std.specs.Prelude.{codes, slice_get}
+use Rattle.std.specs.Str.{bytes_eq}
 use Rattle.std.specs.Option.{option_map, option_zip}
 use Rattle.py_syntax.specs.declared.token.Span.{Span}
 use Rattle.py_syntax.specs.declared.expression.CmpOp.{CmpOp}
 use Rattle.py_syntax.specs.Expressions as tree
 use Rattle.py_syntax.specs.Expressions.{ExprTree, ExprNode, at, ExprTrees, no_exprs, expr_then, Comparisons, no_comparisons, comparison_then, Entries, no_entries, entry_then, Arguments, no_arguments, argument_then, keyed_then}
-use Rattle.py_typed.specs.Expressions.{TypedExpr, TypedNode}
-use Rattle.py_typed.specs.Classes.{ClassEntry}
+use Rattle.py_typed.specs.Expressions as node
+use Rattle.py_typed.specs.Expressions.{TypedExpr, TypedNode, TypedExprs, type_of}
+use Rattle.py_typed.specs.Sorts.{Instance, Nothing}
+use Rattle.py_typed.specs.Classes.{ClassEntry, Signature}
 use Rattle.py_check_context.specs.declared.scope.Meaning.{Meaning}
 use Rattle.py_check_context.specs.declared.scope.Meaning.TheVariants as meaning
-use Rattle.py_check_context.specs.Context.{Context, VarSort, unset, untyped, has, VarSorts, var_at, Wanted, free, test, WantedRow, wanted_in}
+use Rattle.py_check_context.specs.Context.{Context, some_signature, VarSort, unset, untyped, has, VarSorts, var_at, Wanted, free, test, WantedRow, wanted_in}
 use Rattle.py_typed.specs.Narrowing.{is_in}
 use Rattle.py_check_messages.specs.Seen.{Seen, Message, diag, is, silent, fails, both, judged, ruled, behind, rule, made}
 use Rattle.py_check_messages.specs.Rows.{row_then}
@@ -21,9 +25,10 @@ use Rattle.py_check_operators.proofs.ChainLemmas.{chain_right, chain_operands}
 use Rattle.py_check_operators.specs.Choices.{operand}
 use Rattle.py_check_displays.specs.Displays.{item_sort, items_row, parts_row}
 use Rattle.py_check_displays.specs.Dicts.{entry_sorts, key_wanted, value_wanted}
-use Rattle.py_check_calls.specs.Callees.{Callee, function, print, input, range, single, exception, method, voiceless, uncalled, value, callee, has_key, is_named, is_variable, name_called}
+use Rattle.py_check_calls.specs.Callees.{Callee, function, class, trait, super_init, print, input, range, single, exception, method, voiceless, uncalled, value, callee, has_key, is_named, is_variable, name_called, is_super_init, super_called}
 use Rattle.py_check_messages.specs.Messages.{range_outside_for, not_callable}
-use Rattle.py_check_calls.specs.Calls.{arguments_row, positional, no_keys, refused, called}
+use Rattle.py_check_calls.specs.Methods.{Had, has_attribute, has_method, has_append, has_pop, has_untyped, none_has_not, has_not, look_up, read, attribute}
+use Rattle.py_check_calls.specs.Calls.{arguments_row, positional, no_keys, refused, takes, taken, init_name, call_made, call_of, call_by, signed_call, had_call, method_call, called}
 use Rattle.py_check_expressions.specs.Typing.{typing, node_typing, items, entries, operands, each_operand, arguments, part, receiver, count}
 use Rattle.py_check_expressions.proofs.RowLemmas.{operands_got}
 
@@ -108,32 +113,73 @@ quiet_with_part : {A B : Type 0} (o : Option A) (f : A → Seen B) → ((a : A) 
 quiet_with_part None f q = quiet_silent
 quiet_with_part (Some a) f q = q a
 
-pub quiet_called : (classes : List ClassEntry) (w : Wanted) (span : Span) (keyed : Bool) (f : Callee) (p : Option TypedExpr) (args : Option (List TypedExpr)) → IsQuiet (called classes w span keyed f p args)
-quiet_called classes w span keyed (function x i s) p args = quiet_rule span _ (positional span keyed args) (quiet_positional span keyed args)
-quiet_called classes w span keyed print p args = quiet_rule span _ (positional span keyed args) (quiet_positional span keyed args)
-quiet_called classes w span keyed input p args = quiet_rule span _ (positional span keyed args) (quiet_positional span keyed args)
-quiet_called classes w span keyed range p args = quiet_rule span (refused range_outside_for) (positional span keyed args) (quiet_positional span keyed args)
-quiet_called classes w span keyed (single f) p args = quiet_rule span _ (positional span keyed args) (quiet_positional span keyed args)
-quiet_called classes w span keyed (exception x) p args = quiet_rule span _ (positional span keyed args) (quiet_positional span keyed args)
-quiet_called classes w span keyed (method m) p args = quiet_with_part p _ (λ e. quiet_rule span _ (positional span keyed args) (quiet_positional span keyed args))
-quiet_called classes w span keyed voiceless p args = quiet_silent
-quiet_called classes w span keyed uncalled p args = quiet_rule span (refused not_callable) (positional span keyed args) (quiet_positional span keyed args)
-quiet_called classes w span keyed value p args = quiet_with_part p _ (λ e. quiet_rule span (refused not_callable) (positional span keyed args) (quiet_positional span keyed args))
+quiet_if : {A : Type 0} (b : Bool) (s t : Seen A) → IsQuiet s → IsQuiet t → IsQuiet (if b then s else t)
+quiet_if true s t qs qt = qs
+quiet_if false s t qs qt = qt
+
+quiet_taken : {B : Type 0} (span : Span) (keyed : Bool) (f : List TypedExpr → Result B Message) (args : Option (List TypedExpr)) → IsQuiet (rule span f (positional span keyed args))
+quiet_taken span keyed f args = quiet_rule span f (positional span keyed args) (quiet_positional span keyed args)
+
+pub quiet_read : (classes : List ClassEntry) (span : Span) (e : TypedExpr) (a : List ℕ) (h : Had) → IsQuiet (read classes span e a h)
+quiet_read classes span e a (has_attribute t) = quiet_is _
+quiet_read classes span e a (has_method f) = quiet_fails span _
+quiet_read classes span e a (has_append t) = quiet_fails span _
+quiet_read classes span e a (has_pop t) = quiet_fails span _
+quiet_read classes span e a has_untyped = quiet_silent
+quiet_read classes span e a none_has_not = quiet_fails span _
+quiet_read classes span e a has_not = quiet_fails span _
+
+module _ (C : Context) where
+  quiet_by : (w : Wanted) (span : Span) (keyed : Bool) (f : List ℕ) (s : Signature) (make : TypedExprs → TypedNode) (args : Option (List TypedExpr)) → IsQuiet (call_by C w span keyed f s make args)
+  quiet_by w span keyed f s make args =
+      quiet_behind (positional span keyed args) (call_of C w span f s make) (quiet_positional span keyed args) refl (λ es. quiet_made (call_made span s make) (judged span (taken C.classes w f s es)) (quiet_judged span (taken C.classes w f s es)))
+
+  quiet_signed : (w : Wanted) (span : Span) (keyed : Bool) (m : List ℕ) (e : TypedExpr) (s : Option Signature) (args : Option (List TypedExpr)) → IsQuiet (signed_call C w span keyed m e s args)
+  quiet_signed w span keyed m e None args = quiet_silent
+  quiet_signed w span keyed m e (Some s) args = quiet_by w span keyed m s (node.Method e m) args
+
+  quiet_had : (w : Wanted) (span : Span) (keyed : Bool) (m : List ℕ) (e : TypedExpr) (h : Had) (args : Option (List TypedExpr)) → IsQuiet (had_call C w span keyed m e h args)
+  quiet_had w span keyed m e (has_method f) args = quiet_signed w span keyed m e (some_signature (slice_get C.signatures f)) args
+  quiet_had w span keyed m e (has_append t) args = quiet_taken span keyed _ args
+  quiet_had w span keyed m e (has_pop t) args = quiet_taken span keyed _ args
+  quiet_had w span keyed m e (has_attribute t) args = quiet_taken span keyed (refused not_callable) args
+  quiet_had w span keyed m e has_untyped args = quiet_silent
+  quiet_had w span keyed m e none_has_not args = quiet_taken span keyed (refused _) args
+  quiet_had w span keyed m e has_not args = quiet_taken span keyed (refused _) args
+
+  quiet_method : (w : Wanted) (span : Span) (keyed : Bool) (m : List ℕ) (e : TypedExpr) (args : Option (List TypedExpr)) → IsQuiet (method_call C w span keyed m e args)
+  quiet_method w span keyed m e args =
+      quiet_if (bytes_eq m (codes "__init__")) (rule span (refused not_callable) (positional span keyed args)) (had_call C w span keyed m e (look_up C.member (type_of e) m) args) (quiet_taken span keyed (refused not_callable) args) (quiet_had w span keyed m e (look_up C.member (type_of e) m) args)
+
+  pub quiet_called : (w : Wanted) (span : Span) (keyed : Bool) (f : Callee) (p : Option TypedExpr) (args : Option (List TypedExpr)) → IsQuiet (called C w span keyed f p args)
+  quiet_called w span keyed (function x i s) p args = quiet_by w span keyed x s (node.Call i) args
+  quiet_called w span keyed (class x n params) p args = quiet_by w span keyed x (takes params (Instance n)) (node.Make n) args
+  quiet_called w span keyed (trait x params) p args = quiet_taken span keyed (refused _) args
+  quiet_called w span keyed (super_init next params) p args = quiet_by w span keyed init_name (takes params Nothing) (node.SuperInit next) args
+  quiet_called w span keyed print p args = quiet_taken span keyed _ args
+  quiet_called w span keyed input p args = quiet_taken span keyed _ args
+  quiet_called w span keyed range p args = quiet_taken span keyed (refused range_outside_for) args
+  quiet_called w span keyed (single f) p args = quiet_taken span keyed _ args
+  quiet_called w span keyed (exception x) p args = quiet_taken span keyed _ args
+  quiet_called w span keyed (method m) p args = quiet_with_part p _ (λ e. quiet_method w span keyed m e args)
+  quiet_called w span keyed voiceless p args = quiet_silent
+  quiet_called w span keyed uncalled p args = quiet_taken span keyed (refused not_callable) args
+  quiet_called w span keyed value p args = quiet_with_part p _ (λ e. quiet_taken span keyed (refused not_callable) args)
 
 -- ---- calls, whose callee may be a name that is not typed
 
 -- either nothing is said of what is typed of a callee, or a call without that is not typed
 pub data Lost (C : Context) (V : VarSorts) (known : List ℕ) (f : ExprTree) : Type 0 where
   unsaid : (part C V known f).said ≡ [] → Lost C V known f
-  ungiven : ((w : Wanted) (span : Span) (keyed : Bool) (args : Option (List TypedExpr)) → (called C.classes w span keyed (callee C f) None args).got ≡ None) → Lost C V known f
+  ungiven : ((w : Wanted) (span : Span) (keyed : Bool) (args : Option (List TypedExpr)) → (called C w span keyed (callee C f) None args).got ≡ None) → Lost C V known f
 
 plain : (C : Context) (V : VarSorts) (known : List ℕ) (place : Span) (x : List ℕ) (m : Meaning) → C.meaning x ≡ m → is_variable m ≡ false → (part C V known (at (tree.Name x) place)).said ≡ []
 plain C V known place x m e v =
     ap (λ n. (if not (is_variable n) then silent else node_typing C V free known place (tree.Name x)).said) e ∙ ap (λ b. (if not b then silent else node_typing C V free known place (tree.Name x)).said) v
 
 name_lost : (C : Context) (V : VarSorts) (known : List ℕ) (place : Span) (x : List ℕ) (m : Meaning) → C.meaning x ≡ m → Lost C V known (at (tree.Name x) place)
-name_lost C V known place x (meaning.Local i) e = ungiven (λ w span keyed args. ap (λ n. (called C.classes w span keyed (name_called C x n) None args).got) e)
-name_lost C V known place x (meaning.Global i) e = ungiven (λ w span keyed args. ap (λ n. (called C.classes w span keyed (name_called C x n) None args).got) e)
+name_lost C V known place x (meaning.Local i) e = ungiven (λ w span keyed args. ap (λ n. (called C w span keyed (name_called C x n) None args).got) e)
+name_lost C V known place x (meaning.Global i) e = ungiven (λ w span keyed args. ap (λ n. (called C w span keyed (name_called C x n) None args).got) e)
 name_lost C V known place x (meaning.Function i) e = unsaid (plain C V known place x (meaning.Function i) e refl)
 name_lost C V known place x (meaning.Class i) e = unsaid (plain C V known place x (meaning.Class i) e refl)
 name_lost C V known place x meaning.UntypedClass e = unsaid (plain C V known place x meaning.UntypedClass e refl)
@@ -144,9 +190,13 @@ name_lost C V known place x meaning.ModuleName e = unsaid (plain C V known place
 name_lost C V known place x meaning.Untyped e = unsaid (plain C V known place x meaning.Untyped e refl)
 name_lost C V known place x meaning.Unknown e = unsaid (plain C V known place x meaning.Unknown e refl)
 
+attribute_lost : (C : Context) (V : VarSorts) (known : List ℕ) (place : Span) (e : ExprTree) (m : List ℕ) (b : Bool) → is_super_init C (tree.Attr e m) ≡ b → Lost C V known (at (tree.Attr e m) place)
+attribute_lost C V known place e m true q = unsaid (ap (λ b. (if b then silent else typing C V free known e).said) q)
+attribute_lost C V known place e m false q = ungiven (λ w span keyed args. ap (λ b. (called C w span keyed (if b then super_called C C.inside else method m) None args).got) q)
+
 lost : (C : Context) (V : VarSorts) (known : List ℕ) (f : ExprTree) → Lost C V known f
 lost C V known (at (tree.Name x) place) = name_lost C V known place x (C.meaning x) refl
-lost C V known (at (tree.Attr e m) place) = ungiven (λ w span keyed args. refl)
+lost C V known (at (tree.Attr e m) place) = attribute_lost C V known place e m (is_super_init C (tree.Attr e m)) refl
 lost C V known (at (tree.Int n) place) = ungiven (λ w span keyed args. refl)
 lost C V known (at (tree.Str n) place) = ungiven (λ w span keyed args. refl)
 lost C V known (at tree.True place) = ungiven (λ w span keyed args. refl)
@@ -174,28 +224,48 @@ after_said s f q each none (Some a) ea b e = ap (λ l. l ++ (f s.got).said) (q.s
 quiet_after : {A B : Type 0} (s : Seen A) (f : Option A → Seen B) → IsQuiet s → ((o : Option A) → IsQuiet (f o)) → (s.got ≡ None → (b : B) → (f None).got ≡ Some b → s.said ≡ []) → IsQuiet (behind s f)
 quiet_after s f q each none = record { says = λ b e. after_said s f q each none s.got refl b e }
 
-call_unsaid : (C : Context) (V : VarSorts) (known : List ℕ) (f : ExprTree) (args : Arguments) (w : Wanted) (span : Span) → Lost C V known f → (b : TypedExpr) → (behind (arguments C V (arguments_row (callee C f) None) 0 known args) (called C.classes w span (has_key args) (callee C f) None)).got ≡ Some b → (part C V known f).said ≡ []
+call_unsaid : (C : Context) (V : VarSorts) (known : List ℕ) (f : ExprTree) (args : Arguments) (w : Wanted) (span : Span) → Lost C V known f → (b : TypedExpr) → (behind (arguments C V (arguments_row C (callee C f) None) 0 known args) (called C w span (has_key args) (callee C f) None)).got ≡ Some b → (part C V known f).said ≡ []
 call_unsaid C V known f args w span (unsaid u) b e = u
-call_unsaid C V known f args w span (ungiven u) b e = let h = sym e ∙ u w span (has_key args) (arguments C V (arguments_row (callee C f) None) 0 known args).got in absurd (cc)
-
-quiet_if : {A : Type 0} (b : Bool) (s t : Seen A) → IsQuiet s → IsQuiet t → IsQuiet (if b then s else t)
-quiet_if true s t qs qt = qs
-quiet_if false s t qs qt = qt
+call_unsaid C V known f args w span (ungiven u) b e = let h = sym e ∙ u w span (has_key args) (arguments C V (arguments_row C (callee C f) None) 0 known args).got in absurd (cc)
 
 -- a call whose arguments are not typed is not typed
-called_none : (classes : List ClassEntry) (w : Wanted) (span : Span) (keyed : Bool) (f : Callee) (p : Option TypedExpr) (b : TypedExpr) → (called classes w span keyed f p None).got ≡ Some b → ⊥
-called_none classes w span keyed (function x i s) p b e = cc
-called_none classes w span keyed print p b e = cc
-called_none classes w span keyed input p b e = cc
-called_none classes w span keyed range p b e = cc
-called_none classes w span keyed (single f) p b e = cc
-called_none classes w span keyed (exception x) p b e = cc
-called_none classes w span keyed (method m) None b e = cc
-called_none classes w span keyed (method m) (Some a) b e = cc
-called_none classes w span keyed voiceless p b e = cc
-called_none classes w span keyed uncalled p b e = cc
-called_none classes w span keyed value None b e = cc
-called_none classes w span keyed value (Some a) b e = cc
+module _ (C : Context) where
+  had_none : (w : Wanted) (span : Span) (keyed : Bool) (m : List ℕ) (e : TypedExpr) (h : Had) → (had_call C w span keyed m e h None).got ≡ None
+  had_none w span keyed m e (has_method f) = by (some_signature (slice_get C.signatures f))
+    where
+      by : (s : Option Signature) → (signed_call C w span keyed m e s None).got ≡ None
+      by None = refl
+      by (Some s) = refl
+  had_none w span keyed m e (has_append t) = refl
+  had_none w span keyed m e (has_pop t) = refl
+  had_none w span keyed m e (has_attribute t) = refl
+  had_none w span keyed m e has_untyped = refl
+  had_none w span keyed m e none_has_not = refl
+  had_none w span keyed m e has_not = refl
+
+  method_none : (w : Wanted) (span : Span) (keyed : Bool) (m : List ℕ) (e : TypedExpr) → (method_call C w span keyed m e None).got ≡ None
+  method_none w span keyed m e = by (bytes_eq m (codes "__init__"))
+    where
+      by : (b : Bool) → (if b then rule span (refused not_callable) (positional span keyed None) else had_call C w span keyed m e (look_up C.member (type_of e) m) None).got ≡ None
+      by true = refl
+      by false = had_none w span keyed m e (look_up C.member (type_of e) m)
+
+  called_none : (w : Wanted) (span : Span) (keyed : Bool) (f : Callee) (p : Option TypedExpr) (b : TypedExpr) → (called C w span keyed f p None).got ≡ Some b → ⊥
+  called_none w span keyed (function x i s) p b e = cc
+  called_none w span keyed (class x n params) p b e = cc
+  called_none w span keyed (trait x params) p b e = cc
+  called_none w span keyed (super_init next params) p b e = cc
+  called_none w span keyed print p b e = cc
+  called_none w span keyed input p b e = cc
+  called_none w span keyed range p b e = cc
+  called_none w span keyed (single f) p b e = cc
+  called_none w span keyed (exception x) p b e = cc
+  called_none w span keyed (method m) None b e = cc
+  called_none w span keyed (method m) (Some a) b e = let h = sym e ∙ method_none w span keyed m a in cc
+  called_none w span keyed voiceless p b e = cc
+  called_none w span keyed uncalled p b e = cc
+  called_none w span keyed value None b e = cc
+  called_none w span keyed value (Some a) b e = cc
 
 -- ---- expressions
 
@@ -231,10 +301,10 @@ module _ (C : Context) (V : VarSorts) where
     quiet_node w known span (tree.TupleOf es) = quiet_rule span _ (items C V (parts_row w (count es)) 0 known es) (quiet_items (parts_row w (count es)) 0 known es)
     quiet_node w known span (tree.Index e i) = quiet_rule span _ (both (typing C V free known e) (typing C V free known i)) (quiet_both (typing C V free known e) (typing C V free known i) (quiet_typing free known e) (quiet_typing free known i))
     quiet_node w known span (tree.Call f args) =
-        quiet_after (part C V known f) (λ p. behind (arguments C V (arguments_row (callee C f) p) 0 known args) (called C.classes w span (has_key args) (callee C f) p)) (quiet_part known f)
-        (λ p. quiet_after (arguments C V (arguments_row (callee C f) p) 0 known args) (called C.classes w span (has_key args) (callee C f) p) (quiet_arguments (arguments_row (callee C f) p) 0 known args) (λ es. quiet_called C.classes w span (has_key args) (callee C f) p es) (λ none b e. absurd (called_none C.classes w span (has_key args) (callee C f) p b e)))
+        quiet_after (part C V known f) (λ p. behind (arguments C V (arguments_row C (callee C f) p) 0 known args) (called C w span (has_key args) (callee C f) p)) (quiet_part known f)
+        (λ p. quiet_after (arguments C V (arguments_row C (callee C f) p) 0 known args) (called C w span (has_key args) (callee C f) p) (quiet_arguments (arguments_row C (callee C f) p) 0 known args) (λ es. quiet_called C w span (has_key args) (callee C f) p es) (λ none b e. absurd (called_none C w span (has_key args) (callee C f) p b e)))
         (λ none b e. call_unsaid C V known f args w span (lost C V known f) b e)
-    quiet_node w known span (tree.Attr e a) = quiet_rule span _ (typing C V free known e) (quiet_typing free known e)
+    quiet_node w known span (tree.Attr e a) = quiet_behind (typing C V free known e) (attribute C span a) (quiet_typing free known e) refl (λ t. quiet_read C.classes span t a (look_up C.member (type_of t) a))
     quiet_node w known span (tree.DictOf es) =
         quiet_rule span _ (entries C V (key_wanted (entry_sorts w)) (value_wanted (entry_sorts w)) known es) (quiet_entries (key_wanted (entry_sorts w)) (value_wanted (entry_sorts w)) known es)
 
@@ -261,7 +331,7 @@ module _ (C : Context) (V : VarSorts) where
     quiet_part known (at n span) = quiet_if (is_named C n) (receiver C V known n) (node_typing C V free known span n) (quiet_receiver known n) (quiet_node free known span n)
 
     quiet_receiver : (known : List ℕ) (n : ExprNode) → IsQuiet (receiver C V known n)
-    quiet_receiver known (tree.Attr e m) = quiet_typing free known e
+    quiet_receiver known (tree.Attr e m) = quiet_if (is_super_init C (tree.Attr e m)) silent (typing C V free known e) quiet_silent (quiet_typing free known e)
     quiet_receiver known (tree.Int n) = quiet_silent
     quiet_receiver known (tree.Str n) = quiet_silent
     quiet_receiver known tree.True = quiet_silent

@@ -1,6 +1,7 @@
 -- Small expressions, typed by computing: of each rule one that holds and one for each way to break it.
-use Rattle.std.proofs.Common.{◌≡◌, refl, ℕ, pos, List, [], ◌∷◌, codes, Some, None}
+use Rattle.std.proofs.Common.{◌≡◌, refl, ℕ, zero, suc, pos, List, [], ◌∷◌, true, false, codes, Option, Some, None}
 use Rattle.std.specs.Prelude.{unwrap_or}
+use Rattle.std.specs.Fmt.{decimal}
 use Rattle.std.specs.Map.{lookup}
 use Rattle.std.specs.Str.{bytes_eq}
 use Rattle.value_core.specs.declared.exception.ExcClass.TheVariants as exception
@@ -17,9 +18,12 @@ use Rattle.py_check_context.specs.declared.scope.Meaning.{Meaning}
 use Rattle.py_check_context.specs.declared.scope.Meaning.TheVariants as meaning
 use Rattle.py_check_context.specs.declared.scope.Builtin.TheVariants as builtin
 use Rattle.py_check_context.specs.declared.scope.Imported.TheVariants as imported
+use Rattle.py_typed.specs.Classes.{ClassEntry}
+use Rattle.py_check_context.specs.Members as member
+use Rattle.py_check_context.specs.Members.{Member, Inside}
 use Rattle.py_check_context.specs.Context.{Context, VarSorts, unset, untyped, has, free, test, wants, dropped}
 use Rattle.py_check_messages.specs.Seen.{Seen, diag, is, silent, fails}
-use Rattle.py_check_messages.specs.Messages.{not_a_value, no_type_yet, unsupported_operand, unsupported_operands, only_for_none, no_common_type, wrong_item, empty_display, no_common_item, wrong_entry, no_common_entry, invalid_tuple, no_attribute, not_indexable, tuple_index, invalid_index, keyword_argument, not_callable, range_outside_for, wrong_number, wrong_argument, gives_nothing}
+use Rattle.py_check_messages.specs.Messages.{not_a_value, no_type_yet, unsupported_operand, unsupported_operands, only_for_none, no_common_type, wrong_item, empty_display, no_common_item, wrong_entry, no_common_entry, invalid_tuple, no_attribute, none_has_no_attribute, no_instance, not_indexable, tuple_index, invalid_index, keyword_argument, not_callable, range_outside_for, wrong_number, wrong_argument, gives_nothing}
 use Rattle.py_check_expressions.specs.Typing.{typing}
 
 -- all at one place
@@ -67,6 +71,9 @@ c = record {
   meaning = λ x. unwrap_or (lookup (bytes_eq x) names) meaning.Unknown;
   signatures = Some (record { params = sort.I64 ∷ []; ret = sort.Int }) ∷ Some (record { params = []; ret = sort.Nothing }) ∷ None ∷ [];
   classes = [];
+  member = λ n a. None;
+  init = λ n. None;
+  inside = None;
 }
 
 abbrev vars : VarSorts
@@ -425,3 +432,132 @@ no_such_method = refl
 
 method_uncalled : types (e (tree.Attr (name (codes "l")) (codes "pop"))) ≡ fails p (not_a_value (codes "pop"))
 method_uncalled = refl
+
+-- ---- classes
+
+-- a class A with the attributes n: int, u without a type and k that is not declared, and the method m(i64) -> int; its `__init__`
+-- takes an i64; a trait B whose `__init__` has no signature; a: A, o: Optional[A]; in the `__init__` of A, behind which there is none
+abbrev classes : List ClassEntry
+classes =
+    record { name = codes "A"; is_trait = false; bases = []; attributes = []; methods = [] }
+    ∷ record { name = codes "B"; is_trait = true; bases = []; attributes = []; methods = [] } ∷ []
+
+abbrev members : List (List ℕ × Member)
+members =
+    (codes "n", member.attribute sort.Int) ∷ (codes "u", member.untyped) ∷ (codes "k", member.unknown p) ∷ (codes "m", member.method 0)
+    ∷ (codes "g", member.method 1) ∷ (codes "bad", member.method 2) ∷ []
+
+abbrev inits : ℕ → Option ℕ
+inits zero = Some 3
+inits (suc n) = Some 2
+
+abbrev among : Option Inside → Context
+among inside = record {
+  meaning = λ x. unwrap_or (lookup (bytes_eq x) ((codes "A", meaning.Class 0) ∷ (codes "B", meaning.Class 1) ∷ (codes "C", meaning.UntypedClass) ∷ (codes "super", meaning.Builtin builtin.Super) ∷ (codes "a", meaning.Local 0) ∷ (codes "o", meaning.Local 1) ∷ [])) meaning.Unknown;
+  signatures =
+      Some (record { params = sort.I64 ∷ []; ret = sort.Int }) ∷ Some (record { params = []; ret = sort.Nothing }) ∷ None
+      ∷ Some (record { params = sort.I64 ∷ []; ret = sort.Nothing }) ∷ [];
+  classes = classes;
+  member = λ n a. lookup (bytes_eq a) members;
+  init = inits;
+  inside = inside;
+}
+
+abbrev in_init : Option ℕ → Context
+in_init class = among (Some (record { class = class; first = Some (codes "a"); is_init = true; declaring = λ a. None; next_init = None }))
+
+abbrev held : VarSorts
+held = record { locals = has (sort.Instance 0) ∷ has (sort.Optional (sort.Instance 0)) ∷ []; globals = [] }
+
+abbrev found : ExprTree → Seen TypedExpr
+found x = typing (in_init (Some 0)) held free [] x
+
+abbrev alone : Context → ExprTree → Seen TypedExpr
+alone c x = typing c held dropped [] x
+
+abbrev of : List ℕ → List ℕ → ExprTree
+of x a = e (tree.Attr (name x) a)
+
+abbrev typed_a : TypedExpr
+typed_a = t (node.Local 0) (sort.Instance 0)
+
+attribute_read : found (of (codes "a") (codes "n")) ≡ is (t (node.Attr typed_a (codes "n")) sort.Int)
+attribute_read = refl
+
+attribute_without_type : found (of (codes "a") (codes "u")) ≡ silent
+attribute_without_type = refl
+
+attribute_undeclared : found (of (codes "a") (codes "k")) ≡ silent
+attribute_undeclared = refl
+
+method_read : found (of (codes "a") (codes "m")) ≡ fails p (not_a_value (codes "m"))
+method_read = refl
+
+attribute_missing : found (of (codes "a") (codes "z")) ≡ fails p (no_attribute classes (sort.Instance 0) (codes "z"))
+attribute_missing = refl
+
+optional_read : found (of (codes "o") (codes "n")) ≡ fails p (none_has_no_attribute classes (sort.Optional (sort.Instance 0)) (codes "n"))
+optional_read = refl
+
+optional_undeclared : found (of (codes "o") (codes "k")) ≡ silent
+optional_undeclared = refl
+
+optional_missing : found (of (codes "o") (codes "z")) ≡ fails p (no_attribute classes (sort.Optional (sort.Instance 0)) (codes "z"))
+optional_missing = refl
+
+abbrev sent : List ℕ → List ℕ → Arguments → ExprTree
+sent x m args = e (tree.Call (of x m) args)
+
+method_called : found (sent (codes "a") (codes "m") (argument (number 1))) ≡ is (t (node.Method typed_a (codes "m") (node.exprs_of (t (node.Coerce (typed_number 1)) sort.I64 ∷ []))) sort.Int)
+method_called = refl
+
+method_without_argument : found (sent (codes "a") (codes "m") no_arguments) ≡ fails p (wrong_number (codes "m") (decimal 1))
+method_without_argument = refl
+
+method_gives_nothing : found (sent (codes "a") (codes "g") no_arguments) ≡ fails p (gives_nothing (codes "g"))
+method_gives_nothing = refl
+
+method_without_signature : found (sent (codes "a") (codes "bad") no_arguments) ≡ silent
+method_without_signature = refl
+
+attribute_called : found (sent (codes "a") (codes "n") no_arguments) ≡ fails p not_callable
+attribute_called = refl
+
+init_called : found (sent (codes "a") (codes "__init__") (argument (number 1))) ≡ fails p not_callable
+init_called = refl
+
+optional_called : found (sent (codes "o") (codes "m") (argument (number 1))) ≡ fails p (none_has_no_attribute classes (sort.Optional (sort.Instance 0)) (codes "m"))
+optional_called = refl
+
+class_called : found (call (codes "A") (argument (number 1))) ≡ is (t (node.Make 0 (node.exprs_of (t (node.Coerce (typed_number 1)) sort.I64 ∷ []))) (sort.Instance 0))
+class_called = refl
+
+class_misfits : found (call (codes "A") (argument text)) ≡ fails p (wrong_argument classes 1 (codes "A") sort.Str (codes "i64"))
+class_misfits = refl
+
+trait_called : found (call (codes "B") no_arguments) ≡ fails p (no_instance (codes "B"))
+trait_called = refl
+
+refused_class_called : found (call (codes "C") no_arguments) ≡ silent
+refused_class_called = refl
+
+abbrev super_init : ExprTree
+super_init = e (tree.Call (e (tree.Attr (e (tree.Call (name (codes "super")) no_arguments)) (codes "__init__"))) no_arguments)
+
+super_init_alone : alone (in_init (Some 0)) super_init ≡ is (t (node.SuperInit None node.no_exprs) sort.Nothing)
+super_init_alone = refl
+
+super_init_as_value : found super_init ≡ fails p (gives_nothing (codes "__init__"))
+super_init_as_value = refl
+
+super_init_in_trait : alone (in_init (Some 1)) super_init ≡ fails p not_callable
+super_init_in_trait = refl
+
+super_init_in_refused_class : alone (in_init None) super_init ≡ silent
+super_init_in_refused_class = refl
+
+super_init_outside : alone (among None) super_init ≡ fails p not_callable
+super_init_outside = refl
+
+super_called : found (call (codes "super") no_arguments) ≡ fails p not_callable
+super_called = refl

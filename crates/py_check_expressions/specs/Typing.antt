@@ -22,7 +22,7 @@ use Rattle.py_check_operators.specs.Choices.{junction, operand, choice}
 use Rattle.py_check_displays.specs.Displays.{item_sort, items_row, list_display, parts_row, tuple_display}
 use Rattle.py_check_displays.specs.Dicts.{entry_sorts, key_wanted, value_wanted, dict_display}
 use Rattle.py_check_displays.specs.Indexing.{literal, indexing}
-use Rattle.py_check_calls.specs.Callees.{callee, is_named, has_key}
+use Rattle.py_check_calls.specs.Callees.{callee, is_named, is_super_init, has_key}
 use Rattle.py_check_calls.specs.Methods.{attribute}
 use Rattle.py_check_calls.specs.Calls.{arguments_row, called}
 
@@ -63,8 +63,8 @@ module _ (c : Context) (vars : VarSorts) where
         rule span (tuple_display c.classes (parts_row w (count es)) span) (items (parts_row w (count es)) 0 known es)
     node_typing w known span (tree.Index e i) = rule span (indexing c.classes span (literal i)) (both (typing free known e) (typing free known i))
     node_typing w known span (tree.Call f args) =
-        behind (part known f) (λ p. behind (arguments (arguments_row (callee c f) p) 0 known args) (called c.classes w span (has_key args) (callee c f) p))
-    node_typing w known span (tree.Attr e a) = rule span (attribute c.classes a) (typing free known e)
+        behind (part known f) (λ p. behind (arguments (arguments_row c (callee c f) p) 0 known args) (called c w span (has_key args) (callee c f) p))
+    node_typing w known span (tree.Attr e a) = behind (typing free known e) (attribute c span a)
 
     -- expressions in a row, from the place i on
     pub items : WantedRow → ℕ → List ℕ → ExprTrees → Seen (List TypedExpr)
@@ -91,10 +91,10 @@ module _ (c : Context) (vars : VarSorts) where
     arguments row i known (argument_then e more) = row_then (typing (wanted_in row i) known e) (arguments row (suc i) known more)
     arguments row i known (keyed_then k e more) = row_then (typing (wanted_in row i) known e) (arguments row (suc i) known more)
 
-    -- what is typed of a callee: the value of a method, and what is no name; a variable is read
+    -- what is typed of a callee: the value of a method, and what is no name; a variable is read. Of `super().__init__` nothing is
     pub part : List ℕ → ExprTree → Seen TypedExpr
     part known (at node span) = if is_named c node then receiver known node else node_typing free known span node
 
     pub receiver : List ℕ → ExprNode → Seen TypedExpr
-    receiver known (tree.Attr e m) = typing free known e
+    receiver known (tree.Attr e m) = if is_super_init c (tree.Attr e m) then silent else typing free known e
     receiver known node = silent

@@ -22,7 +22,9 @@ ghost use Rattle.py_check_expressions.specs.TypingSeen.{context_in, typing_in, t
 
 use crate::environments::Environment;
 use crate::leaves::{flag, nothing, number, text};
-use py_check_calls::{CallSite, arguments_row, attribute, called, callee_of, has_key, is_named};
+use py_check_calls::{
+    CallSite, arguments_row, attribute, called, callee_of, has_key, is_named, is_super_init,
+};
 use py_check_coercions::with_item;
 use py_check_context::{Row, Want, wanted_at};
 use py_check_displays::{
@@ -398,10 +400,10 @@ fn member(
     a: &Name,
     faults: &mut Many<Diag>,
 ) -> Result<Option<Box<TExpr>>, Memory>
-    ensures { IfOk result (λ t. Tells boxed t faults.old faults.new (rule span (methods.attribute (context_in environment.entry).classes a.now) (typing_in environment.entry free (expr_tree e.now)))) }
+    ensures { IfOk result (λ t. Tells boxed t faults.old faults.new (behind (typing_in environment.entry free (expr_tree e.now)) (methods.attribute (context_in environment.entry) span a.now))) }
 {
     let e = expression(alloc, environment, Want::Free, e, faults)?;
-    attribute(alloc, environment.scope.classes, span, a, e, faults)
+    attribute(alloc, environment.scope, span, a, e, faults)
 }
 
 // A call.
@@ -415,21 +417,21 @@ fn call(
     args: &[Arg],
     faults: &mut Many<Diag>,
 ) -> Result<Option<Box<TExpr>>, Memory>
-    ensures { IfOk result (λ t. Tells boxed t faults.old faults.new (behind (part_in environment.entry (expr_tree f.now)) (λ p. behind (arguments_in environment.entry (calls.arguments_row (callees.callee (context_in environment.entry) (expr_tree f.now)) p) (arguments_of (map arg_tree args.now))) (calls.called (context_in environment.entry).classes (wanted want.entry) span (callees.has_key (arguments_of (map arg_tree args.now))) (callees.callee (context_in environment.entry) (expr_tree f.now)) p)))) }
+    ensures { IfOk result (λ t. Tells boxed t faults.old faults.new (behind (part_in environment.entry (expr_tree f.now)) (λ p. behind (arguments_in environment.entry (calls.arguments_row (context_in environment.entry) (callees.callee (context_in environment.entry) (expr_tree f.now)) p) (arguments_of (map arg_tree args.now))) (calls.called (context_in environment.entry) (wanted want.entry) span (callees.has_key (arguments_of (map arg_tree args.now))) (callees.callee (context_in environment.entry) (expr_tree f.now)) p)))) }
 {
     let callee = callee_of(environment.scope, f);
     let part = part(alloc, environment, f, faults)?;
-    let asked = arguments_row(callee, &part);
+    let asked = arguments_row(environment.scope, callee, &part);
     let es = arguments(alloc, environment, args, asked, faults)?;
     let site = CallSite {
-        classes: environment.scope.classes,
+        scope: environment.scope,
         span,
         want,
     };
     called(alloc, site, has_key(args), callee, part, es, faults)
 }
 
-// What is typed of a callee: the value of a method, and what is no name; a variable is read.
+// What is typed of a callee: the value of a method, and what is no name; a variable is read. Of `super().__init__` nothing is.
 #[cycle(expression)]
 fn part(
     alloc: Global,
@@ -457,7 +459,13 @@ fn receiver(
     ensures { IfOk result (λ t. Tells boxed t faults.old faults.new (receiver_in environment.entry (expr_node f.now))) }
 {
     match f {
-        ExprKind::Attr(e, _) => expression(alloc, environment, Want::Free, e, faults),
+        ExprKind::Attr(e, _) => {
+            if is_super_init(environment.scope, f) {
+                Ok(None)
+            } else {
+                expression(alloc, environment, Want::Free, e, faults)
+            }
+        }
         _ => Ok(None),
     }
 }

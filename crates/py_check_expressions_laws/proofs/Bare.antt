@@ -33,11 +33,11 @@ use Rattle.py_check_displays.specs.Displays.{item_sort, items_row, list_of, item
 use Rattle.py_check_displays.specs.Dicts.{entry_sorts, key_wanted, value_wanted, unfit_entry, entry_fault, dict_of, common_entry, are_entry_types, joined_dict, inferred_dict, dict_display}
 use Rattle.py_check_displays.specs.Indexing as indexes
 use Rattle.py_check_displays.specs.Indexing.{Literal, literal, keyed_by, item_at, part_at, parts_of, part_made, part_of, is_tuple, indexing}
-use Rattle.py_check_calls.specs.Methods.{is_list_method, attribute}
+use Rattle.py_check_calls.specs.Methods.{Had, has_attribute, has_method, has_append, has_pop, has_untyped, none_has_not, has_not, look_up, read, attribute}
 use Rattle.py_check_expressions.specs.Typing.{typing, operands, items, entries, count}
 use Rattle.py_check_expressions_laws.specs.WellTyped.{Within}
 use Rattle.py_check_expressions_laws.specs.Bare.{is_itself, are_themselves, is_bare}
-use Rattle.py_check_expressions_laws.proofs.Given.{Gives, gives_is, gives_silent, gives_fails, gives_both, gives_made, gives_rule, gives_ruled_all, gives_compare, gives_row}
+use Rattle.py_check_expressions_laws.proofs.Given.{Gives, gives_is, gives_silent, gives_fails, gives_both, gives_made, gives_behind, gives_rule, gives_ruled_all, gives_compare, gives_row}
 use Rattle.py_check_expressions_laws.proofs.Inside.{within_none, within_append, within_shared}
 use Rattle.py_check_expressions_laws.proofs.Telling.{ok_same, truth_tells, coerced_tells, junction_is, pair_tells}
 
@@ -154,8 +154,14 @@ indexing_makes : (cs : List ClassEntry) (span : Span) (l : Option Literal) (p : 
 indexing_makes cs span l p =
     makes_if IsMade (is_tuple (type_of p.0)) (part_of span l p.0) (indexes.item_of cs span p.0 p.1) (part_makes span p.0 (part_at l (parts_of (type_of p.0)))) (item_makes cs span p.0 p.1 (keyed_by (type_of p.0)))
 
-attribute_makes : (cs : List ClassEntry) (a : List ℕ) (e : TypedExpr) → Makes IsMade (attribute cs a e)
-attribute_makes cs a e = makes_if IsMade (is_list_method (type_of e) a) (Err (message.not_a_value a)) (Err (message.no_attribute cs (type_of e) a)) tt tt
+read_makes : (cs : List ClassEntry) (span : Span) (e : TypedExpr) (a : List ℕ) (h : Had) → Gives (read cs span e a h) IsMade
+read_makes cs span e a (has_attribute t) = gives_is IsMade _ (record { leaf = refl; mute = refl })
+read_makes cs span e a (has_method f) = gives_fails IsMade span _
+read_makes cs span e a (has_append t) = gives_fails IsMade span _
+read_makes cs span e a (has_pop t) = gives_fails IsMade span _
+read_makes cs span e a has_untyped = gives_silent IsMade
+read_makes cs span e a none_has_not = gives_fails IsMade span _
+read_makes cs span e a has_not = gives_fails IsMade span _
 
 -- a rule over any parts
 pub gives_makes : {A : Type 0} (P : TypedExpr → Type 0) (span : Span) (f : A → Result TypedExpr Message) (s : Seen A) → ((a : A) → Makes P (f a)) → Gives (rule span f s) P
@@ -267,7 +273,7 @@ module _ (C : Context) (V : VarSorts) where
   made_item w known e i span = gives_makes IsMade span (indexing C.classes span (literal i)) (both (typing C V free known e) (typing C V free known i)) (indexing_makes C.classes span (literal i))
 
   pub made_attribute : (w : Wanted) (known : List ℕ) (e : ExprTree) (a : List ℕ) (span : Span) → Gives (typing C V w known (at (tree.Attr e a) span)) IsMade
-  made_attribute w known e a span = gives_makes IsMade span (attribute C.classes a) (typing C V free known e) (attribute_makes C.classes a)
+  made_attribute w known e a span = gives_behind (λ (t : TypedExpr). Unit {0}) IsMade (typing C V free known e) (attribute C span a) (record { each = λ t q. tt }) (gives_silent IsMade) (λ t u. read_makes C.classes span t a (look_up C.member (type_of t) a))
 
   -- what is a local, or None, is so as it is written
   leaf_typing : (w : Wanted) (known : List ℕ) (e : ExprTree) → is_itself e ≡ true → Gives (typing C V w known e) (LeafOf e)

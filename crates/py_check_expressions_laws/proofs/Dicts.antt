@@ -1,5 +1,5 @@
 -- A dict that is typed stands well typed, by its keys and values, each in a row.
-use Rattle.std.proofs.Common.{◌≡◌, ℕ, suc, Bool, true, false, not, ◌&&◌, List, [], ◌∷◌, length, map, Option, Some, None, Ok, Err, refl, ap, sym, ◌∙◌, subst, if◌then◌else◌}
+use Rattle.std.proofs.Common.{◌≡◌, ℕ, suc, Bool, true, false, not, ◌&&◌, List, [], ◌∷◌, length, map, Option, Some, None, Ok, refl, ap, sym, ◌∙◌, subst, if◌then◌else◌}
 use Rattle.std.proofs.lemmas.Bool.{and_from}
 use Rattle.std.specs.Option.{option_map, option_zip}
 use Rattle.py_syntax.specs.declared.token.Span.{Span}
@@ -19,7 +19,6 @@ use Rattle.py_check_coercions.specs.Values.{coerced}
 use Rattle.py_check_coercions.specs.Rows.{unfit}
 use Rattle.py_check_displays.specs.Displays.{common}
 use Rattle.py_check_displays.specs.Dicts.{entry_sorts, key_wanted, value_wanted, EntryMisfit, entry_fits, unfit_entry, entry_fault, changed_entry, dict_of, expected_dict, keys, values, are_entry_types, joined_dict, inferred_dict, dict_display}
-use Rattle.py_check_expressions_laws.specs.WellTyped.{Within}
 use Rattle.py_check_expressions_laws.proofs.Types.{result_of_value, value_of_result, value_not_nothing}
 use Rattle.py_check_expressions_laws.proofs.Stands.{stands_made, value_type, coerced_stands}
 use Rattle.py_check_expressions_laws.proofs.Rows.{type_coerced, unfit_here, taken_of_fit, fit_of_taken, unfit_none, free_fits, is_sought, sought_of_asked, AllStand, RowSound, Sound, row_stands, common_holds}

@@ -10,5 +10,6 @@ pub mod Nodes
 pub mod Dicts
 pub mod Called
 pub mod Sound
+pub mod Faults
 pub mod Layers
 pub mod Bare

@@ -33,7 +33,7 @@ use Rattle.py_check_expressions_laws.proofs.Inside.{either, within_append}
 use Rattle.py_check_expressions_laws.proofs.Types.{clash, result_of_value, value_not_nothing, number_result, join_result, part_value, signed_fits}
 use Rattle.py_check_expressions_laws.proofs.Stands.{stands_made, value_type, coerced_stands, truth_is_bool, value_good}
 use Rattle.py_check_expressions_laws.proofs.Telling.{done, ok_same, truth_tells, coerced_tells, within_same, joined_made}
-use Rattle.py_check_expressions_laws.proofs.Rows.{all_fits, is_sought, sought_type, each_fits, type_coerced, free_fits, free_unchanged, changed_length, all_fit, AllStand, RowSound, RowAsked, RowValued, Sound, row_stands, changed_all, common_holds, list_stands, tuple_stands, none_bare}
+use Rattle.py_check_expressions_laws.proofs.Rows.{all_fits, is_sought, sought_type, each_fits, type_coerced, free_fits, free_unchanged, changed_length, all_fit, AllStand, RowSound, RowAsked, RowValued, Sound, row_stands, changed_all, common_holds, list_stands, tuple_stands, none_bare, hold_nothing, none_nothing, row_whole}
 
 -- a test before a result
 pub if_ok : {A : Type 0} (c : Bool) (x b : A) (m : Message) → (if c then Ok x else Err m) ≡ Ok b → (c ≡ true) × (x ≡ b)
@@ -329,6 +329,10 @@ module _ (m : TypedModule) (locals : List Variable) (init : Option ℕ) where
   pub along_asked : (ts : Sorts) → are_value_types (length m.classes.classes) ts ≡ true → RowAsked m locals init (along (listed_sorts ts))
   along_asked ts h i = asked_at ts i (slice_get (listed_sorts ts) i) refl h
 
+  not_so : (b : Bool) → not b ≡ true → b ≡ false
+  not_so true h = absurd (cc)
+  not_so false h = refl
+
   some_not_none : (f : Misfit) → Some f ≡ None → ⊥
   some_not_none f e = cc
 
@@ -344,10 +348,14 @@ module _ (m : TypedModule) (locals : List Variable) (init : Option ℕ) where
       by (Some f) u r =
           let k : kept_row m.classes.classes (along (listed_sorts ts)) es ≡ along [] = ap (λ o. if is_none o then along (listed_sorts ts) else along []) u in
           subst (Sound m locals init (wants (sort.TupleOf ts)) known) (ap (λ (row : WantedRow). tuple_of span (changed_row row 0 es)) (sym k) ∙ r.2)
-          (λ others wi taken. absurd (some_not_none f (sym u ∙ either
-          (or_cases (all_same m.classes.classes (sorts_of (map type_of (changed_row (along []) 0 es))) ts) (all_fits m.classes.classes (sorts_of (map type_of (changed_row (along []) 0 es))) ts) taken)
-          (λ h. all_fit m.classes.classes (listed_sorts ts) 0 es ts refl (sym (ap (λ l. all_same m.classes.classes (sorts_of (map type_of l)) ts) (free_unchanged 0 es)) ∙ h))
-          (λ h. each_fits m.classes.classes (listed_sorts ts) 0 es ts refl (sym (ap (λ l. all_fits m.classes.classes (sorts_of (map type_of l)) ts) (free_unchanged 0 es)) ∙ h)))))
+          (λ others wi taken. either
+          (or_cases (all_same m.classes.classes (sorts_of (map type_of (changed_row (along []) 0 es))) ts) (all_fits m.classes.classes (sorts_of (map type_of (changed_row (along []) 0 es))) ts || not (hold_nothing (sorts_of (map type_of (changed_row (along []) 0 es))))) taken)
+          (λ s. absurd (some_not_none f (sym u ∙ all_fit m.classes.classes (listed_sorts ts) 0 es ts refl (sym (ap (λ l. all_same m.classes.classes (sorts_of (map type_of l)) ts) (free_unchanged 0 es)) ∙ s))))
+          (λ s. either (or_cases (all_fits m.classes.classes (sorts_of (map type_of (changed_row (along []) 0 es))) ts) (not (hold_nothing (sorts_of (map type_of (changed_row (along []) 0 es))))) s)
+          (λ s. absurd (some_not_none f (sym u ∙ each_fits m.classes.classes (listed_sorts ts) 0 es ts refl (sym (ap (λ l. all_fits m.classes.classes (sorts_of (map type_of l)) ts) (free_unchanged 0 es)) ∙ s))))
+          (λ s.
+          let whole : hold_nothing (sorts_of (map type_of es)) ≡ false = ap (λ l. hold_nothing (sorts_of (map type_of l))) (sym (free_unchanged 0 es)) ∙ not_so (hold_nothing (sorts_of (map type_of (changed_row (along []) 0 es)))) s in
+          subst (λ l. stands m locals init false others (tuple_of span l) ≡ true) (sym (free_unchanged 0 es)) (tuple_stands m locals init others span es (row_whole m locals init (along (listed_sorts ts)) 0 known others es h wi whole) (none_nothing (map type_of es) whole) r.0))))
 
   pub tuple_sound : (w : Wanted) (known : List ℕ) (span : Span) (count : ℕ) (es : List TypedExpr) (e : TypedExpr) → is_sought (length m.classes.classes) w ≡ true → RowSound m locals init (parts_row w count) 0 known es → tuple_display m.classes.classes (parts_row w count) span es ≡ Ok e → Sound m locals init w known e
   tuple_sound (wants (sort.TupleOf ts)) known span count es e asked h g = by (length (listed_sorts ts) == count) h g

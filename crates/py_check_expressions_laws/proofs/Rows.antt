@@ -1,6 +1,6 @@
 -- Typed expressions in a row: all of them are values, and so they are once they are changed to what is asked for.
 use Rattle.std.proofs.Common.{◌≡◌, ℕ, suc, Bool, true, false, not, ◌&&◌, ◌||◌, List, [], ◌∷◌, length, map, drop, slice_get, Option, Some, None, refl, ap, sym, ◌∙◌, subst, if◌then◌else◌, nat_lt}
-use Rattle.std.proofs.lemmas.Bool.{and_from, or_parts, or_left}
+use Rattle.std.proofs.lemmas.Bool.{and_from, or_parts, or_left, or_right}
 use Rattle.std.proofs.lemmas.Option.{same_Some}
 use Rattle.std.specs.List.{list_any}
 use Rattle.py_syntax.specs.declared.token.Span.{Span}
@@ -89,10 +89,39 @@ all_fits classes no_sorts no_sorts = true
 all_fits classes (sort_then s ss) (sort_then t ts) = fits classes s t && all_fits classes ss ts
 all_fits classes ss ts = false
 
--- several targets take a tuple whose parts fit, though the tuple as it stands is of another type
+-- None's type, and that of a tuple that has such an item
+abbrev mutual
+  pub holds_nothing : Sort → Bool
+  holds_nothing sort.Nothing = true
+  holds_nothing (sort.TupleOf ts) = hold_nothing ts
+  holds_nothing t = false
+
+  pub hold_nothing : Sorts → Bool
+  hold_nothing no_sorts = false
+  hold_nothing (sort_then t ts) = holds_nothing t || hold_nothing ts
+
+nothing_held : (t : Sort) → holds_nothing t ≡ false → is_nothing t ≡ false
+nothing_held sort.Nothing h = absurd (cc)
+nothing_held _ h = refl
+
+neither : (a b : Bool) → (a || b) ≡ false → (a ≡ false) × (b ≡ false)
+neither false false h = (refl, refl)
+neither _ _ h = absurd (cc)
+
+pub none_nothing : (ts : List Sort) → hold_nothing (sorts_of ts) ≡ false → list_any is_nothing ts ≡ false
+none_nothing [] h = refl
+none_nothing (t ∷ ts) h =
+    let r = neither (holds_nothing t) (hold_nothing (sorts_of ts)) h in
+    ap (λ b. b || list_any is_nothing ts) (nothing_held t r.0) ∙ none_nothing ts r.1
+
+abbrev pub all_parts : List ClassEntry → Wanted → Sort → Bool
+all_parts classes (wants (sort.TupleOf ts)) (sort.TupleOf ss) = all_fits classes ss ts
+all_parts classes w s = false
+
+-- several targets take a tuple whose parts fit, though the tuple as it stands is of another type; and what holds no None is typed
+-- like everywhere, though it does not fit
 abbrev pub parts_taken : List ClassEntry → Wanted → Sort → Bool
-parts_taken classes (wants (sort.TupleOf ts)) (sort.TupleOf ss) = all_fits classes ss ts
-parts_taken classes w s = false
+parts_taken classes w s = all_parts classes w s || not (holds_nothing s)
 
 abbrev pub is_held : List ClassEntry → Wanted → Sort → Bool
 is_held classes w s = is_taken classes w s || parts_taken classes w s
@@ -218,6 +247,16 @@ module _ (m : TypedModule) (locals : List Variable) (init : Option ℕ) where
   row_stands row i known others (e ∷ es) h w u =
       let r = unfit_here m.classes.classes row i e es u in
       record { first = good_in_row row i others e (h.first others w (or_left (is_taken m.classes.classes (wanted_in row i) (type_of e)) (parts_taken m.classes.classes (wanted_in row i) (type_of e)) (taken_of_fit m.classes.classes i (wanted_in row i) e r.0))); rest = row_stands row (suc i) known others es h.rest w r.1 }
+
+  -- values that hold no None stand, whether they fit or not
+  pub row_whole : (row : WantedRow) (i : ℕ) (known others : List ℕ) (es : List TypedExpr) → RowSound row i known es → Within known others → hold_nothing (sorts_of (map type_of es)) ≡ false → AllStand others es
+  row_whole row i known others [] h w n = tt
+  row_whole row i known others (e ∷ es) h w n =
+      let r = neither (holds_nothing (type_of e)) (hold_nothing (sorts_of (map type_of es))) n in
+      record {
+        first = good_in_row row i others e (h.first others w (or_right (is_taken m.classes.classes (wanted_in row i) (type_of e)) (parts_taken m.classes.classes (wanted_in row i) (type_of e)) (or_right (all_parts m.classes.classes (wanted_in row i) (type_of e)) (not (holds_nothing (type_of e))) (ap not r.0))));
+        rest = row_whole row (suc i) known others es h.rest w r.1;
+      }
 
   -- ---- lists
 

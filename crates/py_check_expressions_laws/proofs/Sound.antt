@@ -1,6 +1,8 @@
 -- What is typed is well typed, of each kind of expression.
-use Rattle.std.proofs.Common.{◌≡◌, ℕ, zero, suc, Bool, true, false, not, ◌&&◌, ◌==◌, List, [], ◌∷◌, ◌++◌, length, slice_get, Option, Some, None, Ok, Err, refl, ap, ◌∙◌, subst, if◌then◌else◌, arith}
+use Rattle.std.proofs.Common.{◌≡◌, ℕ, zero, suc, Bool, true, false, not, ◌&&◌, ◌==◌, List, [], ◌∷◌, ◌++◌, length, slice_get, Option, Some, None, refl, ap, sym, ◌∙◌, subst, if◌then◌else◌, arith}
 use Rattle.std.proofs.lemmas.Bool.{and_from, or_left}
+use Rattle.std.proofs.lemmas.Option.{same_Some}
+use Rattle.std.specs.Option.{option_map}
 use Rattle.py_syntax.specs.declared.token.Span.{Span}
 use Rattle.py_syntax.specs.declared.expression.CmpOp.{CmpOp}
 use Rattle.py_syntax.specs.Expressions as tree
@@ -13,7 +15,7 @@ use Rattle.py_typed.specs.Expressions.{TypedExpr, TypedNode, typed, type_of, com
 use Rattle.py_typed.specs.Statements.{Variable, TypedModule}
 use Rattle.py_typed.specs.Narrowing as telling
 use Rattle.py_typed.specs.Narrowing.{is_in}
-use Rattle.py_typed.specs.WellTypedExpr.{is_literal, is_type, reads_as, declared}
+use Rattle.py_typed.specs.WellTypedExpr.{is_literal, is_type, reads_as, declared, is_trait_in}
 use Rattle.py_typed.proofs.FitLemmas.{type_is_itself, and_left, and_right}
 use Rattle.std.specs.Str.{is_utf8, IsAscii}
 use Rattle.std.proofs.lemmas.Str.{is_utf8-from_IsUtf8, IsUtf8-from_ascii}
@@ -24,6 +26,7 @@ use Rattle.py_check_context.specs.declared.scope.Builtin.{Builtin}
 use Rattle.py_check_context.specs.declared.scope.Builtin.TheVariants as builtin
 use Rattle.py_check_context.specs.declared.scope.Imported.{Imported}
 use Rattle.py_check_context.specs.declared.scope.Imported.TheVariants as imported
+use Rattle.py_check_context.specs.Members.{Inside}
 use Rattle.py_check_context.specs.Context.{Context, VarSort, unset, untyped, has, VarSorts, var_at, Wanted, free, test, wants, dropped, WantedRow, along, wanted_in, some_signature}
 use Rattle.py_check_messages.specs.Seen.{silent, both, behind, made}
 use Rattle.py_check_operators.specs.Facts.{facts}
@@ -34,19 +37,19 @@ use Rattle.py_check_operators.specs.Choices.{junction, operand, choice}
 use Rattle.py_check_displays.specs.Displays.{item_sort, items_row, list_display, parts_row, tuple_display}
 use Rattle.py_check_displays.specs.Dicts.{entry_sorts, key_wanted, value_wanted, dict_display}
 use Rattle.py_check_displays.specs.Indexing.{literal, indexing}
-use Rattle.py_check_calls.specs.Callees.{callee, is_variable, has_key, function_called, builtin_called, import_called, name_called}
-use Rattle.py_check_calls.specs.Methods.{attribute, is_list_method}
+use Rattle.py_check_calls.specs.Callees.{method, uncalled, callee, is_variable, has_key, function_called, init_takes, instance_called, trait_called, next_called, class_called, is_super_init, super_called_in, super_called, builtin_called, import_called, name_called}
+use Rattle.py_check_calls.specs.Methods.{attribute}
 use Rattle.py_check_calls.specs.Calls.{arguments_row, called}
 use Rattle.py_check_expressions.specs.Typing.{typing, node_typing, items, entries, operands, arguments, part, count}
-use Rattle.py_check_expressions_laws.specs.WellTyped.{is_written, is_written_node, are_written, are_operands, are_entries, are_arguments, is_chain, is_asked, is_taken, is_good, Within, IsSigned, Describes}
-use Rattle.py_check_expressions_laws.proofs.Given.{Gives, gives_is, gives_silent, gives_fails, gives_any, gives_also, gives_both, gives_made, gives_rule, gives_ruled_all, gives_compare, gives_row, gives_after}
+use Rattle.py_check_expressions_laws.specs.WellTyped.{is_written, is_written_node, are_written, are_operands, are_entries, are_arguments, is_chain, is_asked, is_taken, is_good, Within, IsFunctionSigned, IsInitSigned, IsInside, Describes}
+use Rattle.py_check_expressions_laws.proofs.Given.{Gives, gives_is, gives_silent, gives_fails, gives_any, gives_also, gives_both, gives_made, gives_rule, gives_ruled_all, gives_compare, gives_row, gives_behind, gives_after}
 use Rattle.py_check_expressions_laws.proofs.Types.{result_of_value, reads_value}
 use Rattle.py_check_expressions_laws.proofs.Stands.{stands_made, value_type}
 use Rattle.py_check_expressions_laws.proofs.Telling.{told_typing}
 use Rattle.py_check_expressions_laws.proofs.Rows.{parts_taken, is_sought, sought_of_asked, RowSound, RowAsked, Sound}
 use Rattle.py_check_expressions_laws.proofs.Nodes.{value_sound, reads_fit, negation_sound, affirmation_sound, inversion_sound, arithmetic_sound, ChainSound, chain_sound, junction_sound, choice_sound, list_sound, tuple_sound, along_asked, indexing_sound}
 use Rattle.py_check_expressions_laws.proofs.Dicts.{key_asked, value_asked, EntriesSound, dict_sound}
-use Rattle.py_check_expressions_laws.proofs.Called.{CalleeKnown, called_sound, row_asked}
+use Rattle.py_check_expressions_laws.proofs.Called.{Takes, takes_types, MembersKnown, CalleeKnown, read_sound, called_sound, row_asked}
 
 -- the text that a module's name is
 module_name_is_ascii : IsAscii (codes "__main__")
@@ -67,12 +70,19 @@ three_parts : (a b c : Bool) → (a && b && c) ≡ true → (a ≡ true) × (b �
 three_parts true true true h = (refl, refl, refl)
 three_parts _ _ _ h = absurd (cc)
 
-module _ (means : List ℕ → Meaning) (signatures : List (Option Signature)) (V : VarSorts) (m : TypedModule) (locals : List Variable) (init : Option ℕ) where
+-- a context with other classes
+abbrev pub at_classes : Context → List ClassEntry → Context
+at_classes C k = record { meaning = C.meaning; signatures = C.signatures; classes = k; member = C.member; init = C.init; inside = C.inside }
+
+module _ (C : Context) (V : VarSorts) (m : TypedModule) (locals : List Variable) (init : Option ℕ) where
   -- the context, with the classes of the module
   abbrev here : Context
-  here = record { meaning = means; signatures = signatures; classes = m.classes.classes }
+  here = at_classes C m.classes.classes
 
-  module _ (D : Describes here V m locals) where
+  module _ (D : Describes here V m locals init) where
+    members : MembersKnown here m locals init refl
+    members = record { attributes = D.attributes_are; types = D.attributes_typed; methods = D.methods_are }
+
     abbrev S : Wanted → List ℕ → TypedExpr → Type 0
     S = Sound m locals init
 
@@ -111,25 +121,74 @@ module _ (means : List ℕ → Meaning) (signatures : List (Option Signature)) (
 
     -- ---- callees
 
-    builtin_known : (b : Builtin) → CalleeKnown m locals init (builtin_called b)
+    builtin_known : (b : Builtin) → CalleeKnown here m locals init refl (builtin_called b)
     builtin_known builtin.Print = tt
     builtin_known builtin.Input = tt
     builtin_known builtin.Len = tt
     builtin_known builtin.Range = tt
     builtin_known builtin.Str = tt
     builtin_known builtin.Int = tt
-    builtin_known _ = tt
+    builtin_known builtin.Bool = tt
+    builtin_known builtin.List = tt
+    builtin_known builtin.Dict = tt
+    builtin_known builtin.Tuple = tt
+    builtin_known builtin.Super = tt
 
-    import_known : (i : Imported) → CalleeKnown m locals init (import_called i)
+    import_known : (i : Imported) → CalleeKnown here m locals init refl (import_called i)
     import_known imported.I64 = tt
-    import_known _ = tt
+    import_known imported.Optional = tt
+    import_known imported.List = tt
+    import_known imported.Dict = tt
+    import_known imported.Tuple = tt
+    import_known imported.Trait = tt
+    import_known imported.Annotations = tt
 
-    function_known : (x : List ℕ) (i : ℕ) (o : Option Signature) → ((s : Signature) → o ≡ Some s → IsSigned m i s) → CalleeKnown m locals init (function_called x i o)
+    -- what an `__init__` takes
+    init_known : (o : Option ℕ) (params : List Sort) → ((f : ℕ) (s : Signature) → o ≡ Some f → some_signature (slice_get C.signatures f) ≡ Some s → IsInitSigned m f s) → init_takes here o ≡ Some params → Takes m locals init o params
+    init_known None params h e = sym (same_Some [] params e)
+    init_known (Some f) params h e = by (some_signature (slice_get C.signatures f)) refl e
+      where
+        by : (s : Option Signature) → some_signature (slice_get C.signatures f) ≡ s → option_map (λ t. t.params) s ≡ Some params → Takes m locals init (Some f) params
+        by None q g = absurd (cc)
+        by (Some s) q g = (s, h f s refl q, same_Some s.params params g)
+
+    instance_known : (x : List ℕ) (n : ℕ) → is_trait_in (slice_get m.classes.classes n) ≡ false → (o : Option (List Sort)) → init_takes here (C.init n) ≡ o → CalleeKnown here m locals init refl (instance_called x n o)
+    instance_known x n whole None e = tt
+    instance_known x n whole (Some params) e =
+        record { whole = whole; makes = subst (λ o. Takes m locals init o params) (sym (D.inits_are n)) (init_known (C.init n) params (D.inits_signed n) e) }
+
+    trait_known : (x : List ℕ) (n : ℕ) (o : Option (List Sort)) → init_takes here (C.init n) ≡ o → CalleeKnown here m locals init refl (trait_called x o)
+    trait_known x n None e = refl
+    trait_known x n (Some params) e = takes_types m locals init (C.init n) params (init_known (C.init n) params (D.inits_signed n) e)
+
+    class_known : (x : List ℕ) (n : ℕ) (b : Bool) → is_trait_in (slice_get m.classes.classes n) ≡ b → CalleeKnown here m locals init refl (class_called here x n b)
+    class_known x n true e = trait_known x n (init_takes here (C.init n)) refl
+    class_known x n false e = instance_known x n e (init_takes here (C.init n)) refl
+
+    next_known : (i : Inside) (n : ℕ) → C.inside ≡ Some i → IsInside m.classes.classes init n i.next_init → is_trait_in (slice_get m.classes.classes n) ≡ false → (o : Option (List Sort)) → init_takes here i.next_init ≡ o → CalleeKnown here m locals init refl (next_called i.next_init o)
+    next_known i n e k whole None q = tt
+    next_known i n e k whole (Some params) q =
+        record { class = n; here = k.is; whole = whole; behind = k.behind; takes = init_known i.next_init params (λ f s a b. D.next_signed i f s e a b) q }
+
+    super_known : (o : Option Inside) → C.inside ≡ o → CalleeKnown here m locals init refl (super_called here o)
+    super_known None e = tt
+    super_known (Some i) e = by i.is_init refl i.class refl
+      where
+        in_class : (n : ℕ) (b : Bool) → is_trait_in (slice_get m.classes.classes n) ≡ b → IsInside m.classes.classes init n i.next_init → CalleeKnown here m locals init refl (if b then uncalled else next_called i.next_init (init_takes here i.next_init))
+        in_class n true q k = tt
+        in_class n false q k = next_known i n e k q (init_takes here i.next_init) refl
+
+        by : (b : Bool) → i.is_init ≡ b → (o : Option ℕ) → i.class ≡ o → CalleeKnown here m locals init refl (if b then super_called_in here o i.next_init else uncalled)
+        by false q o r = tt
+        by true q None r = tt
+        by true q (Some n) r = in_class n (is_trait_in (slice_get m.classes.classes n)) refl (D.inside_is i n e q r)
+
+    function_known : (x : List ℕ) (i : ℕ) (o : Option Signature) → ((s : Signature) → o ≡ Some s → IsFunctionSigned m i s) → CalleeKnown here m locals init refl (function_called x i o)
     function_known x i None h = tt
     function_known x i (Some s) h = h s refl
 
-    name_known : (x : List ℕ) (n : Meaning) → means x ≡ n → CalleeKnown m locals init (name_called here x n)
-    name_known x (meaning.Function i) e = function_known x i (some_signature (slice_get signatures i)) (λ s q. D.functions_are x i s e q)
+    name_known : (x : List ℕ) (n : Meaning) → C.meaning x ≡ n → CalleeKnown here m locals init refl (name_called here x n)
+    name_known x (meaning.Function i) e = function_known x i (some_signature (slice_get C.signatures i)) (λ s q. D.functions_are x i s e q)
     name_known x (meaning.Builtin b) e = builtin_known b
     name_known x (meaning.Import i) e = import_known i
     name_known x (meaning.Local i) e = tt
@@ -138,29 +197,26 @@ module _ (means : List ℕ → Meaning) (signatures : List (Option Signature)) (
     name_known x meaning.Untyped e = tt
     name_known x meaning.UntypedClass e = tt
     name_known x meaning.Unknown e = tt
-    name_known x (meaning.Class i) e = tt
+    name_known x (meaning.Class i) e = class_known x i (is_trait_in (slice_get m.classes.classes i)) refl
     name_known x (meaning.Exception k) e = tt
 
-    callee_known : (f : ExprTree) → CalleeKnown m locals init (callee here f)
-    callee_known (at (tree.Name x) span) = name_known x (means x) refl
-    callee_known (at (tree.Attr e a) span) = tt
+    callee_known : (f : ExprTree) → CalleeKnown here m locals init refl (callee here f)
+    callee_known (at (tree.Name x) span) = name_known x (C.meaning x) refl
+    callee_known (at (tree.Attr e a) span) = by (is_super_init here (tree.Attr e a))
+      where
+        by : (b : Bool) → CalleeKnown here m locals init refl (if b then super_called here C.inside else method a)
+        by true = super_known C.inside refl
+        by false = tt
     callee_known _ = tt
 
     -- a call, by what its parts and its arguments are
     call_sound : (w : Wanted) (known : List ℕ) (span : Span) (f : ExprTree) (args : Arguments) → Gives (part here V known f) (S free known) → ((row : WantedRow) → RowAsked m locals init row → Gives (arguments here V row 0 known args) (RowSound m locals init row 0 known)) → Gives (typing here V w known (at (tree.Call f args) span)) (S w known)
     call_sound w known span f args p a =
-        gives_after (S w known) (part here V known f) (λ o. behind (arguments here V (arguments_row (callee here f) o) 0 known args) (called m.classes.classes w span (has_key args) (callee here f) o)) (λ o eo.
+        gives_after (S w known) (part here V known f) (λ o. behind (arguments here V (arguments_row here (callee here f) o) 0 known args) (called here w span (has_key args) (callee here f) o)) (λ o eo.
         let part_sound : (t : TypedExpr) → o ≡ Some t → S free known t = λ t q. p.each t (eo ∙ q) in
-        let asked : RowAsked m locals init (arguments_row (callee here f) o) = row_asked m locals init known (callee here f) o (callee_known f) (λ t q. value_type m locals init false known t (part_sound t q known (λ x h. h) refl)) in
-        gives_after (S w known) (arguments here V (arguments_row (callee here f) o) 0 known args) (called m.classes.classes w span (has_key args) (callee here f) o) (λ es ees.
-        called_sound m locals init w known span (has_key args) (callee here f) o es (callee_known f) part_sound (λ l q. (a (arguments_row (callee here f) o) asked).each l (ees ∙ q))))
-
-    attribute_never : (a : List ℕ) (e t : TypedExpr) → attribute m.classes.classes a e ≡ Ok t → ⊥
-    attribute_never a e t h = by (is_list_method (type_of e) a) h
-      where
-        by : (b : Bool) → (if b then Err (Rattle.py_check_messages.specs.Messages.not_a_value a) else Err (Rattle.py_check_messages.specs.Messages.no_attribute m.classes.classes (type_of e) a)) ≡ Ok t → ⊥
-        by true q = cc
-        by false q = cc
+        let asked : RowAsked m locals init (arguments_row here (callee here f) o) = row_asked here m locals init refl members known (callee here f) o (callee_known f) (λ t q. value_type m locals init false known t (part_sound t q known (λ x h. h) refl)) in
+        gives_after (S w known) (arguments here V (arguments_row here (callee here f) o) 0 known args) (called here w span (has_key args) (callee here f) o) (λ es ees.
+        called_sound here m locals init refl members w known span (has_key args) (callee here f) o es (callee_known f) part_sound (λ l q. (a (arguments_row here (callee here f) o) asked).each l (ees ∙ q))))
 
     operand_asked : (w : Wanted) → is_sought (length m.classes.classes) (operand w) ≡ true
     operand_asked free = refl
@@ -203,6 +259,10 @@ module _ (means : List ℕ → Meaning) (signatures : List (Option Signature)) (
     abbrev Told : ExprTree → TypedExpr → Type 0
     Told e t = (b : Bool) → Within (facts here b e) (telling.facts b t)
 
+    part_of : (b : Bool) (known : List ℕ) (e : ExprTree) → Gives (typing here V free known e) (S free known) → Gives (if b then silent else typing here V free known e) (S free known)
+    part_of true known e g = gives_silent (S free known)
+    part_of false known e g = g
+
     mutual
       pub sound_typing : (w : Wanted) (known : List ℕ) (x : ExprTree) → is_written x ≡ true → is_sought (length m.classes.classes) w ≡ true → Gives (typing here V w known x) (S w known)
       sound_typing w known (at n span) h a = sound_node w known span n h a
@@ -218,7 +278,7 @@ module _ (means : List ℕ → Meaning) (signatures : List (Option Signature)) (
           gives_is (S w known) (typed (node.Flag false) sort.Bool span) (value_sound m locals init w known (typed (node.Flag false) sort.Bool span) (λ others wi. stands_made m locals init false others (node.Flag false) sort.Bool span refl refl refl refl refl))
       sound_node w known span tree.Nothing h a =
           gives_is (S w known) (typed node.Nothing sort.Nothing span) (value_sound m locals init w known (typed node.Nothing sort.Nothing span) (λ others wi. stands_made m locals init false others node.Nothing sort.Nothing span refl refl refl refl refl))
-      sound_node w known span (tree.Name x) h a = named_sound w known span x (means x)
+      sound_node w known span (tree.Name x) h a = named_sound w known span x (C.meaning x)
       sound_node w known span (tree.Neg e) h a =
           gives_rule (S free known) (S w known) span (negation m.classes.classes span) (typing here V free known e) (sound_typing free known e h refl) (λ t s u q. negation_sound m locals init w known span t u s q)
       sound_node w known span (tree.Plus e) h a =
@@ -275,7 +335,7 @@ module _ (means : List ℕ → Meaning) (signatures : List (Option Signature)) (
       sound_node w known span (tree.Call f args) h a =
           call_sound w known span f args (sound_part known f (and_left (is_written f) (are_arguments args) h)) (λ row asked. sound_arguments row 0 known args (and_right (is_written f) (are_arguments args) h) asked)
       sound_node w known span (tree.Attr e x) h a =
-          gives_rule (λ (t : TypedExpr). Unit {0}) (S w known) span (attribute m.classes.classes x) (typing here V free known e) (gives_any (λ (t : TypedExpr). Unit {0}) _ (λ t. tt)) (λ t s u q. absurd (attribute_never x t u q))
+          gives_behind (S free known) (S w known) (typing here V free known e) (attribute here span x) (sound_typing free known e h refl) (gives_silent (S w known)) (λ t s. read_sound here m locals init refl members w known span t x s)
       sound_node w known span (tree.DictOf es) h a =
           let kw = key_wanted (entry_sorts w) in
           let vw = value_wanted (entry_sorts w) in
@@ -313,17 +373,14 @@ module _ (means : List ℕ → Meaning) (signatures : List (Option Signature)) (
           (sound_typing (wanted_in row i) known e (and_left (is_written e) (are_arguments more) h) (sought_of_asked (length m.classes.classes) (wanted_in row i) (asked i))) (sound_arguments row (suc i) known more (and_right (is_written e) (are_arguments more) h) asked) (λ t ts s r. record { first = s; rest = r })
 
       sound_part : (known : List ℕ) (f : ExprTree) → is_written f ≡ true → Gives (part here V known f) (S free known)
-      sound_part known (at (tree.Name x) span) h = name_part known span x (means x)
-      sound_part known (at (tree.Attr e a) span) h = sound_typing free known e h refl
+      sound_part known (at (tree.Name x) span) h = name_part known span x (C.meaning x)
+      sound_part known (at (tree.Attr e a) span) h = part_of (is_super_init here (tree.Attr e a)) known e (sound_typing free known e h refl)
       sound_part known (at n span) h = sound_node free known span n h refl
 
-abbrev at_classes : Context → List ClassEntry → Context
-at_classes C k = record { meaning = C.meaning; signatures = C.signatures; classes = k }
-
 -- for any context that has the classes of the module
-pub sound : (C : Context) (V : VarSorts) (m : TypedModule) (locals : List Variable) (init : Option ℕ) → Describes C V m locals → (w : Wanted) (known : List ℕ) (x : ExprTree) → is_written x ≡ true → is_asked (length C.classes) w ≡ true → (t : TypedExpr) → (typing C V w known x).got ≡ Some t
+pub sound : (C : Context) (V : VarSorts) (m : TypedModule) (locals : List Variable) (init : Option ℕ) → Describes C V m locals init → (w : Wanted) (known : List ℕ) (x : ExprTree) → is_written x ≡ true → is_asked (length C.classes) w ≡ true → (t : TypedExpr) → (typing C V w known x).got ≡ Some t
     → (others : List ℕ) → Within known others → is_taken C.classes w (type_of t) ≡ true → is_good m locals init w others t ≡ true
 sound C V m locals init D w known x h a t e =
-    subst (λ k. Describes (at_classes C k) V m locals → is_written x ≡ true → is_asked (length k) w ≡ true → (typing (at_classes C k) V w known x).got ≡ Some t
+    subst (λ k. Describes (at_classes C k) V m locals init → is_written x ≡ true → is_asked (length k) w ≡ true → (typing (at_classes C k) V w known x).got ≡ Some t
     → (others : List ℕ) → Within known others → is_taken k w (type_of t) ≡ true → is_good m locals init w others t ≡ true) D.classes
-    (λ d written asked got others wi taken. (sound_typing C.meaning C.signatures V m locals init d w known x written (sought_of_asked (length m.classes.classes) w asked)).each t got others wi (or_left (is_taken m.classes.classes w (type_of t)) (parts_taken m.classes.classes w (type_of t)) taken)) D h a e
+    (λ d written asked got others wi taken. (sound_typing C V m locals init d w known x written (sought_of_asked (length m.classes.classes) w asked)).each t got others wi (or_left (is_taken m.classes.classes w (type_of t)) (parts_taken m.classes.classes w (type_of t)) taken)) D h a e

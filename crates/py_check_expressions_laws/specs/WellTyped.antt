@@ -1,12 +1,13 @@
 -- When what is typed is well typed: what is asked of the expression as it is written, of the context, and of the place.
-use Rattle.std.specs.Prelude.{◌≡◌, ℕ, Bool, true, false, ◌&&◌, List, length, Option, Some, slice_get}
+use Rattle.std.specs.Prelude.{◌≡◌, ℕ, Bool, true, false, ◌&&◌, List, length, drop, codes, Option, Some, slice_get}
 use Rattle.std.specs.List.{list_all}
 use Rattle.std.specs.Str.{is_utf8}
 use Rattle.py_syntax.specs.Expressions as tree
 use Rattle.py_syntax.specs.Expressions.{ExprTree, ExprNode, at, ExprTrees, no_exprs, expr_then, Comparisons, no_comparisons, comparison_then, Entries, no_entries, entry_then, Arguments, no_arguments, argument_then, keyed_then}
-use Rattle.py_typed.specs.Sorts.{Sort}
+use Rattle.py_typed.specs.Sorts.{Sort, Nothing}
 use Rattle.py_typed.specs.Classes.{ClassEntry, Signature}
 use Rattle.py_typed.specs.Fits.{fits}
+use Rattle.py_typed.specs.Order.{order, listed_order, method_along, method_of, attribute_of}
 use Rattle.py_typed.specs.Laws.{IsClassTree}
 use Rattle.py_typed.specs.Expressions.{TypedExpr, type_of}
 use Rattle.py_typed.specs.Statements.{Variable, TypedModule}
@@ -15,6 +16,7 @@ use Rattle.py_typed.specs.Narrowing.{is_in}
 use Rattle.py_typed.specs.WellTypedExpr as expr
 use Rattle.py_typed.specs.WellTypedExpr.{is_literal, is_value_type, is_result_type, declared, is_function}
 use Rattle.py_check_context.specs.declared.scope.Meaning.TheVariants as meaning
+use Rattle.py_check_context.specs.Members.{attribute, method, Inside}
 use Rattle.py_check_context.specs.Context.{Context, has, VarSorts, var_at, Wanted, test, wants, dropped, some_signature}
 use Rattle.py_check_coercions.specs.Values.{truth}
 use Rattle.py_check_operators.specs.Facts.{facts}
@@ -74,21 +76,48 @@ pub record IsDeclared (classes : List ClassEntry) (variables : List Variable) (i
   pub is : declared variables i ≡ Some t
   pub type : is_value_type (length classes) t ≡ true
 
--- the number is that of a function of this signature, whose types are types
+-- the number is that of a function or a method of this signature, whose types are types
 pub record IsSigned (m : TypedModule) (i : ℕ) (s : Signature) : Type 0 where
-  pub function : is_function (slice_get m.funcs i) ≡ true
   pub is : slice_get m.classes.signatures i ≡ Some s
   pub params : list_all (is_value_type (length m.classes.classes)) s.params ≡ true
   pub ret : is_result_type (length m.classes.classes) s.ret ≡ true
 
--- a context of a function with these locals in a module: it has the module's classes, which are a tree; what has a type has the
--- declared one; and what names a function with a signature names one of the module's
-pub record Describes (c : Context) (vars : VarSorts) (m : TypedModule) (locals : List Variable) : Type 0 where
+-- and of a function
+pub record IsFunctionSigned (m : TypedModule) (i : ℕ) (s : Signature) : Type 0 where
+  pub function : is_function (slice_get m.funcs i) ≡ true
+  pub signed : IsSigned m i s
+
+-- and of an `__init__`, which gives nothing
+pub record IsInitSigned (m : TypedModule) (i : ℕ) (s : Signature) : Type 0 where
+  pub nothing : s.ret ≡ Nothing
+  pub signed : IsSigned m i s
+
+-- the method of a class is this one, of this signature
+pub record IsMethod (m : TypedModule) (n : ℕ) (a : List ℕ) (f : ℕ) (s : Signature) : Type 0 where
+  pub is : method_of m.classes.classes n a ≡ Some f
+  pub signed : IsSigned m f s
+
+-- the `__init__` of a class of this number, and the next `__init__` behind the class along its order
+pub record IsInside (classes : List ClassEntry) (init : Option ℕ) (n : ℕ) (next : Option ℕ) : Type 0 where
+  pub is : init ≡ Some n
+  pub behind : method_along classes (codes "__init__") (drop 1 (listed_order (order classes n))) ≡ next
+
+-- a context of a function with these locals in a module, which is the `__init__` of this class, if it is one: it has the module's
+-- classes, which are a tree; what has a type has the declared one; what names a function with a signature names one of the
+-- module's; and what a class has under a name it has along its order in the module
+pub record Describes (c : Context) (vars : VarSorts) (m : TypedModule) (locals : List Variable) (init : Option ℕ) : Type 0 where
   pub classes : m.classes.classes ≡ c.classes
   pub tree : IsClassTree c.classes
   pub locals_are : (i : ℕ) (t : Sort) → var_at vars.locals i ≡ has t → IsDeclared c.classes locals i t
   pub globals_are : (i : ℕ) (t : Sort) → var_at vars.globals i ≡ has t → IsDeclared c.classes m.globals i t
-  pub functions_are : (x : List ℕ) (i : ℕ) (s : Signature) → c.meaning x ≡ meaning.Function i → some_signature (slice_get c.signatures i) ≡ Some s → IsSigned m i s
+  pub functions_are : (x : List ℕ) (i : ℕ) (s : Signature) → c.meaning x ≡ meaning.Function i → some_signature (slice_get c.signatures i) ≡ Some s → IsFunctionSigned m i s
+  pub attributes_are : (n : ℕ) (a : List ℕ) (t : Sort) → c.member n a ≡ Some (attribute t) → attribute_of c.classes n a ≡ Some t
+  pub attributes_typed : (n : ℕ) (a : List ℕ) (t : Sort) → attribute_of c.classes n a ≡ Some t → is_value_type (length c.classes) t ≡ true
+  pub methods_are : (n : ℕ) (a : List ℕ) (f : ℕ) (s : Signature) → c.member n a ≡ Some (method f) → some_signature (slice_get c.signatures f) ≡ Some s → IsMethod m n a f s
+  pub inits_are : (n : ℕ) → method_of c.classes n (codes "__init__") ≡ c.init n
+  pub inits_signed : (n : ℕ) (f : ℕ) (s : Signature) → c.init n ≡ Some f → some_signature (slice_get c.signatures f) ≡ Some s → IsInitSigned m f s
+  pub inside_is : (i : Inside) (n : ℕ) → c.inside ≡ Some i → i.is_init ≡ true → i.class ≡ Some n → IsInside c.classes init n i.next_init
+  pub next_signed : (i : Inside) (f : ℕ) (s : Signature) → c.inside ≡ Some i → i.next_init ≡ Some f → some_signature (slice_get c.signatures f) ≡ Some s → IsInitSigned m f s
 
 -- ---- places
 
@@ -123,6 +152,6 @@ TypedTellsAsMuch =
 -- what is typed is well typed, where its place takes it, whatever more is known of names than typing knew
 abbrev pub TypedIsWellTyped : Type 0
 TypedIsWellTyped =
-    (c : Context) (vars : VarSorts) (m : TypedModule) (locals : List Variable) (init : Option ℕ) → Describes c vars m locals
+    (c : Context) (vars : VarSorts) (m : TypedModule) (locals : List Variable) (init : Option ℕ) → Describes c vars m locals init
     → (w : Wanted) (known others : List ℕ) (e : ExprTree) (t : TypedExpr) → is_written e ≡ true → is_asked (length c.classes) w ≡ true → Within known others
     → (typing c vars w known e).got ≡ Some t → is_taken c.classes w (type_of t) ≡ true → is_good m locals init w others t ≡ true

@@ -3,14 +3,14 @@ ghost use Rattle.py_check_expressions_laws.specs.Bare.{TypedTellsNoMore};
 ghost use Rattle.py_check_expressions_laws.specs.Laws.{OwnOrOfParts, UntypedIsLoud};
 ghost use Rattle.py_check_expressions_laws.specs.WellTyped.{TypedTellsAsMuch, TypedIsWellTyped};
 
-/// Where no name in reach is without a type and each name that is read is known, an expression that has none has said why: some
-/// diagnostic stands in it.
+/// Where no name in reach and no member of a class is without a type, and each name that is read is known, an expression that has none
+/// has said why: some diagnostic stands in it.
 pub fn what_is_not_typed_has_said_why()
     ensures { UntypedIsLoud }
 {}
 
-/// All that is said of an expression is at its own place, or else it is what is said of its parts: of both only of a chain of
-/// comparisons, whose own entries stand in front.
+/// All that is said of an expression, wherever it stands, is the same messages at its own place, or else what is said of its parts: of
+/// both only of a chain of comparisons, whose own entries stand in front.
 pub fn an_expression_has_an_entry_or_its_parts_have()
     ensures { OwnOrOfParts }
 {}

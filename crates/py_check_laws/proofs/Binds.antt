@@ -29,14 +29,14 @@ use Rattle.py_check_messages.specs.Messages.{no_target}
 use Rattle.py_check_messages.specs.Rows.{row_then}
 use Rattle.py_check_annotations.specs.Annotations.{annotation}
 use Rattle.py_check_operators.specs.Facts.{local_of}
-use Rattle.py_check_values.specs.Aims.{Aim, held, first, barred, unwritten, misplaced}
+use Rattle.py_check_values.specs.Aims.{Aim, held, first, barred, unwritten, misplaced, lacking}
 use Rattle.py_check_values.specs.Returns.{ReturnSort}
 use Rattle.py_check_places.specs.Places.{Known, is_bound, locals_among, with_names, where_test, entering, Way, setting_out, behind_arm}
-use Rattle.py_check_places.specs.Shapes.{is_row, is_item, leaves}
+use Rattle.py_check_places.specs.Shapes.{is_row, leaves, is_access}
 use Rattle.py_check_expressions_laws.specs.WellTyped.{Within}
 use Rattle.py_check_expressions_laws.proofs.Inside.{within_none, within_append}
 use Rattle.py_check_targets.specs.Targets.{target_of, targets_of, variable_aim, name_aim, seen_aim, read_aim, assigned, given, updated, typed_at, target_aims, next_part, more_parts, beyond, aims_behind}
-use Rattle.py_check_assignments.specs.Assignments.{value_for, assigns, annotated_value, annotates, updates_one, updates_row, updates, asked_for}
+use Rattle.py_check_assignments.specs.Assignments.{value_for, assigns, annotated_value, annotates, updates_row, updates, asked_for, annotates_at, updates_single}
 use Rattle.py_check_loops.specs.Loops.{Course, loop_of}
 use Rattle.py_check_loops.specs.Heads.{for_head, in_for}
 use Rattle.py_check_exceptions.specs.Handlers.{name_target, handler_head, in_handler}
@@ -45,7 +45,7 @@ use Rattle.py_check_statements.specs.declared.bodies.Around.{Around}
 use Rattle.py_check_laws.specs.Narrowing.{is_own, is_own_name, is_bare_stmt, is_bare_act, is_bare_suite, are_bare_arms, are_bare_handlers, is_bare_last}
 use Rattle.py_check.proofs.Bound.{named, leaf_bindings, target_leaves}
 use Rattle.py_check_laws.proofs.Given.{made_given, both_given, rule_given, row_given}
-use Rattle.py_check_laws.proofs.Assigned.{assigned_is, given_is, updated_is}
+use Rattle.py_check_laws.proofs.Assigned.{assigned_is, given_is, updated_is, own_unmarked, never_lacking}
 use Rattle.py_check_laws.proofs.Names.{within_itself}
 use Rattle.py_check_laws.proofs.Looked.{looked_behind}
 use Rattle.py_check_laws.proofs.Aims.{AimAt, AimsOf}
@@ -53,6 +53,7 @@ use Rattle.py_check_laws.proofs.Exceptions.{NameAt, head_given}
 use Rattle.py_check_laws.proofs.Shapes.{loop_binds, definition_shape, no_part_given, locals_two, read_aim_at, one_target}
 use Rattle.py_check_laws.proofs.Loops.{head_parts, head_looked}
 use Rattle.py_check_laws.proofs.Values.{of_three}
+use Rattle.py_check_targets.specs.Attributes.{own_attribute, lacking_in}
 
 -- ---- targets
 
@@ -73,6 +74,7 @@ one_binds (held t s) u more ys q w = only_binds t u more ys q w
 one_binds (first t x) u more ys q w = only_binds t u more ys q w
 one_binds (barred x) u more ys q w = absurd (cc)
 one_binds (unwritten s) u more ys q w = absurd (cc)
+one_binds (lacking s x) u more ys q w = absurd (cc)
 one_binds (misplaced s) u more ys q w = absurd (cc)
 
 module _ (C : Context) where
@@ -124,7 +126,11 @@ module _ (C : Context) where
       subst (λ z. Binds (target_bindings target) (typed.bound_in z)) d.is (targets_bind k target r.0.0 looked.parts looked.aims)
 
   annotated_binds : (k : Known) (span : Span) (x : Option (List ℕ)) (target mark e : ExprTree) (a : TypedAct) → name_in target ≡ x → (annotates C k span x target mark (Some e)).got ≡ Some a → Binds (marked (name_in target) target mark) (typed.bound_in a)
-  annotated_binds k span None target mark e a n h = absurd (no_part_given (both (both (target_aims C k target) (annotation C.meaning mark)) (value_for C k target e)).got span no_target a h)
+  annotated_binds k span None target mark e a n h = by (own_attribute C.inside target) refl h
+    where
+      by : (o : Option (ExprTree × List ℕ)) → own_attribute C.inside target ≡ o → (annotates_at C k span o target mark (Some e)).got ≡ Some a → Binds (marked (name_in target) target mark) (typed.bound_in a)
+      by None q g = absurd (no_part_given (both (both (target_aims C k target) (annotation C.meaning mark)) (value_for C k target e)).got span no_target a g)
+      by (Some p) q g = subst (λ bs. Binds bs (typed.bound_in a)) (sym (own_unmarked C.inside target p mark q)) (binds_none a)
   annotated_binds k span (Some x) target mark e a n h =
       let parts = both (seen_aim (name_aim k x (C.meaning x))) (annotation C.meaning mark) in
       let r = rule_given span (given C.classes x (is_bound k (C.meaning x))) (both parts (annotated_value C k x e)) a h in
@@ -140,22 +146,27 @@ module _ (C : Context) where
 
   -- an annotation without a value of a variable that is not the function's own
   bare_binds : (k : Known) (span : Span) (x : Option (List ℕ)) (target mark : ExprTree) (a : TypedAct) → name_in target ≡ x → not (is_own_name C.meaning x) ≡ true → (annotates C k span x target mark None).got ≡ Some a → Binds (marked (name_in target) target mark) (typed.bound_in a)
-  bare_binds k span None target mark a n bare h = absurd (no_part_given (both (target_aims C k target) (annotation C.meaning mark)).got span no_target a h)
+  bare_binds k span None target mark a n bare h = by (own_attribute C.inside target) refl h
+    where
+      by : (o : Option (ExprTree × List ℕ)) → own_attribute C.inside target ≡ o → (annotates_at C k span o target mark None).got ≡ Some a → Binds (marked (name_in target) target mark) (typed.bound_in a)
+      by None q g = absurd (no_part_given (both (target_aims C k target) (annotation C.meaning mark)).got span no_target a g)
+      by (Some p) q g = subst (λ bs. Binds bs (typed.bound_in a)) (sym (own_unmarked C.inside target p mark q)) (binds_none a)
   bare_binds k span (Some x) target mark a n bare h = subst (λ o. Binds (marked o target mark) (typed.bound_in a)) (sym n) (other_binds (C.meaning x) (typed.bound_in a) bare)
 
   update_binds : (k : Known) (span : Span) (target : ExprTree) (op : BinOp) (e : ExprTree) (a : TypedAct) → (updates C k span target op e).got ≡ Some a → Binds (target_bindings target) (typed.bound_in a)
-  update_binds k span target op e a h = by (is_row target) refl h
+  update_binds k span target op e a h = by (is_row target) refl (lacking_in C target) refl h
     where
-      by : (b : Bool) → is_row target ≡ b → (if b then updates_row C k span target e else updates_one C k span target op e).got ≡ Some a → Binds (target_bindings target) (typed.bound_in a)
-      by true q f = absurd (no_part_given (both (target_aims C k target) (typed_at C k free e)).got span no_target a f)
-      by false q f =
-          let r = rule_given span (updated C.classes span op (read_aim C k (name_in target) (is_item target))) (both (typed_at C k free target) (typed_at C k free e)) a f in
+      by : (b : Bool) → is_row target ≡ b → (o : Option (ExprTree × List ℕ)) → lacking_in C target ≡ o → (if b then updates_row C k span target e else updates_single C k span o target op e).got ≡ Some a → Binds (target_bindings target) (typed.bound_in a)
+      by false q (Some p) l f = absurd (never_lacking C.classes span p.1 (both (typed_at C k free p.0) (typed_at C k free e)) a f)
+      by true q o l f = absurd (no_part_given (both (target_aims C k target) (typed_at C k free e)).got span no_target a f)
+      by false q None l f =
+          let r = rule_given span (updated C.classes span op (read_aim C k (name_in target) (is_access target))) (both (typed_at C k free target) (typed_at C k free e)) a f in
           let b = both_given (typed_at C k free target) (typed_at C k free e) r.0 r.1 in
-          let u = updated_is C.classes span op (read_aim C k (name_in target) (is_item target)) r.0 a r.2 in
-          let aim = read_aim C k (name_in target) (is_item target) r.0.0 in
+          let u = updated_is C.classes span op (read_aim C k (name_in target) (is_access target)) r.0 a r.2 in
+          let aim = read_aim C k (name_in target) (is_access target) r.0.0 in
           subst (λ z. Binds (target_bindings target) (typed.bound_in z)) u.is
           (subst (λ bs. Binds bs (bound_by u.target)) (sym (one_target C target q))
-          (one_binds aim u.target u.more (locals_among C (leaf_bindings target)) u.aimed (aim_binds k target aim (read_aim_at C k (name_in target) target r.0.0 b.0 u.placed))))
+          (one_binds aim u.target u.more (locals_among C (leaf_bindings target)) u.aimed (aim_binds k target aim (read_aim_at C k (name_in target) target r.0.0 l b.0 u.placed))))
 
   pub for_binds : (k : Known) (s : StmtTree) (span : Span) (target e : ExprTree) (body : Suite) (p : List TypedTarget × Course) → (for_head C k s span target e).got ≡ Some p → (t : TypedSuite) → Binds (suite_bindings body) (typed.bound_suite t) → Binds (target_bindings target ++ suite_bindings body) (bound_by_all p.0 ++ typed.bound_suite t)
   for_binds k s span target e body p h t inner =
@@ -171,6 +182,7 @@ module _ (C : Context) where
   name_bound (first t x) = append-nil (bound_by t)
   name_bound (barred x) = refl
   name_bound (unwritten s) = refl
+  name_bound (lacking s x) = refl
   name_bound (misplaced s) = refl
 
   clause_name_binds : (k : Known) (span : Span) (x : Option (List ℕ)) (a : Option Aim) → NameAt C k span x a → Binds (caught x) (bound_by_name (name_target a))

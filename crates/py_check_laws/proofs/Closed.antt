@@ -1,5 +1,5 @@
 -- Variables behind their first bindings: each has a type, or none for good, so that an annotation further down is no first one.
-use Rattle.std.proofs.Common.{◌≡◌, ℕ, Bool, true, false, cond, List, [], ◌∷◌, ◌++◌, length, map, nat_lt, Option, Some, None, refl, ap, sym, ◌∙◌, subst}
+use Rattle.std.proofs.Common.{◌≡◌, ℕ, Bool, true, false, cond, List, [], ◌∷◌, ◌++◌, length, map, nat_lt, Option, Some, None, refl, ap, sym, ◌∙◌, subst, zero, suc, slice_get}
 use Rattle.std.proofs.lemmas.Slice.Eq.{bytes_eq-Decides}
 use Rattle.std.specs.Str.{bytes_eq}
 use Rattle.std.specs.List.{flat_map}
@@ -7,16 +7,17 @@ use Rattle.py_syntax.specs.Expressions.{ExprTree}
 use Rattle.py_typed.specs.Sorts.{Sort}
 use Rattle.py_check_context.specs.declared.scope.Meaning.{Meaning}
 use Rattle.py_check_context.specs.declared.scope.Meaning.TheVariants as meaning
-use Rattle.py_check_context.specs.Context.{Context, VarSorts}
+use Rattle.py_check_context.specs.Context.{Context, VarSorts, VarSort, var_at}
 use Rattle.py_check_flow.specs.Bindings.{Binding, name_in, target_bindings}
-use Rattle.py_check_places.specs.Places.{Known, bind_name, bind_names}
+use Rattle.py_check_places.specs.Places.{Known, bind_name, bind_names, is_unset}
 use Rattle.py_check_places.specs.Shapes.{is_row, leaves, parts_of}
 use Rattle.py_check_places.specs.Shapes.{bind_target}
-use Rattle.py_check_definitions.specs.Starts.{first_mark}
+use Rattle.py_check_definitions.specs.Starts.{first_mark, given_sort}
 use Rattle.py_check.specs.Fixed.{is_there}
 use Rattle.py_check_laws.specs.WellTyped.{IsScope}
 use Rattle.py_check.proofs.Bound.{name_no_row, single_bound, named, leaf_bindings, target_leaves, open_follows, closed_variable}
 use Rattle.py_check.proofs.Kept.{Follows, follows_name, follows_names, is_open}
+use Rattle.std.proofs.lemmas.Option.{same_Some}
 
 pub scope_there : (C : Context) (V : VarSorts) → IsScope C V → (x : List ℕ) → is_there V (C.meaning x) ≡ true
 scope_there C V s x = by (C.meaning x) refl
@@ -120,3 +121,14 @@ module _ (C : Context) where
       by : (o : Option (Option ExprTree)) → first_mark a x ≡ o → is_open W (C.meaning x) ≡ false
       by None q = open_follows V W (C.meaning x) f (h x mark (behind_found a b x q ∙ e))
       by (Some o) q = found_closed W a x o p q
+
+-- ---- types that variables begin with
+
+pub mapped_at : (g : List ℕ → VarSort) (l : List (List ℕ)) (i : ℕ) (x : List ℕ) → slice_get l i ≡ Some x → var_at (map g l) i ≡ g x
+mapped_at g [] i x h = absurd (cc)
+mapped_at g (y ∷ l) zero x h = ap g (same_Some y x h)
+mapped_at g (y ∷ l) (suc i) x h = mapped_at g l i x h
+
+pub given_set : (o : Option Sort) → is_unset (given_sort o) ≡ false
+given_set None = refl
+given_set (Some t) = refl

@@ -7,14 +7,13 @@ use Rattle.py_syntax.specs.Expressions as tree
 use Rattle.py_syntax.specs.Expressions.{ExprTree, at, Arguments}
 use Rattle.py_typed.specs.Sorts as sort
 use Rattle.py_typed.specs.Sorts.{Sort}
-use Rattle.py_typed.specs.Classes.{ClassEntry, Signature}
+use Rattle.py_typed.specs.Classes.{ClassEntry}
 use Rattle.py_typed.specs.Fits.{is_number, number_join, is_same_type, fits}
 use Rattle.py_typed.specs.Expressions.{TypedExpr, type_of}
 use Rattle.py_typed.specs.Statements.{Variable, TypedModule}
 use Rattle.py_typed.specs.WellTypedExpr.{stands, is_value_type, is_result_type, is_key_type}
 use Rattle.py_typed.specs.WellTyped as stmt
 use Rattle.py_typed.proofs.FitLemmas.{type_is_itself, and_left, and_right}
-use Rattle.py_check_context.specs.declared.scope.Meaning.{Meaning}
 use Rattle.py_check_context.specs.Context.{Context, free, along}
 use Rattle.py_check_flow.specs.Bindings.{name_in}
 use Rattle.py_check_messages.specs.Seen.{behind}
@@ -85,9 +84,9 @@ module _ (C : Context) where
       by false q = absurd (cc)
   range_written _ args h w = absurd (cc)
 
-module _ (means : List ℕ → Meaning) (signatures : List (Option Signature)) (m : TypedModule) (locals : List Variable) (init : Option ℕ) (result : Option Sort) where
+module _ (C : Context) (m : TypedModule) (locals : List Variable) (init : Option ℕ) (result : Option Sort) where
   abbrev here : Context
-  here = scene means signatures m locals init
+  here = scene C m locals init
 
   -- the bounds of a range are of one type, and what is gone over stands
   pub record BoundsStand (others : List ℕ) (a : Option TypedExpr) (b : TypedExpr) : Type 0 where
@@ -140,19 +139,19 @@ module _ (means : List ℕ → Meaning) (signatures : List (Option Signature)) (
       by (Some p) q k = absurd (cc)
 
   -- WHAT IS GONE OVER stands
-  by_arguments : (k : Known) → Describes here k.types m locals → (e : ExprTree) → law.is_written e ≡ true → (o : Option Arguments) → range_arguments here e ≡ o → (w : Course) → (course_by here k o e).got ≡ Some w → (others : List ℕ) → Within k.names others → CourseStands others w
+  by_arguments : (k : Known) → Describes here k.types m locals init → (e : ExprTree) → law.is_written e ≡ true → (o : Option Arguments) → range_arguments here e ≡ o → (w : Course) → (course_by here k o e).got ≡ Some w → (others : List ℕ) → Within k.names others → CourseStands others w
   by_arguments k D e written None q w g others wi =
-      let r = made_given value (typed_at here k free e) w g in subst (CourseStands others) r.2 (stands_free means signatures m locals init k D e written r.0 r.1 others wi)
+      let r = made_given value (typed_at here k free e) w g in subst (CourseStands others) r.2 (stands_free C m locals init k D e written r.0 r.1 others wi)
   by_arguments k D e written (Some args) q w g others wi =
       let row = arguments here k.types (along []) 0 k.names args in
       let r = rule_given (span_of e) (range_call m.classes.classes) (behind row (positional (span_of e) (has_key args))) w g in
       let es = keyless (span_of e) (has_key args) row.got r.0 r.1 in
-      let sound = (sound_arguments means signatures k.types m locals init D (along []) 0 k.names args (range_written here e args q written) (λ i. refl)).each r.0 es in
+      let sound = (sound_arguments C k.types m locals init D (along []) 0 k.names args (range_written here e args q written) (λ i. refl)).each r.0 es in
       let all = row_stands m locals init (along []) 0 k.names others r.0 sound wi (free_fits m.classes.classes 0 r.0) in
       let c = if_then (is_count_right r.0) (bounds_of_numbers m.classes.classes r.0 (no_number 1 r.0)) _ w r.2 in
       range_stands others r.0 w all c.1
 
-  pub course_stands : (k : Known) → Describes here k.types m locals → (e : ExprTree) → law.is_written e ≡ true → (w : Course) → (course here k e).got ≡ Some w → (others : List ℕ) → Within k.names others → CourseStands others w
+  pub course_stands : (k : Known) → Describes here k.types m locals init → (e : ExprTree) → law.is_written e ≡ true → (w : Course) → (course here k e).got ≡ Some w → (others : List ℕ) → Within k.names others → CourseStands others w
   course_stands k D e written w g others wi = by_arguments k D e written (range_arguments here e) refl w g others wi
 
   -- its items have a type that a variable may have

@@ -14,7 +14,8 @@ use Rattle.py_check_context.specs.declared.scope.Meaning.TheVariants as meaning
 use Rattle.py_check_context.specs.Context.{Context, VarSorts, var_at}
 use Rattle.py_check_flow.specs.Bindings.{name_in, suite_bindings}
 use Rattle.py_check_annotations.specs.Annotations.{annotation}
-use Rattle.py_check_names.specs.Meanings.{variables, module_meaning}
+use Rattle.py_check_names.specs.Meanings.{variables}
+use Rattle.py_check_definitions.specs.Names.{module_meaning}
 use Rattle.py_check_calls.specs.Callees.{is_variable}
 use Rattle.py_check_places.specs.Places.{Known, first_type, is_unset, bind_variable, bind_name}
 use Rattle.py_check_places.specs.Shapes.{bind_target}
@@ -28,11 +29,9 @@ use Rattle.py_check.proofs.Kept.{Follows, fix_first, follows_block, is_open}
 use Rattle.py_check_laws.specs.Variables.{sort_in, is_bound_in, joined}
 use Rattle.py_check.specs.Fixed.{is_there}
 use Rattle.py_check_laws.specs.WellTyped.{IsScope}
-use Rattle.py_check_laws.proofs.Closed.{scope_on, scope_there}
+use Rattle.py_check_laws.proofs.Closed.{scope_on, scope_there, mapped_at, given_set}
 use Rattle.py_check.proofs.Fixed.{set_block}
 use Rattle.py_check_laws.proofs.Others.{other_block}
-use Rattle.py_check_laws.proofs.Varied.{mapped_at}
-use Rattle.py_check_laws.proofs.Described.{given_set}
 
 stays_in : (V W : VarSorts) → Follows V W → (m : Meaning) → is_unset (sort_in V m) ≡ false → sort_in W m ≡ sort_in V m
 stays_in V W f (meaning.Local i) h = f.locals.stays i h

@@ -3,7 +3,7 @@ use Rattle.std.proofs.Common.{◌≡◌, ℕ, zero, suc, ◌+◌, ◌<◌, ◌�
 use Rattle.std.proofs.lemmas.Bool.{and_from, or_cases, or_left, or_right, ltb-false}
 use Rattle.std.proofs.lemmas.List.{length-map}
 use Rattle.std.proofs.lemmas.List.Sums.{length-filter}
-use Rattle.std.proofs.lemmas.Option.{same_Some, slice_get-map}
+use Rattle.std.proofs.lemmas.Option.{same_Some}
 use Rattle.std.specs.Prelude.{is_some, find}
 use Rattle.std.specs.List.{list_all, zip}
 use Rattle.std.specs.Map.{lookup}
@@ -28,7 +28,6 @@ use Rattle.py_typed.proofs.FitLemmas.{type_is_itself, and_left, and_right}
 use Rattle.py_check_context.specs.declared.scope.Meaning.{Meaning}
 use Rattle.py_check_context.specs.Context.{Context, VarSort, has, var_at}
 use Rattle.py_check_values.specs.Returns.{ReturnSort}
-use Rattle.py_check_messages.specs.Messages as message
 use Rattle.py_check_messages.specs.Rows.{row_then}
 use Rattle.py_check_places.specs.Places.{Known}
 use Rattle.py_check_statements.specs.declared.bodies.Around.{Around}
@@ -37,7 +36,7 @@ use Rattle.py_check_names.specs.Builtins as names
 use Rattle.py_check_names.specs.Builtins.{exception_meaning}
 use Rattle.py_check_names.specs.Meanings.{is_own, own_names}
 use Rattle.py_check_names.specs.Outline.{stmt_definitions, suite_definitions}
-use Rattle.py_check_signatures.specs.Headers.{marked, param_types, all_of}
+use Rattle.py_check_signatures.specs.Headers.{all_of}
 use Rattle.py_check_signatures.specs.Definitions.{own_count, repeated, is_builtin_name}
 use Rattle.py_check_definitions.specs.Starts.{given_sort, or_param, param_sort}
 use Rattle.py_check_definitions.specs.Variables.{sort_or_none, variables_from}
@@ -47,8 +46,7 @@ use Rattle.py_check_laws.specs.WellTyped.{is_filled}
 use Rattle.py_check_laws.specs.Modules.{has_type, all_have_types}
 use Rattle.py_check_laws.proofs.Given.{row_given}
 use Rattle.py_check.proofs.NameRows.{at_place, same_text, text_is_itself, filter_two, filter_all, sights_front, of_kind, scope_names}
-use Rattle.py_check_laws.proofs.Differ.{Fresh, one_more}
-use Rattle.py_check_laws.proofs.Signed.{IsSound}
+use Rattle.py_check_laws.proofs.NewNames.{Fresh, one_more}
 
 -- ---- variables in a row
 
@@ -56,15 +54,16 @@ pub variables_named : (types : List VarSort) (i : ℕ) (ns : List (List ℕ)) �
 variables_named types i [] = refl
 variables_named types i (x ∷ ns) = ap (λ l. x ∷ l) (variables_named types (suc i) ns)
 
-sort_value : (v : VarSort) → has_type v ≡ true → ((t : Sort) → v ≡ has t → is_value_type 0 t ≡ true) → is_value_type 0 (sort_or_none v) ≡ true
-sort_value (has t) h g = g t refl
-sort_value _ h g = absurd (cc)
+sort_value : (n : ℕ) (v : VarSort) → has_type v ≡ true → ((t : Sort) → v ≡ has t → is_value_type n t ≡ true) → is_value_type n (sort_or_none v) ≡ true
+sort_value n (has t) h g = g t refl
+sort_value n _ h g = absurd (cc)
 
-pub types_valued : (types : List VarSort) (i : ℕ) (ns : List (List ℕ)) → all_have_types types i ns ≡ true → ((j : ℕ) (t : Sort) → var_at types j ≡ has t → is_value_type 0 t ≡ true) → list_all (is_value_type 0) (types_in (variables_from i types ns)) ≡ true
-types_valued types i [] h g = refl
-types_valued types i (x ∷ ns) h g =
-    and_from (is_value_type 0 (sort_or_none (var_at types i))) (list_all (is_value_type 0) (types_in (variables_from (suc i) types ns))) (sort_value (var_at types i) (and_left (has_type (var_at types i)) (all_have_types types (suc i) ns) h) (g i))
-    (types_valued types (suc i) ns (and_right (has_type (var_at types i)) (all_have_types types (suc i) ns) h) g)
+-- where there are so many classes
+pub types_valued : (n : ℕ) (types : List VarSort) (i : ℕ) (ns : List (List ℕ)) → all_have_types types i ns ≡ true → ((j : ℕ) (t : Sort) → var_at types j ≡ has t → is_value_type n t ≡ true) → list_all (is_value_type n) (types_in (variables_from i types ns)) ≡ true
+types_valued n types i [] h g = refl
+types_valued n types i (x ∷ ns) h g =
+    and_from (is_value_type n (sort_or_none (var_at types i))) (list_all (is_value_type n) (types_in (variables_from (suc i) types ns))) (sort_value n (var_at types i) (and_left (has_type (var_at types i)) (all_have_types types (suc i) ns) h) (g i))
+    (types_valued n types (suc i) ns (and_right (has_type (var_at types i)) (all_have_types types (suc i) ns) h) g)
 
 pub variables_long : (types : List VarSort) (i : ℕ) (ns : List (List ℕ)) → length (variables_from i types ns) ≡ length ns
 variables_long types i [] = refl
@@ -119,11 +118,12 @@ list_all_by : (p : List ℕ → Bool) (xs : List (List ℕ)) → ((x : List ℕ)
 list_all_by p [] h = refl
 list_all_by p (x ∷ xs) h = and_from (p x) (list_all p xs) (h x (or_left (bytes_eq x x) (contains xs x) (text_is_itself x))) (list_all_by p xs (λ y q. h y (or_right (bytes_eq y x) (contains xs y) q)))
 
-mapped_none : {A B : Type 0} (g : A → B) (o : Option A) → option_map g o ≡ None → o ≡ None
+pub mapped_none : {A B : Type 0} (g : A → B) (o : Option A) → option_map g o ≡ None → o ≡ None
 mapped_none g None h = refl
 mapped_none g (Some a) h = absurd (cc)
 
-module _ (f : FuncTree) (roles : Roles) (result : Option Sort) (sound : IsSound (own_count (function_scope roles f)) f result) where
+-- where no parameter stands twice, none is a builtin, and the names are at most a hundred
+module _ (f : FuncTree) (roles : Roles) (once : repeated [] (param_names f) ≡ None) (plain : find is_builtin_name (param_names f) ≡ None) (few : nat_lt 100 (own_count (function_scope roles f)) ≡ false) where
   abbrev params : List (List ℕ)
   params = param_names f
 
@@ -137,7 +137,7 @@ module _ (f : FuncTree) (roles : Roles) (result : Option Sort) (sound : IsSound 
   is_kind x = is_own (function_role roles f x)
 
   params_fresh : Fresh [] params
-  params_fresh = repeat_free [] params (mapped_none message.duplicate_parameter (repeated [] params) sound.names)
+  params_fresh = repeat_free [] params once
 
   pub params_differ : all_differ params ≡ true
   params_differ = params_fresh.differ
@@ -146,7 +146,7 @@ module _ (f : FuncTree) (roles : Roles) (result : Option Sort) (sound : IsSound 
   params_own =
       list_all_by is_kind params
       (λ x q. param_role (is_builtin x) (contains params x) (if contains (all_there listed_there (body_sights f)) x && is_variable (roles x) then role.GlobalVar else (if contains (all_there bound_there (body_sights f)) x then role.Local else roles x))
-      (not_built x (none_built params (mapped_none message.cannot_assign (find is_builtin_name params) sound.plain) x q)) q)
+      (not_built x (none_built params plain x q)) q)
 
   -- the parameters come first
   pub own_front : (ws : List (List ℕ)) × (own ≡ params ++ ws)
@@ -170,7 +170,7 @@ module _ (f : FuncTree) (roles : Roles) (result : Option Sort) (sound : IsSound 
       ∙ ap length (of_kind is_own (function_role roles f) ns) ∙ ap length (sym (scope_names is_own (function_role roles f) (params ++ seen)))
 
   pub own_few : nat_lt (length own) 101 ≡ true
-  own_few = lt-ltb (length own) 101 (less (own_count (function_scope roles f)) (length own) (ltb-false 100 (own_count (function_scope roles f)) sound.few) counted)
+  own_few = lt-ltb (length own) 101 (less (own_count (function_scope roles f)) (length own) (ltb-false 100 (own_count (function_scope roles f)) few) counted)
     where
       less : (a b : ℕ) → a ≤ 100 → a ≡ b → b < 101
       less a b h q = omega arith
@@ -183,39 +183,37 @@ at_front (q ∷ ps) ws zero p h = ap (λ (z : List ℕ × Option ExprTree). Some
 at_front (q ∷ ps) ws (suc j) p h = at_front ps ws j p h
 
 -- of names that differ each finds its own
-first_found : {A : Type 0} (g : List ℕ × Option ExprTree → A) (ps : List (List ℕ × Option ExprTree)) (j : ℕ) (p : List ℕ × Option ExprTree) → all_differ (map (λ (z : List ℕ × Option ExprTree). z.0) ps) ≡ true → slice_get ps j ≡ Some p → lookup (bytes_eq p.0) (zip (map (λ (z : List ℕ × Option ExprTree). z.0) ps) (map g ps)) ≡ Some (g p)
-first_found g [] j p d h = absurd (cc)
-first_found {A = A} g (q ∷ ps) zero p d h =
-    let e = same_Some q p h in
-    ap (λ (b : Bool). cond b (Some (g q)) (lookup (bytes_eq p.0) (zip (map (λ (z : List ℕ × Option ExprTree). z.0) ps) (map g ps)))) (ap (λ (z : List ℕ × Option ExprTree). bytes_eq z.0 q.0) (sym e) ∙ text_is_itself q.0)
-    ∙ ap (λ (z : List ℕ × Option ExprTree). Some (g z)) e
-first_found {A = A} g (q ∷ ps) (suc j) p d h = by (bytes_eq p.0 q.0) refl (first_found g ps j p (and_right (not (contains ns q.0)) (all_differ ns) d) h)
+first_found : {A : Type 0} (ns : List (List ℕ)) (ts : List A) (j : ℕ) (x : List ℕ) (t : A) → all_differ ns ≡ true → slice_get ns j ≡ Some x → slice_get ts j ≡ Some t → lookup (bytes_eq x) (zip ns ts) ≡ Some t
+first_found [] ts j x t d h g = absurd (cc)
+first_found (y ∷ ns) [] j x t d h g = absurd (cc)
+first_found {A = A} (y ∷ ns) (u ∷ ts) zero x t d h g =
+    ap (λ (b : Bool). cond b (Some u) (lookup (bytes_eq x) (zip ns ts))) (ap (λ z. bytes_eq z y) (sym (same_Some y x h)) ∙ text_is_itself y) ∙ g
+first_found {A = A} (y ∷ ns) (u ∷ ts) (suc j) x t d h g = by (bytes_eq x y) refl (first_found ns ts j x t (and_right (not (contains ns y)) (all_differ ns) d) h g)
   where
-    ns : List (List ℕ)
-    ns = map (λ (z : List ℕ × Option ExprTree). z.0) ps
-
-    there : contains ns p.0 ≡ true
-    there = at_place ns j p.0 (slice_get-map (λ (z : List ℕ × Option ExprTree). z.0) ps j ∙ ap (option_map (λ (z : List ℕ × Option ExprTree). z.0)) h)
-
     absent : (b : Bool) → not b ≡ true → b ≡ false
     absent true e = absurd (cc)
     absent false e = refl
 
-    by : (b : Bool) → bytes_eq p.0 q.0 ≡ b → lookup (bytes_eq p.0) (zip ns (map g ps)) ≡ Some (g p) → cond b (Some (g q)) (lookup (bytes_eq p.0) (zip ns (map g ps))) ≡ Some (g p)
-    by true r e = clash (contains ns q.0) (ap (contains ns) (sym (same_text p.0 q.0 r)) ∙ there) (absent (contains ns q.0) (and_left (not (contains ns q.0)) (all_differ ns) d))
+    by : (b : Bool) → bytes_eq x y ≡ b → lookup (bytes_eq x) (zip ns ts) ≡ Some t → cond b (Some u) (lookup (bytes_eq x) (zip ns ts)) ≡ Some t
+    by true r e = absurd (clash (contains ns y) (ap (contains ns) (sym (same_text x y r)) ∙ at_place ns j x h) (absent (contains ns y) (and_left (not (contains ns y)) (all_differ ns) d)))
     by false r e = e
 
-pub param_start : (meanings : List ℕ → Meaning) (ps : List (List ℕ × Option ExprTree)) (j : ℕ) (p : List ℕ × Option ExprTree) (start : VarSort) → all_differ (map (λ (z : List ℕ × Option ExprTree). z.0) ps) ≡ true → slice_get ps j ≡ Some p
-    → or_param (param_sort (map (λ (z : List ℕ × Option ExprTree). z.0) ps) (param_types meanings ps) p.0) start ≡ given_sort (marked meanings p.1).got
-param_start meanings ps j p start d h = ap (λ o. or_param o start) (first_found (λ (z : List ℕ × Option ExprTree). (marked meanings z.1).got) ps j p d h)
+-- where the parameters have these types
+pub param_start : (ns : List (List ℕ)) (os : List (Option Sort)) (j : ℕ) (x : List ℕ) (o : Option Sort) (start : VarSort) → all_differ ns ≡ true → slice_get ns j ≡ Some x → slice_get os j ≡ Some o → or_param (param_sort ns os x) start ≡ given_sort o
+param_start ns os j x o start d h g = ap (λ q. or_param q start) (first_found ns os j x o d h g)
 
--- the declared types of parameters are those of their annotations
-pub params_same : (meanings : List ℕ → Meaning) (ps : List (List ℕ × Option ExprTree)) (ws : List (List ℕ)) (types : List VarSort) (i : ℕ) (ts : List Sort) → all_of (param_types meanings ps) ≡ Some ts → ((j : ℕ) (p : List ℕ × Option ExprTree) → slice_get ps j ≡ Some p → var_at types (i + j) ≡ given_sort (marked meanings p.1).got)
-    → types_in (take (length ps) (variables_from i types (map (λ (z : List ℕ × Option ExprTree). z.0) ps ++ ws))) ≡ ts
-params_same meanings [] ws types i ts q h = same_Some [] ts q
-params_same meanings (p ∷ ps) ws types i ts q h =
-    by (marked meanings p.1).got (all_of (param_types meanings ps)) refl refl q (λ ss y. params_same meanings ps ws types (suc i) ss y (λ j z g. ap (var_at types) (one_on i j) ∙ h (suc j) z g))
+-- the declared types of variables are these, where the variables have them
+pub params_same : (ns ws : List (List ℕ)) (os : List (Option Sort)) (types : List VarSort) (i : ℕ) (ts : List Sort) → length os ≡ length ns → all_of os ≡ Some ts → ((j : ℕ) (o : Option Sort) → slice_get os j ≡ Some o → var_at types (i + j) ≡ given_sort o)
+    → types_in (take (length ns) (variables_from i types (ns ++ ws))) ≡ ts
+params_same [] ws [] types i ts l q h = same_Some [] ts q
+params_same [] ws (o ∷ os) types i ts l q h = absurd (cc)
+params_same (x ∷ ns) ws [] types i ts l q h = absurd (cc)
+params_same (x ∷ ns) ws (o ∷ os) types i ts l q h =
+    by o (all_of os) refl refl q (λ ss y. params_same ns ws os types (suc i) ss (shorter (length os) (length ns) l) y (λ j z g. ap (var_at types) (one_on i j) ∙ h (suc j) z g))
   where
+    shorter : (a b : ℕ) → suc a ≡ suc b → a ≡ b
+    shorter a b e = omega (arith, e)
+
     one_on : (i j : ℕ) → suc i + j ≡ i + suc j
     one_on i j = omega arith
 
@@ -223,13 +221,13 @@ params_same meanings (p ∷ ps) ws types i ts q h =
     no_more i = omega arith
 
     rest : List Sort
-    rest = types_in (take (length ps) (variables_from (suc i) types (map (λ (z : List ℕ × Option ExprTree). z.0) ps ++ ws)))
+    rest = types_in (take (length ns) (variables_from (suc i) types (ns ++ ws)))
 
-    by : (a : Option Sort) (b : Option (List Sort)) → (marked meanings p.1).got ≡ a → all_of (param_types meanings ps) ≡ b → option_map (λ (z : Sort × List Sort). z.0 ∷ z.1) (option_zip a b) ≡ Some ts → ((ss : List Sort) → all_of (param_types meanings ps) ≡ Some ss → rest ≡ ss) → sort_or_none (var_at types i) ∷ rest ≡ ts
+    by : (a : Option Sort) (b : Option (List Sort)) → o ≡ a → all_of os ≡ b → option_map (λ (z : Sort × List Sort). z.0 ∷ z.1) (option_zip a b) ≡ Some ts → ((ss : List Sort) → all_of os ≡ Some ss → rest ≡ ss) → sort_or_none (var_at types i) ∷ rest ≡ ts
     by None b x y r next = absurd (cc)
     by (Some t) None x y r next = absurd (cc)
     by (Some t) (Some ss) x y r next =
-        ap₂ (λ (c : Sort) (l : List Sort). c ∷ l) (ap (λ n. sort_or_none (var_at types n)) (no_more i) ∙ ap sort_or_none (h 0 p refl) ∙ ap (λ o. sort_or_none (given_sort o)) x) (next ss y)
+        ap₂ (λ (c : Sort) (l : List Sort). c ∷ l) (ap (λ n. sort_or_none (var_at types n)) (no_more i) ∙ ap sort_or_none (h 0 o refl) ∙ ap (λ z. sort_or_none (given_sort z)) x) (next ss y)
         ∙ same_Some (t ∷ ss) ts r
 
 pub row_is_itself : (ss ts : List Sort) → ss ≡ ts → same_row ss ts ≡ true

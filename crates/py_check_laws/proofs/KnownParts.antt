@@ -1,23 +1,21 @@
 -- Where each name at the sights of targets, statements and definitions is known, so is each one at those of their parts.
-use Rattle.std.proofs.Common.{◌≡◌, ℕ, true, false, List, [], ◌∷◌, ◌++◌, refl, ap, ◌∙◌}
+use Rattle.std.proofs.Common.{◌≡◌, ℕ, false, List, [], ◌∷◌, ◌++◌, refl, ap, ◌∙◌}
 use Rattle.std.proofs.lemmas.Grind.{flat_map-append}
-use Rattle.std.specs.List.{list_all, flat_map}
+use Rattle.std.specs.List.{flat_map}
 use Rattle.py_syntax.specs.declared.token.Span.{Span}
 use Rattle.py_syntax.specs.Expressions as e
 use Rattle.py_syntax.specs.Expressions.{ExprTree, ExprNode, ExprTrees}
 use Rattle.py_syntax.specs.Statements as s
 use Rattle.py_syntax.specs.Statements.{StmtTree, StmtNode, Suite, Arms, Handlers, MaybeSuite, FuncTree}
-use Rattle.py_typed.proofs.FitLemmas.{and_left, and_right}
 use Rattle.py_binder.specs.declared.sight.Manner.TheVariants.{Value, Annotation}
 use Rattle.py_binder.specs.declared.sight.Home.TheVariants.{InModule}
-use Rattle.py_binder.specs.declared.scope.Role.TheVariants.{Function}
-use Rattle.py_binder.specs.Sights.{Sight, sight, Defines, Holds, reads, node_reads, exprs_reads, maybe_reads, list_reads, target_sights, target_node_sights, targets_sights, params_reads, header_sights, caught_sights, stmt_sights, stmt_node_sights, suite_sights, arms_sights, handlers_sights, maybe_suite_sights}
+use Rattle.py_binder.specs.declared.scope.Role.TheVariants.{Function, Class}
+use Rattle.py_binder.specs.Sights.{Sight, sight, Defines, Holds, reads, node_reads, exprs_reads, maybe_reads, list_reads, target_sights, target_node_sights, targets_sights, params_reads, header_sights, member_sights, members_sights, caught_sights, stmt_sights, stmt_node_sights, suite_sights, arms_sights, handlers_sights, maybe_suite_sights}
 use Rattle.py_check_context.specs.declared.scope.Meaning.{Meaning}
 use Rattle.py_check_places.specs.Shapes.{leaves, node_leaves, row_leaves}
 use Rattle.py_check_annotations.specs.Names.{any_unknown}
-use Rattle.py_check_names.specs.Outline.{held_by, stmt_definitions, node_definitions, suite_definitions, arms_definitions, handlers_definitions, last_definitions}
+use Rattle.py_check_names.specs.Outline.{held_by, method_in, methods_in, stmt_definitions, node_definitions, suite_definitions, arms_definitions, handlers_definitions, last_definitions}
 use Rattle.py_check_expressions_laws.proofs.Known.{known_left, known_right, known_both}
-use Rattle.py_check_laws.proofs.Meant.{is_right}
 
 abbrev pub AreKnown : (List ℕ → Meaning) → List Sight → Type 0
 AreKnown meanings sights = any_unknown meanings sights ≡ false
@@ -117,22 +115,42 @@ module _ (meanings : List ℕ → Meaning) where
     last_defined s.no_suite k = refl
     last_defined (s.some_suite body) k = suite_defined body k
 
-  -- the annotations of the function that a definition is
-  one_marked : (x : StmtTree) → is_right x ≡ true → AreKnown meanings (stmt_sights InModule x) → AreKnown meanings (flat_map annotation_reads (held_by x))
-  one_marked (s.at (s.Def name params ret body marks) span) h k =
-      let f : FuncTree = record { name = name; params = params; ret = ret; body = body; marks = marks } in
-      let header : AreKnown meanings (header_sights f span) = known_right meanings (list_reads Value marks) (sight (Defines Function name) span ∷ header_sights f span) k in
-      let ret_on : AreKnown meanings (maybe_reads Annotation ret ++ sight (Holds f) span ∷ []) = known_right meanings (params_reads params) (maybe_reads Annotation ret ++ sight (Holds f) span ∷ []) header in
+  -- the annotations of a function
+  header_marked : (f : FuncTree) (span : Span) → AreKnown meanings (header_sights f span) → AreKnown meanings (flat_map annotation_reads (f ∷ []))
+  header_marked f span k =
+      let ret_on : AreKnown meanings (maybe_reads Annotation f.ret ++ sight (Holds f) span ∷ []) = known_right meanings (params_reads f.params) (maybe_reads Annotation f.ret ++ sight (Holds f) span ∷ []) k in
       known_both meanings (annotation_reads f) []
-      (known_both meanings (params_reads params) (maybe_reads Annotation ret) (known_left meanings (params_reads params) (maybe_reads Annotation ret ++ sight (Holds f) span ∷ []) header) (known_left meanings (maybe_reads Annotation ret) (sight (Holds f) span ∷ []) ret_on)) refl
-  one_marked (s.at (s.ClassDef name bases body marks) span) h k = absurd (cc)
-  one_marked _ h k = refl
+      (known_both meanings (params_reads f.params) (maybe_reads Annotation f.ret) (known_left meanings (params_reads f.params) (maybe_reads Annotation f.ret ++ sight (Holds f) span ∷ []) k) (known_left meanings (maybe_reads Annotation f.ret) (sight (Holds f) span ∷ []) ret_on)) refl
+
+  -- those of the methods of a class
+  method_marked : (x : StmtTree) → AreKnown meanings (member_sights x) → AreKnown meanings (flat_map annotation_reads (method_in x))
+  method_marked (s.at (s.Def name params ret body marks) span) k =
+      let f : FuncTree = record { name = name; params = params; ret = ret; body = body; marks = marks } in
+      header_marked f span (known_right meanings (list_reads Value marks) (header_sights f span) k)
+  method_marked _ k = refl
+
+  methods_marked : (body : Suite) → AreKnown meanings (members_sights body) → AreKnown meanings (flat_map annotation_reads (methods_in body))
+  methods_marked s.no_stmts k = refl
+  methods_marked (s.stmt_then x more) k =
+      ap (any_unknown meanings) (flat_map-append annotation_reads (method_in x) (methods_in more))
+      ∙ known_both meanings (flat_map annotation_reads (method_in x)) (flat_map annotation_reads (methods_in more)) (method_marked x (known_left meanings (member_sights x) (members_sights more) k))
+      (methods_marked more (known_right meanings (member_sights x) (members_sights more) k))
+
+  -- those of the functions that a definition holds
+  one_marked : (x : StmtTree) → AreKnown meanings (stmt_sights InModule x) → AreKnown meanings (flat_map annotation_reads (held_by x))
+  one_marked (s.at (s.Def name params ret body marks) span) k =
+      let f : FuncTree = record { name = name; params = params; ret = ret; body = body; marks = marks } in
+      header_marked f span (known_right meanings (list_reads Value marks) (sight (Defines Function name) span ∷ header_sights f span) k)
+  one_marked (s.at (s.ClassDef name bases body marks) span) k =
+      methods_marked body
+      (known_right meanings (list_reads Value bases) (members_sights body) (known_right meanings (list_reads Value marks) (sight (Defines Class name) span ∷ (list_reads Value bases ++ members_sights body)) k))
+  one_marked _ k = refl
 
   -- THE ANNOTATIONS of the functions that these definitions are
-  pub all_marked : (ds : List StmtTree) → list_all is_right ds ≡ true → AreKnown meanings (definitions_sights ds) → AreKnown meanings (flat_map annotation_reads (flat_map held_by ds))
-  all_marked [] h k = refl
-  all_marked (x ∷ ds) h k =
+  pub all_marked : (ds : List StmtTree) → AreKnown meanings (definitions_sights ds) → AreKnown meanings (flat_map annotation_reads (flat_map held_by ds))
+  all_marked [] k = refl
+  all_marked (x ∷ ds) k =
       ap (any_unknown meanings) (flat_map-append annotation_reads (held_by x) (flat_map held_by ds))
       ∙ known_both meanings (flat_map annotation_reads (held_by x)) (flat_map annotation_reads (flat_map held_by ds))
-      (one_marked x (and_left (is_right x) (list_all is_right ds) h) (known_left meanings (stmt_sights InModule x) (definitions_sights ds) k))
-      (all_marked ds (and_right (is_right x) (list_all is_right ds) h) (known_right meanings (stmt_sights InModule x) (definitions_sights ds) k))
+      (one_marked x (known_left meanings (stmt_sights InModule x) (definitions_sights ds) k))
+      (all_marked ds (known_right meanings (stmt_sights InModule x) (definitions_sights ds) k))

@@ -7,7 +7,6 @@ use Rattle.py_syntax.specs.Expressions.{ExprTree}
 use Rattle.py_syntax.specs.Statements as node
 use Rattle.py_syntax.specs.Statements.{StmtTree, StmtNode, Suite, no_stmts, stmt_then, Arms, no_arms, arm_then}
 use Rattle.py_typed.specs.Sorts.{Sort}
-use Rattle.py_typed.specs.Classes.{Signature}
 use Rattle.py_typed.specs.Expressions.{TypedExpr}
 use Rattle.py_typed.specs.Statements as act
 use Rattle.py_typed.specs.Statements.{Variable, TypedModule, TypedTarget, TypedStmt, TypedAct, TypedSuite, on_line, suite_of, arms_of}
@@ -15,7 +14,6 @@ use Rattle.py_typed.specs.Narrowing as telling
 use Rattle.py_typed.specs.Narrowing.{without, bound_by_all, or_shared, known_at_end}
 use Rattle.py_typed.specs.WellTyped as stmt
 use Rattle.py_typed.proofs.FitLemmas.{and_left, and_right}
-use Rattle.py_check_context.specs.declared.scope.Meaning.{Meaning}
 use Rattle.py_check_context.specs.Context.{Context, test, dropped}
 use Rattle.py_check_flow.specs.Bindings.{name_in}
 use Rattle.py_check_flow.specs.Closed as flow
@@ -53,10 +51,10 @@ use Rattle.py_check_laws.proofs.Values.{scene, of_three, of_four}
 use Rattle.py_check_laws.proofs.Closed.{scope_on}
 use Rattle.py_check_laws.proofs.Bound.{described_before, single}
 use Rattle.py_check_laws.proofs.Loops.{head_parts, loop_after}
-use Rattle.py_check_laws.proofs.Stand.{at_classes}
 use Rattle.py_check_laws.proofs.Binds.{act_binds, for_binds, block_binds}
 use Rattle.py_check_laws.proofs.LessBound.{less_assign, less_bare, less_annotated, less_update}
 use Rattle.py_check_laws.proofs.LessHeads.{less_head}
+use Rattle.py_check_expressions_laws.proofs.Sound.{at_classes}
 
 -- ---- the ends of arms
 
@@ -110,12 +108,12 @@ module _ (C : Context) where
       let binds = block_binds C r (around_loop around) (where_test C l true e) body inner ts g in
       test_less l e bare t h (without (telling.bound_suite (suite_of ts)) known) (within_without (telling.bound_suite (suite_of ts)) (locals_in C (node.at (node.While e body) span)) known k.names binds w) true
 
-module _ (means : List ℕ → Meaning) (signatures : List (Option Signature)) (m : TypedModule) (locals : List Variable) (init : Option ℕ) (result : Option Sort) where
+module _ (C : Context) (m : TypedModule) (locals : List Variable) (init : Option ℕ) (result : Option Sort) where
   abbrev here : Context
-  here = scene means signatures m locals init
+  here = scene C m locals init
 
   abbrev one_takes : List TypedTarget → Sort → Bool
-  one_takes = single means signatures m locals init result
+  one_takes = single C m locals init result
 
   -- what is known behind the typed form is known at this end, where no more was known in front of it
   abbrev LessAct : List ℕ → List ℕ → TypedAct → Type 0
@@ -172,18 +170,18 @@ module _ (means : List ℕ → Meaning) (signatures : List (Option Signature)) (
 
   module _ (r : ReturnSort) where
     mutual
-      less_stmt : (around : Around) (k : Known) (s : StmtTree) → IsScope here k.types → Describes here (after here k s).types m locals → is_stmt_written s ≡ true → is_bare_stmt means s ≡ true → (t : TypedStmt) → (statement here r around k s).got ≡ Some t → LessStmt k.names (after here k s).names t
+      less_stmt : (around : Around) (k : Known) (s : StmtTree) → IsScope here k.types → Describes here (after here k s).types m locals init → is_stmt_written s ≡ true → is_bare_stmt C.meaning s ≡ true → (t : TypedStmt) → (statement here r around k s).got ≡ Some t → LessStmt k.names (after here k s).names t
       less_stmt around k (node.at n span) sc E ws bare t h =
           let q = made_given (λ a. on_line a span.line) (node_statement here r around k span n) t h in
           subst (LessStmt k.names (node_after here k span n).names) q.2 (less_act around k span n sc E ws bare q.0 q.1)
 
-      less_act : (around : Around) (k : Known) (span : Span) (n : StmtNode) → IsScope here k.types → Describes here (node_after here k span n).types m locals → is_act_written n ≡ true → is_bare_act means n ≡ true → (a : TypedAct) → (node_statement here r around k span n).got ≡ Some a → LessAct k.names (node_after here k span n).names a
+      less_act : (around : Around) (k : Known) (span : Span) (n : StmtNode) → IsScope here k.types → Describes here (node_after here k span n).types m locals init → is_act_written n ≡ true → is_bare_act C.meaning n ≡ true → (a : TypedAct) → (node_statement here r around k span n).got ≡ Some a → LessAct k.names (node_after here k span n).names a
       less_act around k span (node.Do e) sc E ws bare a h = let q = made_given act.Do (typed_at here k dropped e) a h in kept_less k.names (act.Do q.0) a (λ known. refl) q.2
       less_act around k span (node.Assign target e) sc E ws bare a h =
-          less_assign means signatures m locals init result k span target e sc (and_left (are_targets (leaves target)) (law.is_written e) ws) (and_right (are_targets (leaves target)) (law.is_written e) ws) E a h
-      less_act around k span (node.Annot target mark (Some e)) sc E ws bare a h = less_annotated means signatures m locals init result k span (name_in target) target mark e refl sc ws E a h
-      less_act around k span (node.Annot target mark None) sc E ws bare a h = less_bare means signatures m locals init result k span (name_in target) target mark refl bare a h
-      less_act around k span (node.Aug target op e) sc E ws bare a h = less_update means signatures m locals init result k span target op e a h
+          less_assign C m locals init result k span target e sc (and_left (are_targets (leaves target)) (law.is_written e) ws) (and_right (are_targets (leaves target)) (law.is_written e) ws) E a h
+      less_act around k span (node.Annot target mark (Some e)) sc E ws bare a h = less_annotated C m locals init result k span (name_in target) target mark e refl sc ws E a h
+      less_act around k span (node.Annot target mark None) sc E ws bare a h = less_bare C m locals init result k span (name_in target) target mark refl bare a h
+      less_act around k span (node.Aug target op e) sc E ws bare a h = less_update C m locals init result k span target op e a h
       less_act around k span (node.Del e) sc E ws bare a h = let d = (deleted_item here k span e a h).2 in kept_less k.names (act.Del d.held d.key) a (λ known. refl) d.made
       less_act around k span (node.Raise e) sc E ws bare a h = raise_less around.handling k span e a h
       less_act around k span (node.Assert e text) sc E ws bare a h = assert_less k span e text bare a h
@@ -203,9 +201,9 @@ module _ (means : List ℕ → Meaning) (signatures : List (Option Signature)) (
           let scw = scope_on here k.types way.at.types (follows_arms here (setting_out k) arms) sc in
           let shape = shape_block here r around way.at other q.0.1 b.1 in
           let ts = suite_of q.0.1 in
-          let last = less_block around way.at other scw E wr.2 (and_right (are_bare_arms means arms) (is_bare_suite means other) bare) q.0.1 b.1 in
+          let last = less_block around way.at other scw E wr.2 (and_right (are_bare_arms C.meaning arms) (is_bare_suite C.meaning other) bare) q.0.1 b.1 in
           subst (LessAct k.names (common (met way.ends (flow.is_closed other) end.names))) q.2 (λ known w.
-          less_arms around (setting_out k) arms sc (described_before here way.at.types end.types m locals (follows_block here way.at other) E) wr.1 (and_left (are_bare_arms means arms) (is_bare_suite means other) bare) q.0.0 b.0 known w
+          less_arms around (setting_out k) arms sc (described_before here way.at.types end.types m locals init (follows_block here way.at other) E) wr.1 (and_left (are_bare_arms C.meaning arms) (is_bare_suite C.meaning other) bare) q.0.0 b.0 known w
           (λ there ends. if telling.is_closed ts then ends else or_shared ends (telling.after_suite one_takes there ts))
           (common (met way.ends (flow.is_closed other) end.names)) None tt
           (λ there ends wk eo. all_ends (met way.ends (flow.is_closed other) end.names) (if telling.is_closed ts then ends else or_shared ends (telling.after_suite one_takes there ts))
@@ -225,7 +223,7 @@ module _ (means : List ℕ → Meaning) (signatures : List (Option Signature)) (
           subst (LessAct k.names (node_after here k span (node.While e body)).names) q.2 (λ known w.
           let left = without (telling.bound_suite ts) known in
           let wl = within_without (telling.bound_suite ts) (locals_in here here_stmt) known k.names binds w in
-          left_or (flow.breaks_suite body) (telling.breaks_suite ts) l.names (where_test here l false e).names left (telling.facts false q.0.0 ++ left) shape.breaks wl (test_less here l e (and_left (is_bare e) (is_bare_suite means body) bare) q.0.0 b.0 left wl false))
+          left_or (flow.breaks_suite body) (telling.breaks_suite ts) l.names (where_test here l false e).names left (telling.facts false q.0.0 ++ left) shape.breaks wl (test_less here l e (and_left (is_bare e) (is_bare_suite C.meaning body) bare) q.0.0 b.0 left wl false))
       less_act around k span (node.For target e body) sc E ws bare a h =
           let here_stmt = node.at (node.For target e body) span in
           let s = for_head here k here_stmt span target e in
@@ -236,7 +234,7 @@ module _ (means : List ℕ → Meaning) (signatures : List (Option Signature)) (
           let binds : Within (locals_in here here_stmt) gone =
           subst (Within (locals_in here here_stmt)) (loop_binds q.0.0.0 q.0.0.1 ts) (subst (λ z. Within (locals_in here here_stmt) (telling.bound_in z)) (sym q.2) (act_binds here r around k span (node.For target e body) bare a h)) in
           subst (LessAct k.names (entering here k here_stmt).names) q.2 (λ known w.
-          subst (λ z. Within z (entering here k here_stmt).names) (sym (loop_after means signatures m locals init result known q.0.0.0 q.0.0.1 ts)) (within_without gone (locals_in here here_stmt) known k.names binds w))
+          subst (λ z. Within z (entering here k here_stmt).names) (sym (loop_after C m locals init result known q.0.0.0 q.0.0.1 ts)) (within_without gone (locals_in here here_stmt) known k.names binds w))
       less_act around k span (node.Try body handlers last) sc E ws bare a h =
           let here_stmt = node.at (node.Try body handlers last) span in
           let names = outside_try here k here_stmt in
@@ -248,19 +246,19 @@ module _ (means : List ℕ → Meaning) (signatures : List (Option Signature)) (
       less_act around k span _ sc E ws bare a h = absurd (cc)
 
       -- STATEMENTS in a row
-      pub less_block : (around : Around) (k : Known) (body : Suite) → IsScope here k.types → Describes here (block_after here k body).types m locals → is_suite_written body ≡ true → is_bare_suite means body ≡ true → (ts : List TypedStmt) → (block here r around k body).got ≡ Some ts → LessSuite k.names (block_after here k body).names (suite_of ts)
+      pub less_block : (around : Around) (k : Known) (body : Suite) → IsScope here k.types → Describes here (block_after here k body).types m locals init → is_suite_written body ≡ true → is_bare_suite C.meaning body ≡ true → (ts : List TypedStmt) → (block here r around k body).got ≡ Some ts → LessSuite k.names (block_after here k body).names (suite_of ts)
       less_block around k no_stmts sc E ws bare ts h = subst (λ l. LessSuite k.names k.names (suite_of l)) (same_Some [] ts h) (λ known w. w)
       less_block around k (stmt_then s more) sc E ws bare ts h =
           let l = after here k s in
-          let el = described_before here l.types (block_after here l more).types m locals (follows_block here l more) E in
+          let el = described_before here l.types (block_after here l more).types m locals init (follows_block here l more) E in
           let wm = and_right (is_stmt_written s) (is_suite_written more) ws in
-          let bm = and_right (is_bare_stmt means s) (is_bare_suite means more) bare in
+          let bm = and_right (is_bare_stmt C.meaning s) (is_bare_suite C.meaning more) bare in
           suite_step r around k s more ts (is_definition s) refl
-          (λ same g. less_block around k more sc (subst (λ (z : Known). Describes here (block_after here z more).types m locals) same E) wm bm ts g)
-          (λ t g. less_stmt around k s sc el (and_left (is_stmt_written s) (is_suite_written more) ws) (and_left (is_bare_stmt means s) (is_bare_suite means more) bare) t g)
+          (λ same g. less_block around k more sc (subst (λ (z : Known). Describes here (block_after here z more).types m locals init) same E) wm bm ts g)
+          (λ t g. less_stmt around k s sc el (and_left (is_stmt_written s) (is_suite_written more) ws) (and_left (is_bare_stmt C.meaning s) (is_bare_suite C.meaning more) bare) t g)
           (λ x g. less_block around l more (scope_on here k.types l.types (follows_stmt here k s) sc) E wm bm x g) h
 
-      less_arms : (around : Around) (w : Way) (arms : Arms) → IsScope here w.at.types → Describes here (arms_after here w arms).at.types m locals → are_arms_written arms ≡ true → are_bare_arms means arms ≡ true → (l : List (TypedExpr × TypedSuite)) → (branches here r around w arms).got ≡ Some l → (known : List ℕ) → Within known w.at.names
+      less_arms : (around : Around) (w : Way) (arms : Arms) → IsScope here w.at.types → Describes here (arms_after here w arms).at.types m locals init → are_arms_written arms ≡ true → are_bare_arms C.meaning arms ≡ true → (l : List (TypedExpr × TypedSuite)) → (branches here r around w arms).got ≡ Some l → (known : List ℕ) → Within known w.at.names
           → (last : List ℕ → Option (List ℕ) → Option (List ℕ)) (final : List ℕ) (ends : Option (List ℕ)) → LessEnds w.ends ends
           → ((there : List ℕ) (es : Option (List ℕ)) → Within there (arms_after here w arms).at.names → LessEnds (arms_after here w arms).ends es → Within (known_at_end (last there es)) final)
           → Within (known_at_end (telling.after_arms one_takes known ends (arms_of l) last)) final
@@ -276,8 +274,8 @@ module _ (means : List ℕ → Meaning) (signatures : List (Option Signature)) (
           let v = made_given (λ p. (p.0, suite_of p.1)) (both s t) q.0 q.2 in
           let b = both_given s t v.0 v.1 in
           let wr = of_four (law.is_written e) (is_filled body) (is_suite_written body) (are_arms_written more) wa in
-          let br = of_three (is_bare e) (is_bare_suite means body) (are_bare_arms means more) bare in
-          let Ee = described_before here end.types (arms_after here then_on more).at.types m locals (follows_arms here then_on more) E in
+          let br = of_three (is_bare e) (is_bare_suite C.meaning body) (are_bare_arms C.meaning more) bare in
+          let Ee = described_before here end.types (arms_after here then_on more).at.types m locals init (follows_arms here then_on more) E in
           let tells = test_less here w.at e br.0 v.0.0 b.0 known wi in
           let g = less_block around inner body sc Ee wr.2 br.1 v.0.1 b.1 (telling.facts true v.0.0 ++ known) (tells true) in
           let shape = shape_block here r around inner body v.0.1 b.1 in
@@ -289,7 +287,7 @@ module _ (means : List ℕ → Meaning) (signatures : List (Option Signature)) (
           (subst (λ (z : TypedExpr × TypedSuite). Within (known_at_end (telling.after_arms one_takes known ends (arms_of (z ∷ q.1)) last)) final) v.2 rest)
 
   -- where the body of a `for` begins
-  pub less_for : (r : ReturnSort) (around : Around) (k : Known) (span : Span) (target e : ExprTree) (body : Suite) → IsScope here k.types → Describes here (in_for here k (node.at (node.For target e body) span) span target e).types m locals → law.is_written e ≡ true → is_bare_suite means body ≡ true
+  pub less_for : (r : ReturnSort) (around : Around) (k : Known) (span : Span) (target e : ExprTree) (body : Suite) → IsScope here k.types → Describes here (in_for here k (node.at (node.For target e body) span) span target e).types m locals init → law.is_written e ≡ true → is_bare_suite C.meaning body ≡ true
       → (targets : List TypedTarget) (over : Course) (item : Sort) → (for_head here k (node.at (node.For target e body) span) span target e).got ≡ Some (targets, over) → course_items over ≡ Some item
       → (ts : List TypedStmt) → (block here r (around_loop around) (in_for here k (node.at (node.For target e body) span) span target e) body).got ≡ Some ts → (known : List ℕ) → Within known k.names
       → Within (stmt.in_loop_from m locals init result known targets item (suite_of ts)) (in_for here k (node.at (node.For target e body) span) span target e).names
@@ -297,29 +295,29 @@ module _ (means : List ℕ → Meaning) (signatures : List (Option Signature)) (
       let s = node.at (node.For target e body) span in
       let l = in_for here k s span target e in
       let ok = is_some (for_head here k s span target e).got in
-      let D = described_before here k.types l.types m locals (follows_target here ok (entering here k s) target (some_items (course here k e).got)) E in
+      let D = described_before here k.types l.types m locals init (follows_target here ok (entering here k s) target (some_items (course here k e).got)) E in
       let hp = head_parts here k s span target e (targets, over) h in
       let same : hp.headed.item ≡ item = same_Some hp.headed.item item (sym hp.headed.items ∙ ap course_items hp.is ∙ is) in
       let binds = for_binds here k s span target e body (targets, over) h (suite_of ts) (block_binds here r (around_loop around) l body bare ts g) in
       subst (λ z. Within (stmt.in_loop_from m locals init result known targets z (suite_of ts)) l.names) same
-      (less_head means signatures m locals init result k D sc s span target e we (targets, over) h hp E (suite_of ts) known
+      (less_head C m locals init result k D sc s span target e we (targets, over) h hp E (suite_of ts) known
       (within_without (bound_by_all targets ++ telling.bound_suite (suite_of ts)) (locals_in here s) known k.names binds w))
 
 -- for any context that has the classes of the module
-pub less_in : (C : Context) (r : ReturnSort) (around : Around) (k : Known) (body : Suite) (m : TypedModule) (locals : List Variable) (init : Option ℕ) (result : Option Sort) → IsScope C k.types → Describes C (block_after C k body).types m locals
+pub less_in : (C : Context) (r : ReturnSort) (around : Around) (k : Known) (body : Suite) (m : TypedModule) (locals : List Variable) (init : Option ℕ) (result : Option Sort) → IsScope C k.types → Describes C (block_after C k body).types m locals init
     → is_suite_written body ≡ true → is_bare_suite C.meaning body ≡ true → (ts : List TypedStmt) → (block C r around k body).got ≡ Some ts → (known : List ℕ) → Within known k.names
     → Within (telling.after_suite (stmt.is_single m locals init result) known (suite_of ts)) (block_after C k body).names
 less_in C r around k body m locals init result sc D ws bare ts g known w =
-    subst (λ e. IsScope (at_classes C e) k.types → Describes (at_classes C e) (block_after (at_classes C e) k body).types m locals → (block (at_classes C e) r around k body).got ≡ Some ts
+    subst (λ e. IsScope (at_classes C e) k.types → Describes (at_classes C e) (block_after (at_classes C e) k body).types m locals init → (block (at_classes C e) r around k body).got ≡ Some ts
     → Within (telling.after_suite (stmt.is_single m locals init result) known (suite_of ts)) (block_after (at_classes C e) k body).names) D.classes
-    (λ sc D g. less_block C.meaning C.signatures m locals init result r around k body sc D ws bare ts g known w) sc D g
+    (λ sc D g. less_block C m locals init result r around k body sc D ws bare ts g known w) sc D g
 
-pub less_for_in : (C : Context) (r : ReturnSort) (around : Around) (k : Known) (span : Span) (target e : ExprTree) (body : Suite) (m : TypedModule) (locals : List Variable) (init : Option ℕ) (result : Option Sort) → IsScope C k.types → Describes C (in_for C k (node.at (node.For target e body) span) span target e).types m locals
+pub less_for_in : (C : Context) (r : ReturnSort) (around : Around) (k : Known) (span : Span) (target e : ExprTree) (body : Suite) (m : TypedModule) (locals : List Variable) (init : Option ℕ) (result : Option Sort) → IsScope C k.types → Describes C (in_for C k (node.at (node.For target e body) span) span target e).types m locals init
     → law.is_written e ≡ true → is_bare_suite C.meaning body ≡ true → (targets : List TypedTarget) (over : Course) (item : Sort) → (for_head C k (node.at (node.For target e body) span) span target e).got ≡ Some (targets, over) → course_items over ≡ Some item
     → (ts : List TypedStmt) → (block C r (around_loop around) (in_for C k (node.at (node.For target e body) span) span target e) body).got ≡ Some ts → (known : List ℕ) → Within known k.names
     → Within (stmt.in_loop_from m locals init result known targets item (suite_of ts)) (in_for C k (node.at (node.For target e body) span) span target e).names
 less_for_in C r around k span target e body m locals init result sc D we bare targets over item h is ts g known w =
     let s = node.at (node.For target e body) span in
-    subst (λ c. IsScope (at_classes C c) k.types → Describes (at_classes C c) (in_for (at_classes C c) k s span target e).types m locals → (for_head (at_classes C c) k s span target e).got ≡ Some (targets, over)
+    subst (λ c. IsScope (at_classes C c) k.types → Describes (at_classes C c) (in_for (at_classes C c) k s span target e).types m locals init → (for_head (at_classes C c) k s span target e).got ≡ Some (targets, over)
     → (block (at_classes C c) r (around_loop around) (in_for (at_classes C c) k s span target e) body).got ≡ Some ts → Within (stmt.in_loop_from m locals init result known targets item (suite_of ts)) (in_for (at_classes C c) k s span target e).names) D.classes
-    (λ sc D h g. less_for C.meaning C.signatures m locals init result r around k span target e body sc D we bare targets over item h is ts g known w) sc D h g
+    (λ sc D h g. less_for C m locals init result r around k span target e body sc D we bare targets over item h is ts g known w) sc D h g

@@ -3,18 +3,19 @@ use Rattle.std.proofs.Common.{◌≡◌, ℕ, suc, Bool, true, false, not, ◌||
 use Rattle.std.proofs.lemmas.Bool.{or_left, or_right, or_cases}
 use Rattle.py_syntax.specs.Expressions.{ExprTree}
 use Rattle.py_typed.specs.Sorts.{Sort}
-use Rattle.py_typed.specs.Statements.{TypedTarget, LocalTarget, GlobalTarget, ItemTarget}
+use Rattle.py_typed.specs.Statements.{TypedTarget, LocalTarget, GlobalTarget, ItemTarget, AttrTarget}
 use Rattle.py_typed.specs.Narrowing.{is_in, without, may_be_none, bound_by, after_target, after_parts}
 use Rattle.py_check_context.specs.Context.{Context}
 use Rattle.py_check_flow.specs.Bindings.{name_in}
-use Rattle.py_check_values.specs.Aims.{Aim, held, first, barred, unwritten, misplaced}
-use Rattle.py_check_values.specs.Assignments.{first_barred, first_unwritten}
+use Rattle.py_check_values.specs.Aims.{Aim, held, first, barred, unwritten, misplaced, lacking}
+use Rattle.py_check_values.specs.Assignments.{first_barred}
 use Rattle.py_check_places.specs.Places.{Known, is_plain, rebound, bind_variable, bind_name, bind_names}
 use Rattle.py_check_targets.specs.Targets.{targets_of, next_part, more_parts, beyond}
 use Rattle.py_check_expressions_laws.specs.WellTyped.{Within}
 use Rattle.py_check_expressions_laws.proofs.Inside.{either, filter_finds}
 use Rattle.py_check_laws.proofs.Names.{within_itself, within_more, within_less, within_without}
-use Rattle.py_check_laws.proofs.Aims.{AimsOf, Aimed, aimed_local, aimed_global, aimed_item, held_aimed, first_aimed, aim_held, aim_first}
+use Rattle.py_check_laws.proofs.Aims.{AimsOf, Aimed, aimed_local, aimed_global, aimed_item, held_aimed, first_aimed, aim_held, aim_first, aimed_attribute}
+use Rattle.py_check_laws.proofs.Assigned.{is_itemless}
 
 -- a name, and what else was known
 within_again : (i : ℕ) (known names : List ℕ) → Within known names → Within (i ∷ known) (i ∷ without (i ∷ []) names)
@@ -55,12 +56,15 @@ module _ (C : Context) where
   less_aimed e target (aimed_item b i n is) ok k t s known w h =
       subst (Within (after_target known target s)) (sym (ap (λ o. (bind_name C ok k o t).names) n))
       (subst (λ z. Within (after_target known z s) k.names) is (less_other (ItemTarget b i) s known k.names refl w))
+  less_aimed e target (aimed_attribute b a n is) ok k t s known w h =
+      subst (Within (after_target known target s)) (sym (ap (λ o. (bind_name C ok k o t).names) n))
+      (subst (λ z. Within (after_target known z s) k.names) is (less_other (AttrTarget b a) s known k.names refl w))
 
   one_less : (a b : ℕ) → suc a ≡ suc b → a ≡ b
   one_less a b e = cc
 
   -- behind those of several targets, one for each part
-  pub less_row : (place : Known) (es : List ExprTree) (l : List Aim) (parts : Option (List Sort)) → AimsOf C place parts es l → first_barred l ≡ None → first_unwritten l ≡ None → (ss : List Sort) → length ss ≡ length l → (k : Known) (known : List ℕ) → Within known k.names
+  pub less_row : (place : Known) (es : List ExprTree) (l : List Aim) (parts : Option (List Sort)) → AimsOf C place parts es l → first_barred l ≡ None → is_itemless l ≡ true → (ss : List Sort) → length ss ≡ length l → (k : Known) (known : List ℕ) → Within known k.names
       → Within (after_parts known (targets_of l) ss) (bind_names C true k (map name_in es) ss).names
   less_row place [] [] parts a p q [] n k known w = within_less [] known k.names w
   less_row place [] [] parts a p q (s ∷ ss) n k known w = absurd (cc)
@@ -75,4 +79,5 @@ module _ (C : Context) where
       (less_aimed e t (first_aimed C place e t (aim_first C place e t y a.here)) true k (Some s) s known w (λ h. ap not h))
   less_row place (e ∷ es) (barred x ∷ l) parts a p q (s ∷ ss) n k known w = absurd (cc)
   less_row place (e ∷ es) (unwritten x ∷ l) parts a p q (s ∷ ss) n k known w = absurd (cc)
+  less_row place (e ∷ es) (lacking x y ∷ l) parts a p q (s ∷ ss) n k known w = absurd (cc)
   less_row place (e ∷ es) (misplaced x ∷ l) parts a p q (s ∷ ss) n k known w = absurd (cc)

@@ -27,6 +27,7 @@ mod Meant
 mod Marks
 mod Plain
 mod Signed
+mod Bodied
 mod Modules
 mod Owned
 mod Others
@@ -35,8 +36,12 @@ mod Marked
 mod Inner
 mod Described
 mod Firsts
+mod NewNames
 mod Differ
+mod AllNames
 mod Formed
+mod Methods
+mod FuncGood
 mod QuietParts
 mod StatementLayers
 mod OwnTypes
@@ -46,3 +51,12 @@ mod LessBound
 mod LessHeads
 mod LessKnown
 pub mod Complete
+mod Quieted
+mod Heads
+mod Classes
+mod Agreed
+mod NamedHere
+mod NewHere
+mod Reached
+mod Placed
+mod Standing

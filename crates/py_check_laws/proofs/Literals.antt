@@ -1,8 +1,8 @@
 -- What is typed as a literal True or None is written so.
-use Rattle.std.proofs.Common.{◌≡◌, ℕ, suc, Bool, true, false, ◌==◌, List, [], ◌∷◌, ◌++◌, length, Option, Some, None, Result, Ok, Err, refl, ap, sym, ◌∙◌, subst, if◌then◌else◌}
+use Rattle.std.proofs.Common.{◌≡◌, ℕ, suc, Bool, true, false, List, [], ◌∷◌, ◌++◌, Option, Some, None, Result, Ok, Err, refl, ap, sym, ◌∙◌, subst, if◌then◌else◌}
 use Rattle.std.proofs.lemmas.Option.{same_Some}
 use Rattle.std.specs.Str.{bytes_eq}
-use Rattle.std.specs.Prelude.{codes}
+use Rattle.std.specs.Prelude.{codes, slice_get}
 use Rattle.value_core.specs.declared.exception.ExcClass.{ExcClass}
 use Rattle.py_syntax.specs.declared.token.Span.{Span}
 use Rattle.py_syntax.specs.Expressions as tree
@@ -18,14 +18,14 @@ use Rattle.py_typed.specs.WellTypedExpr.{is_none_literal}
 use Rattle.py_typed.proofs.FitLemmas.{one_type}
 use Rattle.py_check_context.specs.declared.scope.Meaning.{Meaning}
 use Rattle.py_check_context.specs.declared.scope.Meaning.TheVariants as meaning
-use Rattle.py_check_context.specs.Context.{Context, VarSort, unset, untyped, has, VarSorts, var_at, Wanted, free, test, WantedRow, wanted_in}
+use Rattle.py_check_context.specs.Context.{Context, VarSort, unset, untyped, has, VarSorts, var_at, Wanted, free, test, WantedRow, wanted_in, some_signature}
 use Rattle.py_check_flow.specs.Closed.{is_true}
 use Rattle.py_check_messages.specs.Seen.{Seen, Message, both, behind, rule}
 use Rattle.py_check_coercions.specs.Several.{ruled_all}
 use Rattle.py_check_coercions.specs.Values.{place_of, coerced, truth}
 use Rattle.py_check_operators.specs.Facts.{facts, is_none_tree}
 use Rattle.py_check_operators.specs.Names.{variable, named}
-use Rattle.py_check_coercions.specs.Rows.{Misfit, unfit}
+use Rattle.py_check_coercions.specs.Rows.{unfit}
 use Rattle.py_check_operators.specs.Operators.{signed, negation, affirmation, inversion, arithmetic, is_concat, is_numeric}
 use Rattle.py_check_operators.specs.Chains.{faults_of, chain}
 use Rattle.py_check_operators.specs.Choices.{word_node, junction, operand, choice, choice_type}
@@ -35,16 +35,17 @@ use Rattle.py_check_displays.specs.Dicts.{entry_sorts, key_wanted, value_wanted,
 use Rattle.py_check_displays.specs.Indexing.{Literal, literal, indexing, is_tuple, part_of, part_made, part_at, parts_of, keyed_by, item_of, item_at}
 use Rattle.py_check_calls.specs.declared.callees.Single.{Single}
 use Rattle.py_check_calls.specs.declared.callees.Single.TheVariants as one
-use Rattle.py_check_calls.specs.Callees.{Callee, function, print, input, range, single, exception, method, voiceless, uncalled, value, callee, has_key}
+use Rattle.py_check_calls.specs.Callees.{Callee, function, class, trait, super_init, print, input, range, single, exception, method, voiceless, uncalled, value, callee, has_key}
 use Rattle.py_check_calls.specs.Builtins.{as_value, gives_value, unprintable, printed, the_only, single_takes, single_made, single_given, single_call, print_call, input_call}
 use Rattle.py_check_calls.specs.Exceptions.{exception_made, exception_call}
-use Rattle.py_check_calls.specs.Methods.{attribute, is_list_method, pop_call, append_given, append_call, value_call, method_call, item_of as item_sort_of}
-use Rattle.py_check_calls.specs.Calls.{arguments_row, call_made, function_given, function_call, positional, refused, called}
+use Rattle.py_check_calls.specs.Methods.{Had, has_attribute, has_method, has_append, has_pop, has_untyped, none_has_not, has_not, look_up, read, attribute, pop_call, append_given, append_call}
+use Rattle.py_check_calls.specs.Calls.{arguments_row, positional, refused, takes, init_name, signed_call, had_call, method_call, called}
 use Rattle.py_check_expressions.specs.Typing.{typing, items, entries, operands, arguments, part, count}
-use Rattle.py_check_expressions_laws.proofs.Given.{Gives, gives_is, gives_silent, gives_fails, gives_any, gives_made, gives_rule, gives_ruled_all, gives_compare, gives_row, gives_after, gives_judged}
+use Rattle.py_check_expressions_laws.proofs.Given.{Gives, gives_is, gives_silent, gives_fails, gives_any, gives_made, gives_behind, gives_rule, gives_ruled_all, gives_compare, gives_row, gives_after, gives_judged}
 use Rattle.py_check_expressions_laws.proofs.Types.{clash}
 use Rattle.py_check_expressions_laws.proofs.Telling.{done, ok_same, joined_made, junction_is}
 use Rattle.py_check_expressions_laws.proofs.Nodes.{if_ok}
+use Rattle.py_check_expressions_laws.proofs.Called.{gives_by}
 
 -- a literal has its own type
 pub record IsLiteral (t : TypedExpr) : Type 0 where
@@ -99,17 +100,6 @@ module _ (classes : List ClassEntry) where
   value_plain : (w : Wanted) (f : List ℕ) (n : TypedNode) (t : Sort) (span : Span) (e : TypedExpr) → IsPlain (typed n t span) → as_value w f (typed n t span) ≡ Ok e → IsPlain e
   value_plain w f n t span e p h = let r = if_ok (gives_value w t) (typed n t span) e _ h in subst IsPlain r.1 p
 
-  function_plain : (w : Wanted) (span : Span) (f : List ℕ) (i : ℕ) (s : Signature) (es : List TypedExpr) (e : TypedExpr) → function_call classes w span f i s es ≡ Ok e → IsPlain e
-  function_plain w span f i s es e h = numbered (length es == length s.params) h
-    where
-      by : (o : Option Misfit) → function_given classes w span f i s es o ≡ Ok e → IsPlain e
-      by None q = value_plain w f (node.Call i (Rattle.py_typed.specs.Expressions.exprs_of (changed_row (Rattle.py_check_context.specs.Context.along s.params) 0 es))) s.ret span e (record { flag = refl; none = refl }) q
-      by (Some u) q = absurd (cc)
-
-      numbered : (b : Bool) → (if b then function_given classes w span f i s es (unfit classes (Rattle.py_check_context.specs.Context.along s.params) 0 es) else Err (Rattle.py_check_messages.specs.Messages.wrong_number f (Rattle.std.specs.Fmt.decimal (length s.params)))) ≡ Ok e → IsPlain e
-      numbered true q = by (unfit classes (Rattle.py_check_context.specs.Context.along s.params) 0 es) q
-      numbered false q = absurd (cc)
-
   print_plain : (w : Wanted) (span : Span) (es : List TypedExpr) (e : TypedExpr) (o : Option (ℕ × Sort)) → printed classes w span es o ≡ Ok e → IsPlain e
   print_plain w span es e None h = value_plain w (codes "print") (node.Print (Rattle.py_typed.specs.Expressions.exprs_of es)) sort.Nothing span e (record { flag = refl; none = refl }) h
   print_plain w span es e (Some p) h = absurd (cc)
@@ -145,23 +135,6 @@ module _ (classes : List ClassEntry) where
   pop_plain span a t [] e h = subst IsPlain (ok_same (typed (node.Pop a) t span) e h) (record { flag = refl; none = refl })
   pop_plain span a t (x ∷ es) e h = absurd (cc)
 
-  list_plain : (w : Wanted) (span : Span) (f : List ℕ) (a : TypedExpr) (t : Sort) (es : List TypedExpr) (e : TypedExpr) (b c : Bool)
-      → (if b then append_call classes w span a t es else (if c then pop_call span a t es else Err (Rattle.py_check_messages.specs.Messages.no_attribute classes (type_of a) f))) ≡ Ok e → IsPlain e
-  list_plain w span f a t es e true c h = append_plain w span a t (the_only es) e h
-  list_plain w span f a t es e false true h = pop_plain span a t es e h
-  list_plain w span f a t es e false false h = absurd (cc)
-
-  method_plain : (w : Wanted) (span : Span) (f : List ℕ) (a : TypedExpr) (es : List TypedExpr) (e : TypedExpr) → method_call classes w span f a es ≡ Ok e → IsPlain e
-  method_plain w span f a es e h = by (bytes_eq f (codes "__init__")) h
-    where
-      by_item : (o : Option Sort) → value_call classes w span f a o es ≡ Ok e → IsPlain e
-      by_item None q = absurd (cc)
-      by_item (Some t) q = list_plain w span f a t es e (bytes_eq f (codes "append")) (bytes_eq f (codes "pop")) q
-
-      by : (b : Bool) → (if b then Err Rattle.py_check_messages.specs.Messages.not_callable else value_call classes w span f a (item_sort_of (type_of a)) es) ≡ Ok e → IsPlain e
-      by true q = absurd (cc)
-      by false q = by_item (item_sort_of (type_of a)) q
-
   pub record HasLiteral (e : TypedExpr) (Rest : Type 0) : Type 0 where
     pub here : IsLiteral e
     pub rest : Rest
@@ -185,22 +158,6 @@ module _ (classes : List ClassEntry) where
 
   refused_never : (msg : Message) (es : List TypedExpr) (e : TypedExpr) → refused msg es ≡ Ok e → ⊥
   refused_never msg es e h = cc
-
-  called_plain : (w : Wanted) (span : Span) (keyed : Bool) (f : Callee) (p : Option TypedExpr) (args : Option (List TypedExpr)) → ((es : List TypedExpr) → args ≡ Some es → AllLiteral es) → Gives (called classes w span keyed f p args) IsPlain
-  called_plain w span keyed (function x i s) p args h = gives_rule AllLiteral IsPlain span (function_call classes w span x i s) (positional span keyed args) (given_args span keyed args h) (λ es q e g. function_plain w span x i s es e g)
-  called_plain w span keyed print p args h = gives_rule AllLiteral IsPlain span (print_call classes w span) (positional span keyed args) (given_args span keyed args h) (λ es q e g. print_plain w span es e (unprintable 1 es) g)
-  called_plain w span keyed input p args h = gives_rule AllLiteral IsPlain span (input_call span) (positional span keyed args) (given_args span keyed args h) (λ es q e g. input_plain span es e g)
-  called_plain w span keyed range p args h = gives_rule AllLiteral IsPlain span (refused Rattle.py_check_messages.specs.Messages.range_outside_for) (positional span keyed args) (given_args span keyed args h) (λ es q e g. absurd (refused_never _ es e g))
-  called_plain w span keyed (single f) p args h =
-      gives_rule AllLiteral IsPlain span (single_call classes f span) (positional span keyed args) (given_args span keyed args h) (λ es q e g. single_plain f span (the_only es) e (λ x r. only_literal es x q r) g)
-  called_plain w span keyed (exception x) p args h =
-      gives_rule AllLiteral IsPlain span (exception_call classes span x) (positional span keyed args) (given_args span keyed args h) (λ es q e g. exception_plain span x es e g)
-  called_plain w span keyed (method f) None args h = gives_silent IsPlain
-  called_plain w span keyed (method f) (Some a) args h = gives_rule AllLiteral IsPlain span (method_call classes w span f a) (positional span keyed args) (given_args span keyed args h) (λ es q e g. method_plain w span f a es e g)
-  called_plain w span keyed voiceless p args h = gives_silent IsPlain
-  called_plain w span keyed uncalled p args h = gives_rule AllLiteral IsPlain span (refused Rattle.py_check_messages.specs.Messages.not_callable) (positional span keyed args) (given_args span keyed args h) (λ es q e g. absurd (refused_never _ es e g))
-  called_plain w span keyed value None args h = gives_silent IsPlain
-  called_plain w span keyed value (Some a) args h = gives_rule AllLiteral IsPlain span (refused Rattle.py_check_messages.specs.Messages.not_callable) (positional span keyed args) (given_args span keyed args h) (λ es q e g. absurd (refused_never _ es e g))
 
   -- ---- operators and displays
 
@@ -273,12 +230,62 @@ module _ (classes : List ClassEntry) where
       by true q = part_plain span a (part_at l (parts_of (type_of a))) e q
       by false q = item_plain span a i (keyed_by (type_of a)) e q
 
-  attribute_never : (a : List ℕ) (e t : TypedExpr) → attribute classes a e ≡ Ok t → ⊥
-  attribute_never a e t h = by (is_list_method (type_of e) a) h
+module _ (C : Context) where
+  read_plain : (span : Span) (e : TypedExpr) (a : List ℕ) (h : Had) → Gives (read C.classes span e a h) IsPlain
+  read_plain span e a (has_attribute t) = gives_is IsPlain _ (record { flag = refl; none = refl })
+  read_plain span e a (has_method f) = gives_fails IsPlain span _
+  read_plain span e a (has_append t) = gives_fails IsPlain span _
+  read_plain span e a (has_pop t) = gives_fails IsPlain span _
+  read_plain span e a has_untyped = gives_silent IsPlain
+  read_plain span e a none_has_not = gives_fails IsPlain span _
+  read_plain span e a has_not = gives_fails IsPlain span _
+
+  abbrev Given : Option (List TypedExpr) → Type 0
+  Given args = (es : List TypedExpr) → args ≡ Some es → AllLiteral C.classes es
+
+  refused_plain : (span : Span) (keyed : Bool) (m : Message) (args : Option (List TypedExpr)) → Given args → Gives (rule span (refused m) (positional span keyed args)) IsPlain
+  refused_plain span keyed m args h = gives_rule (AllLiteral C.classes) IsPlain span (refused m) (positional span keyed args) (given_args C.classes span keyed args h) (λ es q e g. absurd (refused_never C.classes m es e g))
+
+  signed_plain : (w : Wanted) (span : Span) (keyed : Bool) (f : List ℕ) (a : TypedExpr) (s : Option Signature) (args : Option (List TypedExpr)) → Gives (signed_call C w span keyed f a s args) IsPlain
+  signed_plain w span keyed f a None args = gives_silent IsPlain
+  signed_plain w span keyed f a (Some s) args = gives_by IsPlain C w span keyed f s (node.Method a f) args (λ es. record { flag = refl; none = refl })
+
+  had_plain : (w : Wanted) (span : Span) (keyed : Bool) (f : List ℕ) (a : TypedExpr) (o : Had) (args : Option (List TypedExpr)) → Given args → Gives (had_call C w span keyed f a o args) IsPlain
+  had_plain w span keyed f a (has_method i) args h = signed_plain w span keyed f a (some_signature (slice_get C.signatures i)) args
+  had_plain w span keyed f a (has_append t) args h =
+      gives_rule (AllLiteral C.classes) IsPlain span (append_call C.classes w span a t) (positional span keyed args) (given_args C.classes span keyed args h) (λ es q e g. append_plain C.classes w span a t (the_only es) e g)
+  had_plain w span keyed f a (has_pop t) args h = gives_rule (AllLiteral C.classes) IsPlain span (pop_call span a t) (positional span keyed args) (given_args C.classes span keyed args h) (λ es q e g. pop_plain C.classes span a t es e g)
+  had_plain w span keyed f a (has_attribute t) args h = refused_plain span keyed _ args h
+  had_plain w span keyed f a has_untyped args h = gives_silent IsPlain
+  had_plain w span keyed f a none_has_not args h = refused_plain span keyed _ args h
+  had_plain w span keyed f a has_not args h = refused_plain span keyed _ args h
+
+  method_plain : (w : Wanted) (span : Span) (keyed : Bool) (f : List ℕ) (a : TypedExpr) (args : Option (List TypedExpr)) → Given args → Gives (method_call C w span keyed f a args) IsPlain
+  method_plain w span keyed f a args h = by (bytes_eq f (codes "__init__"))
     where
-      by : (b : Bool) → (if b then Err (Rattle.py_check_messages.specs.Messages.not_a_value a) else Err (Rattle.py_check_messages.specs.Messages.no_attribute classes (type_of e) a)) ≡ Ok t → ⊥
-      by true q = cc
-      by false q = cc
+      by : (b : Bool) → Gives (if b then rule span (refused Rattle.py_check_messages.specs.Messages.not_callable) (positional span keyed args) else had_call C w span keyed f a (look_up C.member (type_of a) f) args) IsPlain
+      by true = refused_plain span keyed _ args h
+      by false = had_plain w span keyed f a (look_up C.member (type_of a) f) args h
+
+  called_plain : (w : Wanted) (span : Span) (keyed : Bool) (f : Callee) (p : Option TypedExpr) (args : Option (List TypedExpr)) → Given args → Gives (called C w span keyed f p args) IsPlain
+  called_plain w span keyed (function x i s) p args h = gives_by IsPlain C w span keyed x s (node.Call i) args (λ es. record { flag = refl; none = refl })
+  called_plain w span keyed (class x n params) p args h = gives_by IsPlain C w span keyed x (takes params (sort.Instance n)) (node.Make n) args (λ es. record { flag = refl; none = refl })
+  called_plain w span keyed (trait x params) p args h = refused_plain span keyed _ args h
+  called_plain w span keyed (super_init next params) p args h = gives_by IsPlain C w span keyed init_name (takes params sort.Nothing) (node.SuperInit next) args (λ es. record { flag = refl; none = refl })
+  called_plain w span keyed print p args h =
+      gives_rule (AllLiteral C.classes) IsPlain span (print_call C.classes w span) (positional span keyed args) (given_args C.classes span keyed args h) (λ es q e g. print_plain C.classes w span es e (unprintable 1 es) g)
+  called_plain w span keyed input p args h = gives_rule (AllLiteral C.classes) IsPlain span (input_call span) (positional span keyed args) (given_args C.classes span keyed args h) (λ es q e g. input_plain C.classes span es e g)
+  called_plain w span keyed range p args h = refused_plain span keyed _ args h
+  called_plain w span keyed (single f) p args h =
+      gives_rule (AllLiteral C.classes) IsPlain span (single_call C.classes f span) (positional span keyed args) (given_args C.classes span keyed args h) (λ es q e g. single_plain C.classes f span (the_only es) e (λ x r. only_literal C.classes es x q r) g)
+  called_plain w span keyed (exception x) p args h =
+      gives_rule (AllLiteral C.classes) IsPlain span (exception_call C.classes span x) (positional span keyed args) (given_args C.classes span keyed args h) (λ es q e g. exception_plain C.classes span x es e g)
+  called_plain w span keyed (method f) None args h = gives_silent IsPlain
+  called_plain w span keyed (method f) (Some a) args h = method_plain w span keyed f a args h
+  called_plain w span keyed voiceless p args h = gives_silent IsPlain
+  called_plain w span keyed uncalled p args h = refused_plain span keyed _ args h
+  called_plain w span keyed value None args h = gives_silent IsPlain
+  called_plain w span keyed value (Some a) args h = refused_plain span keyed _ args h
 
 -- ---- expressions
 
@@ -344,10 +351,11 @@ module _ (C : Context) (V : VarSorts) where
     heads w known (at (tree.Index a i) span) =
         plain_all (at (tree.Index a i) span) _ refl refl (ruled_plain span (indexing C.classes span (literal i)) (both (typing C V free known a) (typing C V free known i)) (λ p e q. index_plain C.classes span (literal i) p.0 p.1 e q))
     heads w known (at (tree.Call f args) span) =
-        plain_all (at (tree.Call f args) span) _ refl refl (gives_after IsPlain (part C V known f) (λ p. behind (arguments C V (arguments_row (callee C f) p) 0 known args) (called C.classes w span (has_key args) (callee C f) p)) (λ o eo.
-        gives_after IsPlain (arguments C V (arguments_row (callee C f) o) 0 known args) (called C.classes w span (has_key args) (callee C f) o) (λ es ees.
-        called_plain C.classes w span (has_key args) (callee C f) o es (λ l q. (literal_args (arguments_row (callee C f) o) 0 known args).each l (ees ∙ q)))))
-    heads w known (at (tree.Attr a x) span) = plain_all (at (tree.Attr a x) span) _ refl refl (ruled_plain span (attribute C.classes x) (typing C V free known a) (λ t e q. absurd (attribute_never C.classes x t e q)))
+        plain_all (at (tree.Call f args) span) _ refl refl (gives_after IsPlain (part C V known f) (λ p. behind (arguments C V (arguments_row C (callee C f) p) 0 known args) (called C w span (has_key args) (callee C f) p)) (λ o eo.
+        gives_after IsPlain (arguments C V (arguments_row C (callee C f) o) 0 known args) (called C w span (has_key args) (callee C f) o) (λ es ees.
+        called_plain C w span (has_key args) (callee C f) o es (λ l q. (literal_args (arguments_row C (callee C f) o) 0 known args).each l (ees ∙ q)))))
+    heads w known (at (tree.Attr a x) span) =
+        plain_all (at (tree.Attr a x) span) _ refl refl (gives_behind (λ (t : TypedExpr). Unit {0}) IsPlain (typing C V free known a) (attribute C span x) (gives_any (λ (t : TypedExpr). Unit {0}) _ (λ t. tt)) (gives_silent IsPlain) (λ t u. read_plain C span t x (look_up C.member (type_of t) x)))
     heads w known (at (tree.DictOf es) span) =
         plain_all (at (tree.DictOf es) span) _ refl refl (ruled_plain span (dict_display C.classes (entry_sorts w) span) (entries C V (key_wanted (entry_sorts w)) (value_wanted (entry_sorts w)) known es) (λ l e q. dict_display_plain C.classes (entry_sorts w) span l e q))
 

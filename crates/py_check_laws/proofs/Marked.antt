@@ -25,7 +25,6 @@ use Rattle.py_check_annotations.specs.declared.names.Former.TheVariants as forme
 use Rattle.py_check_annotations.specs.Names.{plain_type, former_of, is_unknown, is_untyped, valid, named, applied, dict_of, tuple_of}
 use Rattle.py_check_annotations.specs.Annotations.{annotation, items, row, no_type, quoted, formed, application, form_or, head_named, name_of, is_tuple, is_or_none, return_annotation, is_none}
 use Rattle.py_check_laws.proofs.Given.{done, ok_same, made_given, rule_given, row_given}
-use Rattle.py_check_laws.proofs.Meant.{is_heard}
 
 module _ (classes : ℕ) where
   abbrev IsValue : Sort → Type 0
@@ -34,24 +33,24 @@ module _ (classes : ℕ) where
   same_value : (s t : Sort) → Some s ≡ Some t → IsValue s → IsValue t
   same_value s t q h = subst IsValue (same_Some s t q) h
 
-  plain_valued : (n : ℕ) (m : Meaning) → is_heard n m ≡ true → (t : Sort) → plain_type m ≡ Some t → IsValue t
-  plain_valued n (meaning.Builtin builtin.Int) h t q = same_value sort.Int t q refl
-  plain_valued n (meaning.Builtin builtin.Bool) h t q = same_value sort.Bool t q refl
-  plain_valued n (meaning.Builtin builtin.Str) h t q = same_value sort.Str t q refl
-  plain_valued n (meaning.Builtin _) h t q = absurd (cc)
-  plain_valued n (meaning.Import imported.I64) h t q = same_value sort.I64 t q refl
-  plain_valued n (meaning.Import _) h t q = absurd (cc)
-  plain_valued n (meaning.Class i) h t q = absurd (cc)
-  plain_valued n (meaning.Exception c) h t q = same_value (sort.Exc c) t q refl
-  plain_valued n _ h t q = absurd (cc)
+  plain_valued : (m : Meaning) → ((i : ℕ) → m ≡ meaning.Class i → nat_lt i classes ≡ true) → (t : Sort) → plain_type m ≡ Some t → IsValue t
+  plain_valued (meaning.Builtin builtin.Int) h t q = same_value sort.Int t q refl
+  plain_valued (meaning.Builtin builtin.Bool) h t q = same_value sort.Bool t q refl
+  plain_valued (meaning.Builtin builtin.Str) h t q = same_value sort.Str t q refl
+  plain_valued (meaning.Builtin _) h t q = absurd (cc)
+  plain_valued (meaning.Import imported.I64) h t q = same_value sort.I64 t q refl
+  plain_valued (meaning.Import _) h t q = absurd (cc)
+  plain_valued (meaning.Class i) h t q = same_value (sort.Instance i) t q (h i refl)
+  plain_valued (meaning.Exception c) h t q = same_value (sort.Exc c) t q refl
+  plain_valued _ h t q = absurd (cc)
 
-  named_valued : (n : ℕ) (m : Meaning) → is_heard n m ≡ true → (span : Span) (t : Sort) → (named m span).got ≡ Some t → IsValue t
-  named_valued n m h span t q = by (is_unknown m || is_untyped m) (plain_type m) refl q
+  named_valued : (m : Meaning) → ((i : ℕ) → m ≡ meaning.Class i → nat_lt i classes ≡ true) → (span : Span) (t : Sort) → (named m span).got ≡ Some t → IsValue t
+  named_valued m h span t q = by (is_unknown m || is_untyped m) (plain_type m) refl q
     where
       by : (b : Bool) (o : Option Sort) → plain_type m ≡ o → (if b then silent else valid span o).got ≡ Some t → IsValue t
       by true o p r = absurd (cc)
       by false None p r = absurd (cc)
-      by false (Some s) p r = plain_valued n m h t (p ∙ r)
+      by false (Some s) p r = plain_valued m h t (p ∙ r)
 
   optional_valued : (t : Sort) → IsValue t → IsValue (optional t)
   optional_valued (sort.Optional u) h = h
@@ -104,10 +103,10 @@ module _ (classes : ℕ) where
   found_by None m t q = absurd (cc)
   found_by (Some s) m t q = ap Some (ok_same s t q)
 
-  module _ (meanings : List ℕ → Meaning) (n : ℕ) (heard : (x : List ℕ) → is_heard n (meanings x) ≡ true) where
+  module _ (meanings : List ℕ → Meaning) (placed : (x : List ℕ) (i : ℕ) → meanings x ≡ meaning.Class i → nat_lt i classes ≡ true) where
     quoted_valued : (o : Option (List ℕ)) (span : Span) (t : Sort) → (quoted meanings o span).got ≡ Some t → IsValue t
     quoted_valued None span t q = absurd (cc)
-    quoted_valued (Some x) span t q = named_valued n (meanings x) (heard x) span t q
+    quoted_valued (Some x) span t q = named_valued (meanings x) (placed x) span t q
 
     formed_valued : (o : Option Former) (b : Bool) (whole : ExprTree) (span : Span) (parts : Seen (List Sort)) → ((ts : List Sort) → parts.got ≡ Some ts → list_all (is_value_type classes) ts ≡ true) → (t : Sort) → (formed meanings (form_or o b) whole span parts).got ≡ Some t → IsValue t
     formed_valued (Some f) b whole span parts h t q =
@@ -146,7 +145,7 @@ module _ (classes : ℕ) where
       mark_valued (e.at node span) t q = node_valued node span t q
 
       node_valued : (node : ExprNode) (span : Span) (t : Sort) → (annotation meanings (e.at node span)).got ≡ Some t → IsValue t
-      node_valued (e.Name x) span t q = named_valued n (meanings x) (heard x) span t q
+      node_valued (e.Name x) span t q = named_valued (meanings x) (placed x) span t q
       node_valued (e.Str text) span t q = quoted_valued (name_in_quotes text) span t q
       node_valued (e.Bin op a b) span t q =
           bar_valued (is_or_none op b) (is_or_none op a) (made optional (annotation meanings a)) (made optional (annotation meanings b)) (no_type meanings (e.at (e.Bin op a b) span) span) t (made_valued a (mark_valued a) t) (made_valued b (mark_valued b) t) refl q

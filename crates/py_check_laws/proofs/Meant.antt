@@ -1,12 +1,13 @@
 -- What names mean in a module and in a function of it, where nothing is wrong with definitions and imports.
-use Rattle.std.proofs.Common.{◌≡◌, ℕ, suc, ◌+◌, ◌<◌, Bool, true, false, ◌&&◌, ◌||◌, cond, List, [], ◌∷◌, ◌++◌, length, map, not, slice_get, nat_lt, Option, Some, None, refl, ap, sym, ◌∙◌, subst, if◌then◌else◌, unwrap_or, length-append, lt-ltb, arith, ◌⊎◌, inl, inr}
+use Rattle.std.proofs.Common.{◌≡◌, ℕ, suc, ◌+◌, ◌<◌, Bool, true, false, ◌&&◌, ◌||◌, cond, List, [], ◌∷◌, ◌++◌, length, map, not, slice_get, nat_lt, Option, Some, None, refl, ap, ap₂, sym, ◌∙◌, subst, if◌then◌else◌, unwrap_or, length-append, lt-ltb, arith, ◌⊎◌, inl, inr}
 use Rattle.std.proofs.lemmas.Bool.{or_left, or_right, or_cases}
 use Rattle.std.proofs.lemmas.Option.{same_Some}
 use Rattle.std.proofs.lemmas.List.Folds.{list_any-append}
 use Rattle.std.specs.Prelude.{is_some, is_none, codes}
 use Rattle.std.specs.List.{list_all, flat_map, zip}
 use Rattle.std.specs.Map.{lookup}
-use Rattle.std.specs.Option.{option_or}
+use Rattle.std.specs.Option.{option_or, option_map}
+use Rattle.std.proofs.lemmas.List.{map-append}
 use Rattle.std.specs.Str.{bytes_eq}
 use Rattle.value_core.specs.declared.exception.ExcClass.{ExcClass}
 use Rattle.value_core.specs.Exceptions.{class_named}
@@ -23,8 +24,13 @@ use Rattle.py_check_context.specs.declared.scope.Meaning.TheVariants as meaning
 use Rattle.py_check_annotations.specs.Names.{is_unknown}
 use Rattle.py_check_names.specs.Builtins.{plain_meanings, named_builtins, exception_meaning, builtin_meaning, of_typing, of_extensions, of_future, import_meaning}
 use Rattle.py_check_names.specs.Outline.{may_import, may_import_all, imported_as, said_by, said_from, held_by, suite_definitions}
-use Rattle.py_check_names.specs.Meanings.{is_own, names_of, variables, own_names, number, by_role, meaning_in, said_in}
+use Rattle.py_check_names.specs.Meanings.{is_own, names_of, variables, own_names, number, by_role, meaning_in}
+use Rattle.py_check_classes.specs.declared.header.Header.{Header}
+use Rattle.py_check_classes.specs.Names.{class_in, class_count, with_number, numbered}
+use Rattle.py_check_classes.specs.Headers.{has_type, typed_meaning, module_headers}
+use Rattle.py_check_definitions.specs.Names.{known_in}
 use Rattle.py_typed.proofs.FitLemmas.{and_left, and_right}
+use Rattle.py_check_laws.proofs.NewNames.{IsTyped, AllTyped}
 use Rattle.py_check.proofs.Sights.{roles_given, suite_gives}
 use Rattle.py_check.proofs.Roles as known
 use Rattle.py_check.proofs.Roles.{found_all}
@@ -36,10 +42,11 @@ use Rattle.py_check.proofs.NameRows.{filter_keeps, sights_have, scope_names, pla
 abbrev pub is_given : ℕ → Meaning → Bool
 is_given n (meaning.Function i) = nat_lt i n
 is_given n (meaning.Import i) = true
+is_given n (meaning.Class i) = true
 is_given n m = false
 
 -- what a builtin name is
-abbrev is_built : Meaning → Bool
+abbrev pub is_built : Meaning → Bool
 is_built (meaning.Builtin b) = true
 is_built (meaning.Exception c) = true
 is_built meaning.ModuleName = true
@@ -50,18 +57,19 @@ is_built m = false
 abbrev pub is_heard : ℕ → Meaning → Bool
 is_heard n meaning.Untyped = false
 is_heard n meaning.UntypedClass = false
-is_heard n (meaning.Class i) = false
 is_heard n (meaning.Function i) = nat_lt i n
 is_heard n m = true
 
 given_known : (n : ℕ) (m : Meaning) → is_given n m ≡ true → is_unknown m ≡ false
 given_known n (meaning.Function i) h = refl
 given_known n (meaning.Import i) h = refl
+given_known n (meaning.Class i) h = refl
 given_known n _ h = absurd (cc)
 
 given_heard : (n : ℕ) (m : Meaning) → is_given n m ≡ true → is_heard n m ≡ true
 given_heard n (meaning.Function i) h = h
 given_heard n (meaning.Import i) h = refl
+given_heard n (meaning.Class i) h = refl
 given_heard n _ h = absurd (cc)
 
 built_heard : (n : ℕ) (m : Meaning) → is_built m ≡ true → is_heard n m ≡ true
@@ -73,16 +81,20 @@ built_heard n _ h = absurd (cc)
 
 -- ---- imports and builtins
 
-import_given : (n : ℕ) (from name : List ℕ) (m : Meaning) → import_meaning from name ≡ Some m → is_given n m ≡ true
-import_given n from name m h = by (bytes_eq from (codes "typing")) (bytes_eq from (codes "mypy_extensions")) (bytes_eq from (codes "__future__")) h
+abbrev pub is_import : Meaning → Bool
+is_import (meaning.Import i) = true
+is_import m = false
+
+pub import_is : (from name : List ℕ) (m : Meaning) → import_meaning from name ≡ Some m → is_import m ≡ true
+import_is from name m h = by (bytes_eq from (codes "typing")) (bytes_eq from (codes "mypy_extensions")) (bytes_eq from (codes "__future__")) h
   where
-    by : (a b c : Bool) → (if a then lookup (bytes_eq name) of_typing else (if b then lookup (bytes_eq name) of_extensions else (if c then lookup (bytes_eq name) of_future else None))) ≡ Some m → is_given n m ≡ true
-    by true b c q = found_all (is_given n) (bytes_eq name) of_typing refl m q
-    by false true c q = found_all (is_given n) (bytes_eq name) of_extensions refl m q
-    by false false true q = found_all (is_given n) (bytes_eq name) of_future refl m q
+    by : (a b c : Bool) → (if a then lookup (bytes_eq name) of_typing else (if b then lookup (bytes_eq name) of_extensions else (if c then lookup (bytes_eq name) of_future else None))) ≡ Some m → is_import m ≡ true
+    by true b c q = found_all is_import (bytes_eq name) of_typing refl m q
+    by false true c q = found_all is_import (bytes_eq name) of_extensions refl m q
+    by false false true q = found_all is_import (bytes_eq name) of_future refl m q
     by false false false q = absurd (cc)
 
-builtin_built : (name : List ℕ) → is_built (unwrap_or (builtin_meaning name) meaning.Unknown) ≡ true
+pub builtin_built : (name : List ℕ) → is_built (unwrap_or (builtin_meaning name) meaning.Unknown) ≡ true
 builtin_built name = by (lookup (bytes_eq name) named_builtins) refl (class_named name)
   where
     by : (o : Option Meaning) → lookup (bytes_eq name) named_builtins ≡ o → (c : Option ExcClass) → is_built (unwrap_or (option_or o (exception_meaning c)) meaning.Unknown) ≡ true
@@ -123,7 +135,6 @@ builtin_known x h = by (lookup (bytes_eq x) named_builtins) refl (class_named x)
 
 -- a definition, or an import that is one
 abbrev pub is_right : StmtTree → Bool
-is_right (s.at (s.ClassDef name bases body marks) span) = false
 is_right (s.at (s.Import name other) span) = false
 is_right (s.at (s.From name names) span) = may_import_all name names
 is_right x = true
@@ -190,18 +201,74 @@ pairs_found n x (a ∷ l) (b ∷ k) r p e = by (bytes_eq x a.0) refl e (pairs_fo
         let f = next g in
         record { means = f.means; found = ap (λ (z : Bool). cond z (Some b.1) (lookup (bytes_eq x) k)) (same false q) ∙ f.found; given = f.given; other = f.other; own = f.own; said = f.said }
 
-import_pairs : (n : ℕ) (from : List ℕ) (names : List (List ℕ × Option (List ℕ))) → list_all (may_import from) names ≡ true → Pairs n (map (λ a. (bound_as a.0 a.1, role.Import)) names) (map (imported_as true from) names)
-import_pairs n from [] h = tt
-import_pairs n from (a ∷ names) h =
-    let one = and_left (may_import from a) (list_all (may_import from) names) h in
-    record { key = refl; other = refl; own = refl; said = refl; given = by (import_meaning from a.0) refl (and_right (is_none a.1) (is_some (import_meaning from a.0)) one); rest = import_pairs n from names (and_right (may_import from a) (list_all (may_import from) names) h) }
-  where
-    by : (o : Option Meaning) → import_meaning from a.0 ≡ o → is_some o ≡ true → is_given n (unwrap_or (import_meaning from a.0) meaning.Untyped) ≡ true
-    by None q e = absurd (cc)
-    by (Some m) q e = ap (λ (o : Option Meaning). is_given n (unwrap_or o meaning.Untyped)) q ∙ import_given n from a.0 m q
+-- ---- what is said of names, with the numbers of classes and their types
 
-from_pairs : (n : ℕ) (from : List ℕ) (names : List (List ℕ × Option (List ℕ))) → may_import_all from names ≡ true → Pairs n (map (λ a. (bound_as a.0 a.1, role.Import)) names) (map (imported_as (may_import_all from names) from) names)
-from_pairs n from names h = subst (λ b. Pairs n (map (λ a. (bound_as a.0 a.1, role.Import)) names) (map (imported_as b from) names)) (sym h) (import_pairs n from names h)
+-- where classes have these headers
+module _ (headers : List Header) where
+  abbrev typed_pair : List ℕ × Meaning → List ℕ × Meaning
+  typed_pair p = (p.0, typed_meaning headers p.1)
+
+  abbrev pub typed_said : List (List ℕ × Meaning) → List (List ℕ × Meaning)
+  typed_said l = map typed_pair l
+
+  found_typed : (test : List ℕ → Bool) (l : List (List ℕ × Meaning)) → lookup test (typed_said l) ≡ option_map (typed_meaning headers) (lookup test l)
+  found_typed test [] = refl
+  found_typed test (p ∷ l) = by (test p.0) (found_typed test l)
+    where
+      by : (b : Bool) → lookup test (typed_said l) ≡ option_map (typed_meaning headers) (lookup test l) → cond b (Some (typed_meaning headers p.1)) (lookup test (typed_said l)) ≡ option_map (typed_meaning headers) (cond b (Some p.1) (lookup test l))
+      by true e = refl
+      by false e = e
+
+-- an import has no number, and is no class
+import_number : (c : ℕ) (m : Meaning) → is_import m ≡ true → with_number c m ≡ m
+import_number c (meaning.Import i) h = refl
+import_number c _ h = absurd (cc)
+
+import_count : (m : Meaning) → is_import m ≡ true → class_count m ≡ 0
+import_count (meaning.Import i) h = refl
+import_count _ h = absurd (cc)
+
+import_typed : (headers : List Header) (m : Meaning) → is_import m ≡ true → typed_meaning headers m ≡ m
+import_typed headers (meaning.Import i) h = refl
+import_typed headers _ h = absurd (cc)
+
+import_given : (n : ℕ) (m : Meaning) → is_import m ≡ true → is_given n m ≡ true
+import_given n (meaning.Import i) h = refl
+import_given n _ h = absurd (cc)
+
+imported_is : (from : List ℕ) (a : List ℕ × Option (List ℕ)) → may_import from a ≡ true → is_import (unwrap_or (import_meaning from a.0) meaning.Untyped) ≡ true
+imported_is from a h = by (import_meaning from a.0) refl (and_right (is_none a.1) (is_some (import_meaning from a.0)) h)
+  where
+    by : (o : Option Meaning) → import_meaning from a.0 ≡ o → is_some o ≡ true → is_import (unwrap_or (import_meaning from a.0) meaning.Untyped) ≡ true
+    by None q e = absurd (cc)
+    by (Some m) q e = ap (λ (o : Option Meaning). is_import (unwrap_or o meaning.Untyped)) q ∙ import_is from a.0 m q
+
+import_pairs : (headers : List Header) (n c : ℕ) (from : List ℕ) (names : List (List ℕ × Option (List ℕ))) → list_all (may_import from) names ≡ true → Pairs n (map (λ a. (bound_as a.0 a.1, role.Import)) names) (typed_said headers (numbered c (map (imported_as true from) names)))
+import_pairs headers n c from [] h = tt
+import_pairs headers n c from (a ∷ names) h =
+    let m = unwrap_or (import_meaning from a.0) meaning.Untyped in
+    let is = imported_is from a (and_left (may_import from a) (list_all (may_import from) names) h) in
+    record {
+      key = refl;
+      other = refl;
+      own = refl;
+      said = refl;
+      given = ap (λ z. is_given n (typed_meaning headers z)) (import_number c m is) ∙ ap (is_given n) (import_typed headers m is) ∙ import_given n m is;
+      rest = import_pairs headers n (c + class_count m) from names (and_right (may_import from a) (list_all (may_import from) names) h);
+    }
+
+-- behind imports classes have the same numbers
+imports_counted : (c : ℕ) (from : List ℕ) (names : List (List ℕ × Option (List ℕ))) (rest : List (List ℕ × Meaning)) → list_all (may_import from) names ≡ true → numbered c (map (imported_as true from) names ++ rest) ≡ numbered c (map (imported_as true from) names) ++ numbered c rest
+imports_counted c from [] rest h = refl
+imports_counted c from (a ∷ names) rest h =
+    let m = unwrap_or (import_meaning from a.0) meaning.Untyped in
+    let is = imported_is from a (and_left (may_import from a) (list_all (may_import from) names) h) in
+    let same : c + class_count m ≡ c = ap (λ z. c + z) (import_count m is) ∙ no_more c in
+    ap (λ l. (bound_as a.0 a.1, with_number c m) ∷ l)
+    (imports_counted (c + class_count m) from names rest (and_right (may_import from a) (list_all (may_import from) names) h) ∙ ap (λ k. numbered (c + class_count m) (map (imported_as true from) names) ++ numbered k rest) same)
+  where
+    no_more : (c : ℕ) → c + 0 ≡ c
+    no_more c = omega arith
 
 less_by : (a b c n : ℕ) → a + suc (b + c) ≡ n → a < n
 less_by a b c n h = omega arith
@@ -209,22 +276,42 @@ less_by a b c n h = omega arith
 moved : (a b c n : ℕ) → a + (b + c) ≡ n → a + b + c ≡ n
 moved a b c n h = omega arith
 
-one_pairs : (next n : ℕ) (x : StmtTree) → is_right x ≡ true → (more : ℕ) → next + (length (held_by x) + more) ≡ n → Pairs n (roles_given x) (said_by next x)
-one_pairs next n (s.at (s.Def name params ret body marks) span) h more e = record { key = refl; other = refl; own = refl; said = refl; given = lt-ltb next n (less_one next more n e); rest = tt }
-  where
-    less_one : (a c n : ℕ) → a + (1 + c) ≡ n → a < n
-    less_one a c n h = omega arith
-one_pairs next n (s.at (s.ClassDef name bases body marks) span) h more e = absurd (cc)
-one_pairs next n (s.at (s.Import name other) span) h more e = absurd (cc)
-one_pairs next n (s.at (s.From name names) span) h more e = from_pairs n name names h
-one_pairs next n _ h more e = tt
+module _ (headers : List Header) where
+  class_typed : (n c : ℕ) → has_type (slice_get headers c) ≡ true → is_given n (typed_meaning headers (meaning.Class c)) ≡ true
+  class_typed n c h = ap (λ b. is_given n (if b then meaning.Class c else meaning.UntypedClass)) h
 
-all_pairs : (next n : ℕ) (ds : List StmtTree) → list_all is_right ds ≡ true → next + length (flat_map held_by ds) ≡ n → Pairs n (flat_map roles_given ds) (said_from next ds)
-all_pairs next n [] h e = tt
-all_pairs next n (x ∷ ds) h e =
-    let q : next + (length (held_by x) + length (flat_map held_by ds)) ≡ n = ap (λ z. next + z) (sym (length-append (held_by x) (flat_map held_by ds))) ∙ e in
-    pairs_two n (roles_given x) (said_by next x) (flat_map roles_given ds) (said_from (next + length (held_by x)) ds) (one_pairs next n x (and_left (is_right x) (list_all is_right ds) h) (length (flat_map held_by ds)) q)
-    (all_pairs (next + length (held_by x)) n ds (and_right (is_right x) (list_all is_right ds) h) (moved next (length (held_by x)) (length (flat_map held_by ds)) n q))
+  one_pairs : (next n c : ℕ) (x : StmtTree) → is_right x ≡ true → (more : ℕ) → next + (length (held_by x) + more) ≡ n → IsTyped headers c x → Pairs n (roles_given x) (typed_said headers (numbered c (said_by next x)))
+  one_pairs next n c (s.at (s.Def name params ret body marks) span) h more e t = record { key = refl; other = refl; own = refl; said = refl; given = lt-ltb next n (less_one next more n e); rest = tt }
+    where
+      less_one : (a c n : ℕ) → a + (1 + c) ≡ n → a < n
+      less_one a c n h = omega arith
+  one_pairs next n c (s.at (s.ClassDef name bases body marks) span) h more e t = record { key = refl; other = refl; own = refl; said = refl; given = class_typed n c t; rest = tt }
+  one_pairs next n c (s.at (s.Import name other) span) h more e t = absurd (cc)
+  one_pairs next n c (s.at (s.From name names) span) h more e t = subst (λ b. Pairs n (map (λ a. (bound_as a.0 a.1, role.Import)) names) (typed_said headers (numbered c (map (imported_as b name) names)))) (sym h) (import_pairs headers n c name names h)
+  one_pairs next n c _ h more e t = tt
+
+  -- behind a definition
+  counted : (next c : ℕ) (x : StmtTree) (rest : List (List ℕ × Meaning)) → is_right x ≡ true → numbered c (said_by next x ++ rest) ≡ numbered c (said_by next x) ++ numbered (c + length (class_in x)) rest
+  counted next c (s.at (s.Def name params ret body marks) span) rest h = refl
+  counted next c (s.at (s.ClassDef name bases body marks) span) rest h = refl
+  counted next c (s.at (s.Import name other) span) rest h = absurd (cc)
+  counted next c (s.at (s.From name names) span) rest h =
+      ap (λ b. numbered c (map (imported_as b name) names ++ rest)) h ∙ imports_counted c name names rest h ∙ ap₂ (λ b k. numbered c (map (imported_as b name) names) ++ numbered k rest) (sym h) (none_more c)
+    where
+      none_more : (c : ℕ) → c ≡ c + 0
+      none_more c = omega arith
+  counted next c _ rest h = ap (λ k. numbered k rest) (omega arith)
+
+  all_pairs : (next n c : ℕ) (ds : List StmtTree) → list_all is_right ds ≡ true → next + length (flat_map held_by ds) ≡ n → AllTyped headers c ds → Pairs n (flat_map roles_given ds) (typed_said headers (numbered c (said_from next ds)))
+  all_pairs next n c [] h e t = tt
+  all_pairs next n c (x ∷ ds) h e t =
+      let q : next + (length (held_by x) + length (flat_map held_by ds)) ≡ n = ap (λ z. next + z) (sym (length-append (held_by x) (flat_map held_by ds))) ∙ e in
+      let is = and_left (is_right x) (list_all is_right ds) h in
+      let later = said_from (next + length (held_by x)) ds in
+      subst (λ l. Pairs n (roles_given x ++ flat_map roles_given ds) l) (sym (ap (typed_said headers) (counted next c x later is) ∙ map-append (typed_pair headers) (numbered c (said_by next x)) (numbered (c + length (class_in x)) later)))
+      (pairs_two n (roles_given x) (typed_said headers (numbered c (said_by next x))) (flat_map roles_given ds) (typed_said headers (numbered (c + length (class_in x)) later))
+      (one_pairs next n c x is (length (flat_map held_by ds)) q t.0)
+      (all_pairs (next + length (held_by x)) n (c + length (class_in x)) ds (and_right (is_right x) (list_all is_right ds) h) (moved next (length (held_by x)) (length (flat_map held_by ds)) n q) t.1))
 
 -- ---- roles
 
@@ -255,30 +342,36 @@ module _ (kind : Role → Bool) (roles : Roles) (seen : List (List ℕ)) where
   pub among_kind : (x : List ℕ) → contains (first_sights seen) x ≡ true → kind (roles x) ≡ true → contains (names_of kind (scope_of roles seen).names) x ≡ true
   among_kind x h k = ap (λ l. contains l x) (scope_names kind roles seen) ∙ filter_keeps (λ n. kind (roles n)) (first_sights seen) x k ∙ h
 
-module _ (m : Suite) (n : ℕ) (right : list_all is_right (suite_definitions m) ≡ true) (count : length (flat_map held_by (suite_definitions m)) ≡ n) where
-  module_pairs : Pairs n (all_there said_there (module_sights m)) (said_from 0 (suite_definitions m))
-  module_pairs = subst (λ l. Pairs n l (said_from 0 (suite_definitions m))) (sym (suite_gives m)) (all_pairs 0 n (suite_definitions m) right (zero_first (length (flat_map held_by (suite_definitions m))) n count))
+module _ (m : Suite) (n : ℕ) (right : list_all is_right (suite_definitions m) ≡ true) (count : length (flat_map held_by (suite_definitions m)) ≡ n) (typed : AllTyped (module_headers m) 0 (suite_definitions m)) where
+  abbrev means_list : List (List ℕ × Meaning)
+  means_list = typed_said (module_headers m) (numbered 0 (said_from 0 (suite_definitions m)))
+
+  known_is : (x : List ℕ) → known_in m x ≡ lookup (bytes_eq x) means_list
+  known_is x = sym (found_typed (module_headers m) (bytes_eq x) (numbered 0 (said_from 0 (suite_definitions m))))
+
+  module_pairs : Pairs n (all_there said_there (module_sights m)) means_list
+  module_pairs = subst (λ l. Pairs n l means_list) (sym (suite_gives m)) (all_pairs (module_headers m) 0 n 0 (suite_definitions m) right (zero_first (length (flat_map held_by (suite_definitions m))) n count) typed)
     where
       zero_first : (a b : ℕ) → a ≡ b → 0 + a ≡ b
       zero_first a b h = omega arith
 
-  role_said : (x : List ℕ) (b : Bool) (o : Option Role) (c : Bool) → lookup (bytes_eq x) (all_there said_there (module_sights m)) ≡ o → is_said (if b then role.Builtin else said_or_variable o c) ≡ true → (t : Meaning) × (said_in m x ≡ Some t) × (is_given n t ≡ true)
+  role_said : (x : List ℕ) (b : Bool) (o : Option Role) (c : Bool) → lookup (bytes_eq x) (all_there said_there (module_sights m)) ≡ o → is_said (if b then role.Builtin else said_or_variable o c) ≡ true → (t : Meaning) × (known_in m x ≡ Some t) × (is_given n t ≡ true)
   role_said x true o c q h = absurd (cc)
-  role_said x false (Some r) c q h = let f = pairs_found n x (all_there said_there (module_sights m)) (said_from 0 (suite_definitions m)) r module_pairs q in (f.means, f.found, f.given)
+  role_said x false (Some r) c q h = let f = pairs_found n x (all_there said_there (module_sights m)) means_list r module_pairs q in (f.means, known_is x ∙ f.found, f.given)
   role_said x false None true q h = absurd (cc)
   role_said x false None false q h = absurd (cc)
 
   role_built : (x : List ℕ) (b : Bool) (o : Option Role) (c : Bool) → is_builtin x ≡ b → lookup (bytes_eq x) (all_there said_there (module_sights m)) ≡ o → (if b then role.Builtin else said_or_variable o c) ≡ role.Builtin → is_builtin x ≡ true
   role_built x true o c p q h = p
   role_built x false (Some r) c p q h =
-      let s : is_said r ≡ true = (pairs_found n x (all_there said_there (module_sights m)) (said_from 0 (suite_definitions m)) r module_pairs q).said in
+      let s : is_said r ≡ true = (pairs_found n x (all_there said_there (module_sights m)) means_list r module_pairs q).said in
       let bad : false ≡ true = ap is_said (sym h) ∙ s in absurd (cc)
   role_built x false None true p q h = absurd (cc)
   role_built x false None false p q h = absurd (cc)
 
   role_bound : (x : List ℕ) (b : Bool) (o : Option Role) (c : Bool) → lookup (bytes_eq x) (all_there said_there (module_sights m)) ≡ o → c ≡ true → fault.is_unknown (if b then role.Builtin else said_or_variable o c) ≡ false
   role_bound x true o c q h = refl
-  role_bound x false (Some r) c q h = said_known r (pairs_found n x (all_there said_there (module_sights m)) (said_from 0 (suite_definitions m)) r module_pairs q).said
+  role_bound x false (Some r) c q h = said_known r (pairs_found n x (all_there said_there (module_sights m)) means_list r module_pairs q).said
   role_bound x false None true q h = refl
   role_bound x false None false q h = absurd (cc)
 
@@ -286,7 +379,7 @@ module _ (m : Suite) (n : ℕ) (right : list_all is_right (suite_definitions m) 
   pub bound_known : (x : List ℕ) → contains (all_there bound_there (module_sights m)) x ≡ true → fault.is_unknown (module_role m x) ≡ false
   bound_known x h = role_bound x (is_builtin x) (lookup (bytes_eq x) (all_there said_there (module_sights m))) (contains (all_there bound_there (module_sights m)) x) refl h
 
-  pub module_fine : Fine (said_in m) (variables (module_scope m)) n (module_role m)
+  pub module_fine : Fine (known_in m) (variables (module_scope m)) n (module_role m)
   module_fine = record {
     globals = λ x h.
         among_kind is_variable (module_role m) (all_there seen_there (module_sights m)) x
@@ -298,7 +391,7 @@ module _ (m : Suite) (n : ℕ) (right : list_all is_right (suite_definitions m) 
 
   role_own : (x : List ℕ) (b : Bool) (o : Option Role) (c : Bool) → lookup (bytes_eq x) (all_there said_there (module_sights m)) ≡ o → is_own (if b then role.Builtin else said_or_variable o c) ≡ false
   role_own x true o c q = refl
-  role_own x false (Some r) c q = (pairs_found n x (all_there said_there (module_sights m)) (said_from 0 (suite_definitions m)) r module_pairs q).own
+  role_own x false (Some r) c q = (pairs_found n x (all_there said_there (module_sights m)) means_list r module_pairs q).own
   role_own x false None true q = refl
   role_own x false None false q = refl
 
@@ -312,7 +405,7 @@ module _ (m : Suite) (n : ℕ) (right : list_all is_right (suite_definitions m) 
     where
       by : (b : Bool) → is_variable (if b then role.Builtin else said_or_variable (lookup (bytes_eq x) (all_there said_there (module_sights m))) (contains (all_there bound_there (module_sights m)) x)) ≡ false
       by true = refl
-      by false = ap (λ o. is_variable (said_or_variable o (contains (all_there bound_there (module_sights m)) x))) q ∙ (pairs_found n x (all_there said_there (module_sights m)) (said_from 0 (suite_definitions m)) r module_pairs q).other
+      by false = ap (λ o. is_variable (said_or_variable o (contains (all_there bound_there (module_sights m)) x))) q ∙ (pairs_found n x (all_there said_there (module_sights m)) means_list r module_pairs q).other
 
 -- a name that a function binds is known there
 pub own_known : (roles : Roles) (f : FuncTree) (x : List ℕ) → contains (all_there bound_there (body_sights f)) x ≡ true → fault.is_unknown (function_role roles f x) ≡ false

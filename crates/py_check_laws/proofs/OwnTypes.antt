@@ -1,5 +1,5 @@
 -- What is typed may be None only where it may be before it was changed to its type: of each kind of expression.
-use Rattle.std.proofs.Common.{◌≡◌, ℕ, Bool, true, false, ◌==◌, List, [], ◌∷◌, ◌++◌, length, codes, Option, Some, None, Result, Ok, Err, refl, ap, sym, ◌∙◌, if◌then◌else◌}
+use Rattle.std.proofs.Common.{◌≡◌, ℕ, Bool, true, false, List, [], ◌∷◌, ◌++◌, codes, Option, Some, None, Result, Ok, Err, refl, ap, sym, ◌∙◌, if◌then◌else◌}
 use Rattle.std.specs.Str.{bytes_eq}
 use Rattle.value_core.specs.declared.exception.ExcClass.{ExcClass}
 use Rattle.py_syntax.specs.declared.token.Span.{Span}
@@ -13,25 +13,26 @@ use Rattle.py_typed.specs.Fits.{is_same_type, is_number, fits, is_text}
 use Rattle.py_typed.specs.Expressions as node
 use Rattle.py_typed.specs.Expressions.{TypedExpr, TypedNode, typed, type_of, exprs_of}
 use Rattle.py_typed.specs.Narrowing.{node_of, may_be_none, own_sort}
-use Rattle.py_check_context.specs.Context.{Context, VarSorts, Wanted, free, test, along}
-use Rattle.py_check_messages.specs.Seen.{Message, both, behind}
+use Rattle.py_check_context.specs.Context.{Context, VarSorts, Wanted, free, test, some_signature}
+use Rattle.py_check_messages.specs.Seen.{Message, both, behind, rule}
 use Rattle.py_check_coercions.specs.Values.{place_of, coerced}
-use Rattle.py_check_coercions.specs.Rows.{Misfit, unfit, changed_row}
 use Rattle.py_check_operators.specs.Operators.{signed, affirmation, inversion}
 use Rattle.py_check_operators.specs.Chains.{faults_of, chain}
 use Rattle.py_check_operators.specs.Choices.{junction, operand}
 use Rattle.py_check_operators.specs.Facts.{facts}
 use Rattle.py_check_calls.specs.declared.callees.Single.{Single}
 use Rattle.py_check_calls.specs.declared.callees.Single.TheVariants as one
-use Rattle.py_check_calls.specs.Callees.{Callee, function, print, input, range, single, exception, method, voiceless, uncalled, value, callee, has_key}
+use Rattle.py_check_calls.specs.Callees.{Callee, function, class, trait, super_init, print, input, range, single, exception, method, voiceless, uncalled, value, callee, has_key}
 use Rattle.py_check_calls.specs.Builtins.{gives_value, as_value, unprintable, printed, print_call, input_call, the_only, single_takes, single_made, single_given, single_call}
 use Rattle.py_check_calls.specs.Exceptions.{exception_made, exception_given, exception_call}
-use Rattle.py_check_calls.specs.Methods.{item_of, pop_call, append_given, append_call, list_call, value_call, method_call}
-use Rattle.py_check_calls.specs.Calls.{arguments_row, positional, refused, function_given, function_call, called}
+use Rattle.py_check_calls.specs.Methods.{Had, has_attribute, has_method, has_append, has_pop, has_untyped, none_has_not, has_not, look_up, pop_call, append_given, append_call}
+use Rattle.py_check_calls.specs.Calls.{arguments_row, positional, refused, takes, init_name, signed_call, had_call, method_call, called}
 use Rattle.py_check_expressions.specs.Typing.{typing, operands, arguments, part}
 use Rattle.py_check_expressions_laws.proofs.Given.{Gives, gives_is, gives_silent, gives_any, gives_after, gives_made, gives_rule, gives_ruled_all, gives_compare}
 use Rattle.py_check_expressions_laws.proofs.Telling.{junction_is}
 use Rattle.py_check_expressions_laws.proofs.Bare.{Makes, makes_if, is_mute, IsMade, gives_makes, gives_then, named_mute, made_number, made_sign, made_operation, made_choice, made_list, made_dict, made_tuple, made_item, made_attribute}
+use Rattle.py_check_expressions_laws.proofs.Called.{gives_by}
+use Rattle.std.specs.Prelude.{slice_get}
 
 -- it is never None, if it was not before
 abbrev pub KeepsNone : TypedExpr → Type 0
@@ -76,13 +77,6 @@ module _ (classes : List ClassEntry) where
   value_keeps : (w : Wanted) (f : List ℕ) (n : TypedNode) (t : Sort) (span : Span) → KeepsNone (typed n t span) → Makes KeepsNone (as_value w f (typed n t span))
   value_keeps w f n t span k = makes_if KeepsNone (gives_value w t) (Ok (typed n t span)) (Err _) k tt
 
-  function_keeps : (w : Wanted) (span : Span) (f : List ℕ) (i : ℕ) (s : Signature) (es : List TypedExpr) → Makes KeepsNone (function_call classes w span f i s es)
-  function_keeps w span f i s es = makes_if KeepsNone (length es == length s.params) (function_given classes w span f i s es (unfit classes (along s.params) 0 es)) (Err _) (by (unfit classes (along s.params) 0 es)) tt
-    where
-      by : (o : Option Misfit) → Makes KeepsNone (function_given classes w span f i s es o)
-      by None = value_keeps w f (node.Call i (exprs_of (changed_row (along s.params) 0 es))) s.ret span (λ p. p)
-      by (Some u) = tt
-
   print_keeps : (w : Wanted) (span : Span) (es : List TypedExpr) (o : Option (ℕ × Sort)) → Makes KeepsNone (printed classes w span es o)
   print_keeps w span es None = value_keeps w (codes "print") (node.Print (exprs_of es)) sort.Nothing span (λ p. p)
   print_keeps w span es (Some p) = tt
@@ -118,31 +112,46 @@ module _ (classes : List ClassEntry) where
   pop_keeps span a t [] = λ p. p
   pop_keeps span a t (x ∷ es) = tt
 
-  list_keeps : (w : Wanted) (span : Span) (f : List ℕ) (a : TypedExpr) (t : Sort) (es : List TypedExpr) → Makes KeepsNone (list_call classes w span f a t es)
-  list_keeps w span f a t es =
-      makes_if KeepsNone (bytes_eq f (codes "append")) (append_call classes w span a t es) (if bytes_eq f (codes "pop") then pop_call span a t es else Err _) (append_keeps w span a t (the_only es))
-      (makes_if KeepsNone (bytes_eq f (codes "pop")) (pop_call span a t es) (Err _) (pop_keeps span a t es) tt)
+module _ (C : Context) where
+  signed_keeps : (w : Wanted) (span : Span) (keyed : Bool) (f : List ℕ) (a : TypedExpr) (s : Option Signature) (args : Option (List TypedExpr)) → Gives (signed_call C w span keyed f a s args) KeepsNone
+  signed_keeps w span keyed f a None args = gives_silent KeepsNone
+  signed_keeps w span keyed f a (Some s) args = gives_by KeepsNone C w span keyed f s (node.Method a f) args (λ es p. p)
 
-  method_keeps : (w : Wanted) (span : Span) (f : List ℕ) (a : TypedExpr) (es : List TypedExpr) → Makes KeepsNone (method_call classes w span f a es)
-  method_keeps w span f a es = makes_if KeepsNone (bytes_eq f (codes "__init__")) (Err _) (value_call classes w span f a (item_of (type_of a)) es) tt (by (item_of (type_of a)))
+  refused_keeps : (span : Span) (keyed : Bool) (m : Message) (args : Option (List TypedExpr)) → Gives (rule span (refused m) (positional span keyed args)) KeepsNone
+  refused_keeps span keyed m args = gives_makes KeepsNone span (refused m) (positional span keyed args) (λ es. tt)
+
+  had_keeps : (w : Wanted) (span : Span) (keyed : Bool) (f : List ℕ) (a : TypedExpr) (h : Had) (args : Option (List TypedExpr)) → Gives (had_call C w span keyed f a h args) KeepsNone
+  had_keeps w span keyed f a (has_method i) args = signed_keeps w span keyed f a (some_signature (slice_get C.signatures i)) args
+  had_keeps w span keyed f a (has_append t) args = gives_makes KeepsNone span (append_call C.classes w span a t) (positional span keyed args) (λ es. append_keeps C.classes w span a t (the_only es))
+  had_keeps w span keyed f a (has_pop t) args = gives_makes KeepsNone span (pop_call span a t) (positional span keyed args) (pop_keeps C.classes span a t)
+  had_keeps w span keyed f a (has_attribute t) args = refused_keeps span keyed _ args
+  had_keeps w span keyed f a has_untyped args = gives_silent KeepsNone
+  had_keeps w span keyed f a none_has_not args = refused_keeps span keyed _ args
+  had_keeps w span keyed f a has_not args = refused_keeps span keyed _ args
+
+  method_keeps : (w : Wanted) (span : Span) (keyed : Bool) (f : List ℕ) (a : TypedExpr) (args : Option (List TypedExpr)) → Gives (method_call C w span keyed f a args) KeepsNone
+  method_keeps w span keyed f a args = by (bytes_eq f (codes "__init__"))
     where
-      by : (o : Option Sort) → Makes KeepsNone (value_call classes w span f a o es)
-      by None = tt
-      by (Some t) = list_keeps w span f a t es
+      by : (b : Bool) → Gives (if b then rule span (refused Rattle.py_check_messages.specs.Messages.not_callable) (positional span keyed args) else had_call C w span keyed f a (look_up C.member (type_of a) f) args) KeepsNone
+      by true = refused_keeps span keyed _ args
+      by false = had_keeps w span keyed f a (look_up C.member (type_of a) f) args
 
-  called_keeps : (w : Wanted) (span : Span) (keyed : Bool) (f : Callee) (p : Option TypedExpr) (args : Option (List TypedExpr)) → Gives (called classes w span keyed f p args) KeepsNone
-  called_keeps w span keyed (function x i s) p args = gives_makes KeepsNone span (function_call classes w span x i s) (positional span keyed args) (function_keeps w span x i s)
-  called_keeps w span keyed print p args = gives_makes KeepsNone span (print_call classes w span) (positional span keyed args) (λ es. print_keeps w span es (unprintable 1 es))
-  called_keeps w span keyed input p args = gives_makes KeepsNone span (input_call span) (positional span keyed args) (input_keeps span)
-  called_keeps w span keyed range p args = gives_makes KeepsNone span (refused Rattle.py_check_messages.specs.Messages.range_outside_for) (positional span keyed args) (λ es. tt)
-  called_keeps w span keyed (single f) p args = gives_makes KeepsNone span (single_call classes f span) (positional span keyed args) (λ es. single_keeps f span (the_only es))
-  called_keeps w span keyed (exception x) p args = gives_makes KeepsNone span (exception_call classes span x) (positional span keyed args) (exception_keeps span x)
+  called_keeps : (w : Wanted) (span : Span) (keyed : Bool) (f : Callee) (p : Option TypedExpr) (args : Option (List TypedExpr)) → Gives (called C w span keyed f p args) KeepsNone
+  called_keeps w span keyed (function x i s) p args = gives_by KeepsNone C w span keyed x s (node.Call i) args (λ es p. p)
+  called_keeps w span keyed (class x n params) p args = gives_by KeepsNone C w span keyed x (takes params (sort.Instance n)) (node.Make n) args (λ es p. p)
+  called_keeps w span keyed (trait x params) p args = refused_keeps span keyed _ args
+  called_keeps w span keyed (super_init next params) p args = gives_by KeepsNone C w span keyed init_name (takes params sort.Nothing) (node.SuperInit next) args (λ es p. p)
+  called_keeps w span keyed print p args = gives_makes KeepsNone span (print_call C.classes w span) (positional span keyed args) (λ es. print_keeps C.classes w span es (unprintable 1 es))
+  called_keeps w span keyed input p args = gives_makes KeepsNone span (input_call span) (positional span keyed args) (input_keeps C.classes span)
+  called_keeps w span keyed range p args = refused_keeps span keyed _ args
+  called_keeps w span keyed (single f) p args = gives_makes KeepsNone span (single_call C.classes f span) (positional span keyed args) (λ es. single_keeps C.classes f span (the_only es))
+  called_keeps w span keyed (exception x) p args = gives_makes KeepsNone span (exception_call C.classes span x) (positional span keyed args) (exception_keeps C.classes span x)
   called_keeps w span keyed (method f) None args = gives_silent KeepsNone
-  called_keeps w span keyed (method f) (Some a) args = gives_makes KeepsNone span (method_call classes w span f a) (positional span keyed args) (method_keeps w span f a)
+  called_keeps w span keyed (method f) (Some a) args = method_keeps w span keyed f a args
   called_keeps w span keyed voiceless p args = gives_silent KeepsNone
-  called_keeps w span keyed uncalled p args = gives_makes KeepsNone span (refused Rattle.py_check_messages.specs.Messages.not_callable) (positional span keyed args) (λ es. tt)
+  called_keeps w span keyed uncalled p args = refused_keeps span keyed _ args
   called_keeps w span keyed value None args = gives_silent KeepsNone
-  called_keeps w span keyed value (Some a) args = gives_makes KeepsNone span (refused Rattle.py_check_messages.specs.Messages.not_callable) (positional span keyed args) (λ es. tt)
+  called_keeps w span keyed value (Some a) args = refused_keeps span keyed _ args
 
 -- ---- expressions
 
@@ -178,6 +187,6 @@ module _ (C : Context) (V : VarSorts) where
   keeps w known (at (tree.Index e i) span) = made_one w known (at (tree.Index e i) span) (made_item C V w known e i span)
   keeps w known (at (tree.Attr e a) span) = made_one w known (at (tree.Attr e a) span) (made_attribute C V w known e a span)
   keeps w known (at (tree.Call f args) span) =
-      gives_after KeepsNone (part C V known f) (λ p. behind (arguments C V (arguments_row (callee C f) p) 0 known args) (called C.classes w span (has_key args) (callee C f) p)) (λ o eo.
-      gives_after KeepsNone (arguments C V (arguments_row (callee C f) o) 0 known args) (called C.classes w span (has_key args) (callee C f) o) (λ es ees. called_keeps C.classes w span (has_key args) (callee C f) o es))
+      gives_after KeepsNone (part C V known f) (λ p. behind (arguments C V (arguments_row C (callee C f) p) 0 known args) (called C w span (has_key args) (callee C f) p)) (λ o eo.
+      gives_after KeepsNone (arguments C V (arguments_row C (callee C f) o) 0 known args) (called C w span (has_key args) (callee C f) o) (λ es ees. called_keeps C w span (has_key args) (callee C f) o es))
   keeps w known (at (tree.DictOf es) span) = made_one w known (at (tree.DictOf es) span) (made_dict C V w known es span)

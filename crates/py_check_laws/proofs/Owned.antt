@@ -1,20 +1,18 @@
 -- The variables of a scope: what they mean, and that each of them is a parameter or is bound.
-use Rattle.std.proofs.Common.{◌≡◌, ℕ, ◌<◌, Bool, true, false, ◌&&◌, ◌||◌, cond, List, [], ◌∷◌, length, map, filter, slice_get, Option, Some, refl, ap, sym, ◌∙◌, subst, if◌then◌else◌, lt-ltb, ◌⊎◌, inl, inr}
+use Rattle.std.proofs.Common.{◌≡◌, ℕ, suc, ◌<◌, Bool, true, false, ◌&&◌, ◌||◌, cond, List, [], ◌∷◌, length, filter, slice_get, Option, Some, refl, ap, sym, ◌∙◌, subst, if◌then◌else◌, lt-ltb, ◌⊎◌, inl, inr}
 use Rattle.std.proofs.lemmas.Option.{same_Some, slice_get_within}
 use Rattle.std.specs.List.{zip}
 use Rattle.std.specs.Map.{lookup}
 use Rattle.std.specs.Str.{bytes_eq}
-use Rattle.py_syntax.specs.Expressions.{ExprTree}
 use Rattle.py_syntax.specs.Statements.{FuncTree}
 use Rattle.py_binder.specs.declared.scope.Role.{Role}
 use Rattle.py_binder.specs.declared.scope.Role.TheVariants as role
 use Rattle.py_binder.specs.Sights.{body_sights}
 use Rattle.py_binder.specs.Scope.{contains, is_builtin, bound_there, listed_there, all_there, Roles, is_variable, param_names, function_role, first_sights, scope_of}
 use Rattle.py_typed.specs.WellTyped.{all_differ}
-use Rattle.py_typed.specs.Classes.{ClassEntry, Signature}
 use Rattle.py_check_context.specs.declared.scope.Meaning.{Meaning}
 use Rattle.py_check_context.specs.declared.scope.Meaning.TheVariants as meaning
-use Rattle.py_check_context.specs.Context.{VarSorts}
+use Rattle.py_check_context.specs.Context.{Context, VarSorts}
 use Rattle.py_check_calls.specs.Callees as callee
 use Rattle.py_check_names.specs.Meanings.{is_own, own_names, number, by_role, meaning_in}
 use Rattle.py_check_expressions_laws.proofs.Types.{clash}
@@ -40,13 +38,16 @@ param_or_bound f roles other x h = by (is_builtin x) (contains (param_names f) x
     by false false false false p q g = clash (is_own (roles x)) g (other x)
 
 -- the type of a parameter
-pub param_found : (ps : List (List ℕ × Option ExprTree)) {A : Type 0} (g : List ℕ × Option ExprTree → A) (x : List ℕ) → contains (map (λ p. p.0) ps) x ≡ true → (t : A) × (lookup (bytes_eq x) (zip (map (λ p. p.0) ps) (map g ps)) ≡ Some t)
-param_found [] g x h = absurd (cc)
-param_found (p ∷ ps) {A = A} g x h = by (bytes_eq x p.0) h (param_found ps g x)
+pub param_found : {A : Type 0} (names : List (List ℕ)) (types : List A) (x : List ℕ) → length types ≡ length names → contains names x ≡ true → (t : A) × (lookup (bytes_eq x) (zip names types) ≡ Some t)
+param_found [] types x n h = absurd (cc)
+param_found (y ∷ names) [] x n h = absurd (cc)
+param_found {A = A} (y ∷ names) (t ∷ types) x n h = by (bytes_eq x y) h (param_found names types x (one_less (length types) (length names) n))
   where
-    by : (b : Bool) → (b || contains (map (λ p. p.0) ps) x) ≡ true → (contains (map (λ p. p.0) ps) x ≡ true → (t : A) × (lookup (bytes_eq x) (zip (map (λ p. p.0) ps) (map g ps)) ≡ Some t))
-        → (t : A) × (cond b (Some (g p)) (lookup (bytes_eq x) (zip (map (λ p. p.0) ps) (map g ps))) ≡ Some t)
-    by true q next = (g p, refl)
+    one_less : (a b : ℕ) → suc a ≡ suc b → a ≡ b
+    one_less a b e = cc
+
+    by : (b : Bool) → (b || contains names x) ≡ true → (contains names x ≡ true → (u : A) × (lookup (bytes_eq x) (zip names types) ≡ Some u)) → (u : A) × (cond b (Some t) (lookup (bytes_eq x) (zip names types)) ≡ Some u)
+    by true q next = (t, refl)
     by false q next = next q
 
 pub filter_none : (p : List ℕ → Bool) → ((x : List ℕ) → p x ≡ false) → (ys : List (List ℕ)) → filter p ys ≡ []
@@ -72,8 +73,9 @@ module _ (said : List ℕ → Option Meaning) (outer : List (List ℕ)) (n : ℕ
       let r = own_role x (at_place own i x h) in
       (seen_means said outer n roles fine seen x r.1 ∙ own_by outer own said x (roles x) r.0 ∙ ap meaning.Local (number_at own i x own_differ h), r.0)
 
-  pub scope_is : (signatures : List (Option Signature)) (classes : List ClassEntry) (V : VarSorts) → length V.locals ≡ length own → length V.globals ≡ length outer → IsScope (record { meaning = means; signatures = signatures; classes = classes }) V
-  scope_is signatures classes V p q = record {
+  -- in any context in which names mean that
+  pub scope_is : (D : Context) (V : VarSorts) → length V.locals ≡ length own → length V.globals ≡ length outer → IsScope (record { meaning = means; signatures = D.signatures; classes = D.classes; member = D.member; init = D.init; inside = D.inside }) V
+  scope_is D V p q = record {
     locals_there = λ x i e. lt-ltb i (length V.locals) (subst (λ z. i < z) (sym p) (slice_get_within own i x (local_place said outer n roles fine seen x i e)));
     globals_there = λ x i e. lt-ltb i (length V.globals) (subst (λ z. i < z) (sym q) (slice_get_within outer i x (global_place said outer n roles fine seen x i e)));
     differ = λ x y v e. by x y v e (means x) refl;

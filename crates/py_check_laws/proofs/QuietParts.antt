@@ -21,9 +21,10 @@ use Rattle.py_check_expressions.proofs.Quiet.{IsQuiet, quiet_is, quiet_silent, q
 use Rattle.py_check_expressions_laws.proofs.Layers.{quiet_arguments}
 use Rattle.py_check_values.specs.Aims.{Aim}
 use Rattle.py_check_places.specs.Places.{Known}
-use Rattle.py_check_places.specs.Shapes.{is_item, is_row, leaves, parts_of}
-use Rattle.py_check_targets.specs.Targets.{value_aim, seen_aim, next_part, more_parts, typed_at, single_aim, beyond, aims, target_aims, aims_behind}
+use Rattle.py_check_places.specs.Shapes.{is_row, leaves, parts_of, is_access}
+use Rattle.py_check_targets.specs.Targets.{value_aim, seen_aim, next_part, more_parts, typed_at, single_aim, beyond, aims, target_aims, aims_behind, other_aim, lacking_aim}
 use Rattle.py_check_loops.specs.Loops.{value, range_arguments, range_call, span_of, course_by, course}
+use Rattle.py_check_targets.specs.Attributes.{lacking_in}
 
 pub quiet_if : {A : Type 0} (b : Bool) (s t : Seen A) → IsQuiet s → IsQuiet t → IsQuiet (if b then s else t)
 quiet_if true s t qs qt = qs
@@ -86,7 +87,11 @@ quiet_seen a = record { says = λ x h. refl }
 module _ (C : Context) where
   quiet_single : (k : Known) (x : Option (List ℕ)) (t : ExprTree) → IsQuiet (single_aim C k x t)
   quiet_single k (Some x) t = record { says = λ a h. refl }
-  quiet_single k None t = quiet_made (value_aim (is_item t)) (typed_at C k free t) (quiet_typing C k.types free k.names t)
+  quiet_single k None t = by (lacking_in C t)
+    where
+      by : (o : Option (ExprTree × List ℕ)) → IsQuiet (other_aim C k t o)
+      by None = quiet_made (value_aim (is_access t)) (typed_at C k free t) (quiet_typing C k.types free k.names t)
+      by (Some p) = quiet_made (lacking_aim p.1) (typed_at C k free p.0) (quiet_typing C k.types free k.names p.0)
 
   quiet_aims : (k : Known) (parts : Option (List Sort)) (es : List ExprTree) → IsQuiet (aims C k parts es)
   quiet_aims k parts [] = quiet_is []

@@ -12,7 +12,6 @@ use Rattle.py_syntax.specs.Statements as node
 use Rattle.py_syntax.specs.Statements.{StmtTree, StmtNode, Suite, no_stmts, stmt_then, Arms, no_arms, arm_then, Handlers, no_handlers, handler_then, MaybeSuite, no_suite, some_suite}
 use Rattle.py_typed.specs.Sorts as sort
 use Rattle.py_typed.specs.Sorts.{Sort, Exc, Sorts, listed_sorts}
-use Rattle.py_typed.specs.Classes.{Signature}
 use Rattle.py_typed.specs.Fits.{is_nothing}
 use Rattle.py_typed.specs.Expressions.{TypedExpr, type_of}
 use Rattle.py_typed.specs.Statements as act
@@ -29,12 +28,12 @@ use Rattle.py_check_messages.specs.Messages.{no_target, needs_annotation}
 use Rattle.py_check_messages.specs.Rows.{row_then}
 use Rattle.py_check_annotations.specs.Annotations.{annotation}
 use Rattle.py_check_values.specs.Returns.{ReturnSort}
-use Rattle.py_check_values.specs.Aims.{Aim, held, first, barred, unwritten, misplaced}
+use Rattle.py_check_values.specs.Aims.{Aim, held, first, barred, unwritten, misplaced, lacking}
 use Rattle.py_check_values.specs.Assignments.{binding_fault, items_for}
 use Rattle.py_check_places.specs.Places.{Known, with_names, is_unset, fix, first_type, bind_variable, bind_name, bind_names, where_test, entering, Way, setting_out, behind_arm}
 use Rattle.py_check_places.specs.Shapes.{is_row, is_flat, leaves, target_names, bind_target}
-use Rattle.py_check_targets.specs.Targets.{variable_aim, name_aim, targets_of, assigned, typed_at, target_aims, aims_behind}
-use Rattle.py_check_assignments.specs.Assignments.{value_for, assigns, binds, annotates_name, annotates, value_sort, binds_annotated, asked_for}
+use Rattle.py_check_targets.specs.Targets.{variable_aim, name_aim, targets_of, assigned, target_aims, aims_behind}
+use Rattle.py_check_assignments.specs.Assignments.{value_for, assigns, binds, annotates_name, annotates, value_sort, binds_annotated, asked_for, annotates_at}
 use Rattle.py_check_loops.specs.Loops.{Course, course, head, loop_of}
 use Rattle.py_check_loops.specs.Heads.{some_items, for_head, in_for}
 use Rattle.py_check_exceptions.specs.Handlers.{handler_head, in_handler}
@@ -49,13 +48,14 @@ use Rattle.py_check_laws.specs.WellTyped.{is_filled, maybe_written, are_targets,
 use Rattle.py_check_laws.proofs.Given.{some_is, made_given, both_given, rule_given, row_given}
 use Rattle.py_check.proofs.Bound.{single_bound, name_no_row, closed_variable}
 use Rattle.py_check.proofs.Kept.{fix_cases, Follows, follows_on, follows_name, follows_target, follows_stmt, follows_block, follows_arms, follows_clauses, follows_last, is_open, bind_set}
-use Rattle.py_check_laws.proofs.Assigned.{row_bound, items_are, RowBound, BoundTo, assigned_is, head_is}
+use Rattle.py_check_laws.proofs.Assigned.{row_bound, items_are, BoundTo, assigned_is, head_is, own_single, own_unmarked}
 use Rattle.py_check_laws.proofs.Whole.{definition_after, bound_same}
 use Rattle.py_check_laws.proofs.Aims.{AimAt, AimsOf}
 use Rattle.py_check_laws.proofs.Shapes.{definition_shape, no_part_given}
 use Rattle.py_check_laws.proofs.Values.{scene, values_listed, stands_type, parts_type, given_stands}
 use Rattle.py_check_laws.proofs.Closed.{scope_there, scope_on, AllClosed, closed_both, closed_on, target_closed, name_closed, IsMarked, marked_front, marked_behind}
 use Rattle.py_check_laws.proofs.Courses.{course_stands, item_type}
+use Rattle.py_check_targets.specs.Attributes.{own_attribute}
 
 -- ---- variables
 
@@ -141,6 +141,7 @@ module _ (C : Context) (n : ℕ) where
   name_valued k v e (Some x) (first u y) h t f value = valued_variable n true k v (C.meaning x) (Some t) (λ o r q. first_value n t r value (not_none t y f) q)
   name_valued k v e (Some x) (barred y) h t f value = absurd (cc)
   name_valued k v e (Some x) (unwritten s) h t f value = absurd (cc)
+  name_valued k v e (Some x) (lacking s y) h t f value = absurd (cc)
   name_valued k v e (Some x) (misplaced s) h t f value = absurd (cc)
 
   aims_single : (k : Known) (target : ExprTree) (l : List Aim) (a : Aim) (ts : Option (List Sort)) → l ≡ a ∷ [] → leaves target ≡ target ∷ [] → AimsOf C k ts (leaves target) l → AimAt C k (name_in target) target a
@@ -160,23 +161,30 @@ module _ (C : Context) (n : ℕ) where
           subst (λ (z : Known). Valued n z.types) (sym (row_bound C true k target t r.parts q (ap (items_for t) (sym looked.many) ∙ r.items)))
           (valued_names true k v (target_names target) r.parts (subst (λ z. list_all (is_value_type n) z ≡ true) i.2 (values_listed n i.0 (parts i.0 i.1))))
 
-module _ (means : List ℕ → Meaning) (signatures : List (Option Signature)) (m : TypedModule) (locals : List Variable) (init : Option ℕ) where
+module _ (C : Context) (m : TypedModule) (locals : List Variable) (init : Option ℕ) where
   abbrev here : Context
-  here = scene means signatures m locals init
+  here = scene C m locals init
 
   abbrev size : ℕ
   size = length m.classes.classes
 
-  valued_here : (V : VarSorts) → Describes here V m locals → Valued size V
+  valued_here : (V : VarSorts) → Describes here V m locals init → Valued size V
   valued_here V D = record { locals = λ i t e. (D.locals_are i t e).type; globals = λ i t e. (D.globals_are i t e).type }
 
-  pub described : (V W : VarSorts) → Describes here V m locals → AreDeclared m locals W → Valued size W → Describes here W m locals
+  pub described : (V W : VarSorts) → Describes here V m locals init → AreDeclared m locals W → Valued size W → Describes here W m locals init
   described V W D d v = record {
     classes = D.classes;
     tree = D.tree;
     locals_are = λ i t e. record { is = d.of_function i t e; type = v.locals i t e };
     globals_are = λ i t e. record { is = d.of_module i t e; type = v.globals i t e };
     functions_are = D.functions_are;
+    attributes_are = D.attributes_are;
+    attributes_typed = D.attributes_typed;
+    methods_are = D.methods_are;
+    inits_are = D.inits_are;
+    inits_signed = D.inits_signed;
+    inside_is = D.inside_is;
+    next_signed = D.next_signed;
   }
 
   -- behind statements with these bindings
@@ -186,17 +194,17 @@ module _ (means : List ℕ → Meaning) (signatures : List (Option Signature)) (
 
   -- ---- single statements
 
-  settled_assign : (k : Known) → Describes here k.types m locals → IsScope here k.types → (span : Span) (target e : ExprTree) → list_all law.is_written (leaves target) ≡ true → law.is_written e ≡ true → (a : TypedAct) → (assigns here k span target e).got ≡ Some a → Settled (binds here k span target e).types (target_bindings target)
+  settled_assign : (k : Known) → Describes here k.types m locals init → IsScope here k.types → (span : Span) (target e : ExprTree) → list_all law.is_written (leaves target) ≡ true → law.is_written e ≡ true → (a : TypedAct) → (assigns here k span target e).got ≡ Some a → Settled (binds here k span target e).types (target_bindings target)
   settled_assign k D s span target e wt we a h =
       let value = value_for here k target e in
       let targets = aims_behind here k target (option_map type_of value.got) in
       let r = rule_given span (assigned m.classes.classes target (asked_for here k target)) (both targets value) a h in
       let b = both_given targets value r.0 r.1 in
       let d = assigned_is m.classes.classes target (asked_for here k target) r.0 a r.2 in
-      let v = given_stands means signatures m locals init k D target wt r.0.0 (option_map type_of value.got) b.0 e we r.0.1 d.bound d.fits b.1 k.names (λ x q. q) in
+      let v = given_stands C m locals init k D target wt r.0.0 (option_map type_of value.got) b.0 e we r.0.1 d.bound d.fits b.1 k.names (λ x q. q) in
       record {
         valued = subst (λ (l : Known). Valued size l.types) (sym (bound_same here k target (is_some (assigns here k span target e).got) (option_map type_of value.got) (type_of r.0.1) (some_is (assigns here k span target e).got a h) (ap (option_map type_of) b.1)))
-            (target_valued here size k (valued_here k.types D) target r.0.0 (type_of r.0.1) (looked_behind here k target r.0.0 (option_map type_of value.got) (type_of r.0.1) b.0 (ap (option_map type_of) b.1)) d.bound (stands_type means signatures m locals init k.names r.0.1 v) (λ ts q. parts_type means signatures m locals init k.names r.0.1 ts v q));
+            (target_valued here size k (valued_here k.types D) target r.0.0 (type_of r.0.1) (looked_behind here k target r.0.0 (option_map type_of value.got) (type_of r.0.1) b.0 (ap (option_map type_of) b.1)) d.bound (stands_type C m locals init k.names r.0.1 v) (λ ts q. parts_type C m locals init k.names r.0.1 ts v q));
         closed = target_closed here (is_some (assigns here k span target e).got) k s target (option_map type_of value.got);
       }
 
@@ -206,25 +214,33 @@ module _ (means : List ℕ → Meaning) (signatures : List (Option Signature)) (
   mark_found : (x : List ℕ) (mark : ExprTree) → Rattle.py_check_definitions.specs.Starts.first_mark (bound x (Some mark)) x ≡ Some (Some mark)
   mark_found x mark = ap (λ b. cond b (Some (Some mark)) None) (text_is_itself x)
 
-  settled_name : (k : Known) → Describes here k.types m locals → IsScope here k.types → (ok : Bool) (target mark : ExprTree) (x : List ℕ) (t : Option Sort) → name_in target ≡ Some x → IsMarked here k.types (bound x (Some mark)) → Settled (bind_target here ok k target t).types (marked (name_in target) target mark)
+  settled_name : (k : Known) → Describes here k.types m locals init → IsScope here k.types → (ok : Bool) (target mark : ExprTree) (x : List ℕ) (t : Option Sort) → name_in target ≡ Some x → IsMarked here k.types (bound x (Some mark)) → Settled (bind_target here ok k target t).types (marked (name_in target) target mark)
   settled_name k D s ok target mark x t n h =
       let kept : (bind_target here ok k target t).types ≡ k.types =
-      ap (λ (l : Known). l.types) (single_bound here ok k target t (name_no_row target x n) ∙ ap (λ o. bind_name here ok k o t) n) ∙ bind_set ok k (means x) t (h x mark (mark_found x mark)) in
+      ap (λ (l : Known). l.types) (single_bound here ok k target t (name_no_row target x n) ∙ ap (λ o. bind_name here ok k o t) n) ∙ bind_set ok k (C.meaning x) t (h x mark (mark_found x mark)) in
       record {
         valued = subst (Valued size) (sym kept) (valued_here k.types D);
         closed = subst (λ o. AllClosed here (bind_target here ok k target t).types (marked o target mark)) (sym n) (record { here = name_closed here ok k s target t x n; rest = tt });
       }
 
-  settled_annotated : (k : Known) → Describes here k.types m locals → IsScope here k.types → (span : Span) (target mark : ExprTree) (e : Option ExprTree) (x : Option (List ℕ)) → name_in target ≡ x → IsMarked here k.types (marked x target mark) → (a : TypedAct) → (annotates here k span x target mark e).got ≡ Some a
+  settled_annotated : (k : Known) → Describes here k.types m locals init → IsScope here k.types → (span : Span) (target mark : ExprTree) (e : Option ExprTree) (x : Option (List ℕ)) → name_in target ≡ x → IsMarked here k.types (marked x target mark) → (a : TypedAct) → (annotates here k span x target mark e).got ≡ Some a
       → Settled (binds_annotated here k span x target mark e).types (marked (name_in target) target mark)
   settled_annotated k D s span target mark e (Some x) n h a g = settled_name k D s (is_some (annotates_name here k span x mark e).got) target mark x (value_sort here k x e) n h
-  settled_annotated k D s span target mark None None n h a g = absurd (no_part_given (both (target_aims here k target) (annotation means mark)).got span no_target a g)
-  settled_annotated k D s span target mark (Some e) None n h a g = absurd (no_part_given (both (both (target_aims here k target) (annotation means mark)) (value_for here k target e)).got span no_target a g)
+  settled_annotated k D s span target mark e None n h a g = by (own_attribute C.inside target) refl e g
+    where
+      by : (o : Option (ExprTree × List ℕ)) → own_attribute C.inside target ≡ o → (e : Option ExprTree) → (annotates_at here k span o target mark e).got ≡ Some a → Settled (bind_target here false k target None).types (marked (name_in target) target mark)
+      by None q None g = absurd (no_part_given (both (target_aims here k target) (annotation C.meaning mark)).got span no_target a g)
+      by None q (Some e) g = absurd (no_part_given (both (both (target_aims here k target) (annotation C.meaning mark)) (value_for here k target e)).got span no_target a g)
+      by (Some p) q e g =
+          let s = own_single C.inside target p q in
+          let same : bind_target here false k target None ≡ k = single_bound here false k target None s.0 ∙ ap (λ o. bind_name here false k o None) s.1 in
+          subst (λ bs. Settled (bind_target here false k target None).types bs) (sym (own_unmarked C.inside target p mark q))
+          (record { valued = subst (λ (z : Known). Valued size z.types) (sym same) (valued_here k.types D); closed = tt })
 
-  settled_update : (k : Known) → Describes here k.types m locals → IsScope here k.types → (target : ExprTree) → Settled (bind_target here false k target None).types (target_bindings target)
+  settled_update : (k : Known) → Describes here k.types m locals init → IsScope here k.types → (target : ExprTree) → Settled (bind_target here false k target None).types (target_bindings target)
   settled_update k D s target = record { valued = valued_names here size false k (valued_here k.types D) (target_names target) [] refl; closed = target_closed here false k s target None }
 
-  settled_head : (k : Known) → Describes here k.types m locals → IsScope here k.types → (s : StmtTree) (span : Span) (target e : ExprTree) → law.is_written e ≡ true → (p : List TypedTarget × Course) → (for_head here k s span target e).got ≡ Some p → Settled (in_for here k s span target e).types (target_bindings target)
+  settled_head : (k : Known) → Describes here k.types m locals init → IsScope here k.types → (s : StmtTree) (span : Span) (target e : ExprTree) → law.is_written e ≡ true → (p : List TypedTarget × Course) → (for_head here k s span target e).got ≡ Some p → Settled (in_for here k s span target e).types (target_bindings target)
   settled_head k D sc s span target e we p h =
       let l = entering here k s in
       let targets = aims_behind here l target (some_items (course here k e).got) in
@@ -233,8 +249,8 @@ module _ (means : List ℕ → Meaning) (signatures : List (Option Signature)) (
       let g = rule_given span (head m.classes.classes (is_flat target) (is_row target)) parts q.0 q.1 in
       let b = both_given targets (course here k e) g.0 g.1 in
       let d = head_is m.classes.classes target g.0 q.0 g.2 in
-      let c = course_stands means signatures m locals init None k D e we g.0.1 b.1 k.names (λ x z. z) in
-      let v : is_value_type size d.0.item ≡ true = item_type means signatures m locals init None k.names g.0.1 d.0.item c d.0.items in
+      let c = course_stands C m locals init None k D e we g.0.1 b.1 k.names (λ x z. z) in
+      let v : is_value_type size d.0.item ≡ true = item_type C m locals init None k.names g.0.1 d.0.item c d.0.items in
       record {
         valued = subst (λ (z : Known). Valued size z.types) (sym (bound_same here l target (is_some (for_head here k s span target e).got) (some_items (course here k e).got) d.0.item (some_is (for_head here k s span target e).got p h) (ap some_items b.1 ∙ d.0.items)))
             (target_valued here size l (valued_here k.types D) target g.0.0 d.0.item (looked_behind here l target g.0.0 (some_items (course here k e).got) d.0.item b.0 (ap some_items b.1 ∙ d.0.items)) d.0.bound (λ z. v) (λ ts z. Rattle.py_check_laws.proofs.Values.third (Rattle.std.specs.Prelude.nat_lt 0 (length (listed_sorts ts))) (Rattle.std.specs.Prelude.nat_lt (length (listed_sorts ts)) 17) (are_value_types size ts) (subst (λ x. is_value_type size x ≡ true) z v)));
@@ -242,11 +258,11 @@ module _ (means : List ℕ → Meaning) (signatures : List (Option Signature)) (
       }
 
   -- the name of an except clause, which takes an exception
-  settled_caught : (ok : Bool) (k : Known) → Describes here k.types m locals → IsScope here k.types → (x : Option (List ℕ)) → Settled (bind_name here ok k x (Some (Exc Exception))).types (caught x)
+  settled_caught : (ok : Bool) (k : Known) → Describes here k.types m locals init → IsScope here k.types → (x : Option (List ℕ)) → Settled (bind_name here ok k x (Some (Exc Exception))).types (caught x)
   settled_caught ok k D sc None = record { valued = valued_here k.types D; closed = tt }
   settled_caught ok k D sc (Some x) = record {
-    valued = valued_variable size ok k (valued_here k.types D) (means x) (Some (Exc Exception)) (λ o s e. of_type ok s e);
-    closed = record { here = closed_variable ok k (means x) (Some (Exc Exception)) (scope_there here k.types sc x); rest = tt };
+    valued = valued_variable size ok k (valued_here k.types D) (C.meaning x) (Some (Exc Exception)) (λ o s e. of_type ok s e);
+    closed = record { here = closed_variable ok k (C.meaning x) (Some (Exc Exception)) (scope_there here k.types sc x); rest = tt };
   }
     where
       of_type : (b : Bool) (s : Sort) → first_type b (Some (Exc Exception)) ≡ has s → is_value_type size s ≡ true
@@ -257,7 +273,7 @@ module _ (means : List ℕ → Meaning) (signatures : List (Option Signature)) (
 
   -- what a row of statements stands on
   pub record Setting (V : VarSorts) (bs : List Binding) (end : VarSorts) : Type 0 where
-    pub describes : Describes here V m locals
+    pub describes : Describes here V m locals init
     pub scope : IsScope here V
     pub marked : IsMarked here V bs
     pub follows : Follows V end

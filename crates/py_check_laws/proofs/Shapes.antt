@@ -21,7 +21,7 @@ use Rattle.py_typed.specs.Narrowing.{is_in, bound_by, bound_by_all, bound_by_nam
 use Rattle.py_check_context.specs.declared.scope.Meaning.{Meaning}
 use Rattle.py_check_context.specs.declared.scope.Meaning.TheVariants as meaning
 use Rattle.py_check_context.specs.Context.{Context, free, test}
-use Rattle.py_check_flow.specs.Bindings.{Binding, bound, target_bindings, name_in, marked, caught, stmt_bindings, act_bindings, suite_bindings, arms_bindings, handlers_bindings, last_bindings}
+use Rattle.py_check_flow.specs.Bindings.{Binding, target_bindings, name_in, marked, caught, stmt_bindings, act_bindings, suite_bindings, arms_bindings, handlers_bindings, last_bindings}
 use Rattle.py_check_flow.specs.Closed as flow
 use Rattle.py_check_flow.specs.Closed.{is_true}
 use Rattle.py_check_messages.specs.Seen.{Seen, both, behind, rule, made}
@@ -33,11 +33,11 @@ use Rattle.py_check_coercions.specs.Values.{truth}
 use Rattle.py_check_coercions.specs.Several.{with_part}
 use Rattle.py_check_values.specs.Returns.{ReturnSort, bare_return, value_return}
 use Rattle.py_check_places.specs.Places.{Known, with_names, is_bound, locals_among, where_test, entering, Way, setting_out, behind_arm}
-use Rattle.py_check_places.specs.Shapes.{is_row, is_item, is_flat, leaves}
-use Rattle.py_check_values.specs.Aims.{Aim, held, first, barred, unwritten, misplaced}
+use Rattle.py_check_places.specs.Shapes.{is_row, is_flat, leaves, is_access}
+use Rattle.py_check_values.specs.Aims.{Aim, held, first, barred, unwritten, misplaced, lacking}
 use Rattle.py_check_calls.specs.Exceptions.{exception_made}
-use Rattle.py_check_targets.specs.Targets.{target_of, targets_of, is_placed, name_aim, seen_aim, read_aim, assigned, declared, given, updated, annotation_fault, typed_at, target_aims, next_part, more_parts, beyond, aims_behind}
-use Rattle.py_check_assignments.specs.Assignments.{value_for, assigns, annotated_value, annotates, updates_one, updates_row, updates, asked_for}
+use Rattle.py_check_targets.specs.Targets.{target_of, targets_of, is_placed, name_aim, seen_aim, read_aim, assigned, declared, given, updated, annotation_fault, typed_at, target_aims, next_part, more_parts, beyond, aims_behind, declared_own, given_own}
+use Rattle.py_check_assignments.specs.Assignments.{value_for, assigns, annotated_value, annotates, updates_one, updates_row, updates, asked_for, annotates_own, annotates_at, updates_single}
 use Rattle.py_check_loops.specs.Loops.{Course, numbers, value, course, head, loop_over, loop_of}
 use Rattle.py_check_loops.specs.Heads.{for_head, in_for, some_items}
 use Rattle.py_check_exceptions.specs.Raises.{raises, asserts}
@@ -51,11 +51,12 @@ use Rattle.py_check_laws.proofs.Deleted.{deleted_item}
 use Rattle.std.specs.Option.{option_map}
 use Rattle.py_check_laws.proofs.Looked.{looked_behind}
 use Rattle.py_check_laws.proofs.Given.{made_given, both_given, rule_given, row_given, unless_ok}
-use Rattle.py_check_laws.proofs.Assigned.{assigned_is, given_is, updated_is, head_is}
+use Rattle.py_check_laws.proofs.Assigned.{assigned_is, given_is, updated_is, head_is, own_single, declared_own_is, given_own_is, never_lacking}
 use Rattle.py_check_laws.proofs.Names.{within_itself}
-use Rattle.py_check_laws.proofs.Aims.{AimAt, AimsOf, Held, held_local, held_global, held_item, aim_held, First, first_local, first_global, aim_first}
+use Rattle.py_check_laws.proofs.Aims.{AimAt, AimsOf, Held, held_local, held_global, held_item, aim_held, First, first_local, first_global, aim_first, OtherAt, held_attribute, aims_are}
 use Rattle.py_check_laws.proofs.Exceptions.{Raised, raised_on, raised_class, raised_value, raise_given, assert_given, NameAt, head_given}
 use Rattle.py_check_laws.proofs.Literals.{heads, truth_literal}
+use Rattle.py_check_targets.specs.Attributes.{own_attribute, lacking_in, declaring_fault}
 
 -- ---- loops
 
@@ -108,9 +109,9 @@ module _ (C : Context) where
   locals_two a b = flat_map-append (λ (x : Binding). local_of (C.meaning x.name)) a b
 
   -- a name that is read where it is updated is one that is assigned
-  pub read_aim_at : (k : Known) (x : Option (List ℕ)) (target : ExprTree) (v : TypedExpr) → (typed_at C k free target).got ≡ Some v → is_placed (read_aim C k x (is_item target) v) ≡ true → AimAt C k x target (read_aim C k x (is_item target) v)
-  read_aim_at k None target v g p = (v, g, refl)
-  read_aim_at k (Some x) target v g p = by (name_aim k x (C.meaning x)) refl p
+  pub read_aim_at : (k : Known) (x : Option (List ℕ)) (target : ExprTree) (v : TypedExpr) → lacking_in C target ≡ None → (typed_at C k free target).got ≡ Some v → is_placed (read_aim C k x (is_access target) v) ≡ true → AimAt C k x target (read_aim C k x (is_access target) v)
+  read_aim_at k None target v l g p = subst (λ o. OtherAt C k target o (read_aim C k None (is_access target) v)) (sym l) (v, g, refl)
+  read_aim_at k (Some x) target v l g p = by (name_aim k x (C.meaning x)) refl p
     where
       by : (o : Option Aim) → name_aim k x (C.meaning x) ≡ o → is_placed (Rattle.std.specs.Prelude.unwrap_or o (misplaced (type_of v))) ≡ true → name_aim k x (C.meaning x) ≡ Some (Rattle.std.specs.Prelude.unwrap_or (name_aim k x (C.meaning x)) (misplaced (type_of v)))
       by None q h = absurd (cc)
@@ -125,6 +126,7 @@ module _ (C : Context) where
   held_within k e t s (held_local x i n q is v) = subst (λ z. Within (bound_by_all (z ∷ [])) (locals_among C (leaf_bindings e))) is (subst (Within (i ∷ [])) (sym (locals_leaf e x (meaning.Local i) n q)) (within_itself (i ∷ [])))
   held_within k e t s (held_global x i n q is v) = subst (λ z. Within (bound_by_all (z ∷ [])) (locals_among C (leaf_bindings e))) is (within_none (locals_among C (leaf_bindings e)))
   held_within k e t s (held_item b i place n g w is) = subst (λ z. Within (bound_by_all (z ∷ [])) (locals_among C (leaf_bindings e))) is (within_none (locals_among C (leaf_bindings e)))
+  held_within k e t s (held_attribute b a place n g is) = subst (λ z. Within (bound_by_all (z ∷ [])) (locals_among C (leaf_bindings e))) is (within_none (locals_among C (leaf_bindings e)))
 
   first_within : (k : Known) (e : ExprTree) (t : TypedTarget) → First C k e t → Within (bound_by_all (t ∷ [])) (locals_among C (leaf_bindings e))
   first_within k e t (first_local x i n q is v) = subst (λ z. Within (bound_by_all (z ∷ [])) (locals_among C (leaf_bindings e))) is (subst (Within (i ∷ [])) (sym (locals_leaf e x (meaning.Local i) n q)) (within_itself (i ∷ [])))
@@ -135,6 +137,7 @@ module _ (C : Context) where
   aim_within k e (first t x) h = first_within k e t (aim_first C k e t x h)
   aim_within k e (barred x) h = within_none (locals_among C (leaf_bindings e))
   aim_within k e (unwritten s) h = within_none (locals_among C (leaf_bindings e))
+  aim_within k e (lacking s x) h = within_none (locals_among C (leaf_bindings e))
   aim_within k e (misplaced s) h = within_none (locals_among C (leaf_bindings e))
 
   aims_within : (k : Known) (ts : Option (List Sort)) (es : List ExprTree) (l : List Aim) → AimsOf C k ts es l → Within (bound_by_all (targets_of l)) (locals_among C (flat_map leaf_bindings es))
@@ -214,10 +217,39 @@ module _ (C : Context) where
       let g = given_is C.classes x (is_bound k (C.meaning x)) r.0 a r.2 in
       subst (ActShape (node.Annot target mark (Some e))) g.is (record { closes = refl; breaks = refl; bound = named_within target mark x (bound_by_all (target_of r.0.0.0)) n (aim_within k target r.0.0.0 (subst (λ o. AimAt C k o target r.0.0.0) (sym n) c.0)) })
 
+  -- what an attribute binds is no name
+  unnamed : (k : Known) (target : ExprTree) (l : List Aim) → is_row target ≡ false → name_in target ≡ None → AimsOf C k None (leaves target) l → (ys : List ℕ) → Within (bound_by_all (targets_of l)) ys
+  unnamed k target l q n a ys = by l (subst (λ es. AimsOf C k None es l) (leaves_one target q) a)
+    where
+      of_aim : (x : Aim) → AimAt C k (name_in target) target x → Within (bound_by_all (target_of x)) ys
+      of_aim x h y g = within_none ys y (subst (λ o. is_in (locals_among C (named o)) y ≡ true) n (aim_within k target x h y g))
+
+      by : (l : List Aim) → AimsOf C k None (target ∷ []) l → Within (bound_by_all (targets_of l)) ys
+      by [] h = absurd h
+      by (x ∷ []) h = subst (λ z. Within (bound_by_all z) ys) (sym (append-nil (target_of x))) (of_aim x h.here)
+      by (x ∷ y ∷ l) h = absurd h.rest
+
+  own_shape : (k : Known) (span : Span) (p : ExprTree × List ℕ) (target mark : ExprTree) (e : Option ExprTree) (a : TypedAct) → own_attribute C.inside target ≡ Some p → (annotates_own C k span p.1 target mark e).got ≡ Some a → ActShape (node.Annot target mark e) a
+  own_shape k span p target mark None a o h =
+      let r = rule_given span (declared_own (declaring_fault C.inside p.1 span)) (both (target_aims C k target) (annotation C.meaning mark)) a h in
+      subst (ActShape (node.Annot target mark None)) (declared_own_is (declaring_fault C.inside p.1 span) r.0 a r.2) (record { closes = refl; breaks = refl; bound = within_none (locals_among C (act_bindings (node.Annot target mark None))) })
+  own_shape k span p target mark (Some e) a o h =
+      let front = both (target_aims C k target) (annotation C.meaning mark) in
+      let r = rule_given span (given_own C.classes target (declaring_fault C.inside p.1 span)) (both front (value_for C k target e)) a h in
+      let b = both_given front (value_for C k target e) r.0 r.1 in
+      let c = both_given (target_aims C k target) (annotation C.meaning mark) r.0.0 b.0 in
+      let d = given_own_is C.classes target (declaring_fault C.inside p.1 span) r.0 a r.2 in
+      let s = own_single C.inside target p o in
+      subst (ActShape (node.Annot target mark (Some e))) d.is (record { closes = refl; breaks = refl; bound = unnamed k target r.0.0.0 s.0 s.1 (aims_are C k None (leaves target) r.0.0.0 c.0) (locals_among C (act_bindings (node.Annot target mark (Some e)))) })
+
   annotated_shape : (k : Known) (span : Span) (x : Option (List ℕ)) (target mark : ExprTree) (e : Option ExprTree) (a : TypedAct) → name_in target ≡ x → (annotates C k span x target mark e).got ≡ Some a → ActShape (node.Annot target mark e) a
   annotated_shape k span (Some x) target mark e a n h = name_shape k span x target mark e a n h
-  annotated_shape k span None target mark None a n h = absurd (no_part_given (both (target_aims C k target) (annotation C.meaning mark)).got span no_target a h)
-  annotated_shape k span None target mark (Some e) a n h = absurd (no_part_given (both (both (target_aims C k target) (annotation C.meaning mark)) (value_for C k target e)).got span no_target a h)
+  annotated_shape k span None target mark e a n h = by (own_attribute C.inside target) refl e h
+    where
+      by : (o : Option (ExprTree × List ℕ)) → own_attribute C.inside target ≡ o → (e : Option ExprTree) → (annotates_at C k span o target mark e).got ≡ Some a → ActShape (node.Annot target mark e) a
+      by None q None g = absurd (no_part_given (both (target_aims C k target) (annotation C.meaning mark)).got span no_target a g)
+      by None q (Some e) g = absurd (no_part_given (both (both (target_aims C k target) (annotation C.meaning mark)) (value_for C k target e)).got span no_target a g)
+      by (Some p) q e g = own_shape k span p target mark e a q g
 
   one_bound : (t : TypedTarget) (more l : List TypedTarget) (ys : List ℕ) → l ≡ t ∷ more → Within (bound_by_all l) ys → Within (bound_by t) ys
   one_bound t more l ys q w x e = w x (subst (λ z. is_in (bound_by_all z) x ≡ true) (sym q) (in_left (bound_by t) (bound_by_all more) x e))
@@ -225,24 +257,25 @@ module _ (C : Context) where
   pub one_target : (target : ExprTree) → is_row target ≡ false → target_bindings target ≡ leaf_bindings target
   one_target target q = target_leaves target ∙ ap (flat_map leaf_bindings) (leaves_one target q) ∙ append-nil (leaf_bindings target)
 
-  update_shape : (k : Known) (span : Span) (target : ExprTree) (op : BinOp) (e : ExprTree) (a : TypedAct) → is_row target ≡ false → (updates_one C k span target op e).got ≡ Some a → ActShape (node.Aug target op e) a
-  update_shape k span target op e a q h =
-      let r = rule_given span (updated C.classes span op (read_aim C k (name_in target) (is_item target))) (both (typed_at C k free target) (typed_at C k free e)) a h in
+  update_shape : (k : Known) (span : Span) (target : ExprTree) (op : BinOp) (e : ExprTree) (a : TypedAct) → is_row target ≡ false → lacking_in C target ≡ None → (updates_one C k span target op e).got ≡ Some a → ActShape (node.Aug target op e) a
+  update_shape k span target op e a q l h =
+      let r = rule_given span (updated C.classes span op (read_aim C k (name_in target) (is_access target))) (both (typed_at C k free target) (typed_at C k free e)) a h in
       let b = both_given (typed_at C k free target) (typed_at C k free e) r.0 r.1 in
-      let u = updated_is C.classes span op (read_aim C k (name_in target) (is_item target)) r.0 a r.2 in
-      let aim = read_aim C k (name_in target) (is_item target) r.0.0 in
+      let u = updated_is C.classes span op (read_aim C k (name_in target) (is_access target)) r.0 a r.2 in
+      let aim = read_aim C k (name_in target) (is_access target) r.0.0 in
       subst (ActShape (node.Aug target op e)) u.is (record {
         closes = refl;
         breaks = refl;
-        bound = subst (λ bs. Within (bound_by u.target) (locals_among C bs)) (sym (one_target target q)) (one_bound u.target u.more (target_of aim) (locals_among C (leaf_bindings target)) u.aimed (aim_within k target aim (read_aim_at k (name_in target) target r.0.0 b.0 u.placed)));
+        bound = subst (λ bs. Within (bound_by u.target) (locals_among C bs)) (sym (one_target target q)) (one_bound u.target u.more (target_of aim) (locals_among C (leaf_bindings target)) u.aimed (aim_within k target aim (read_aim_at k (name_in target) target r.0.0 l b.0 u.placed)));
       })
 
   updates_shape : (k : Known) (span : Span) (target : ExprTree) (op : BinOp) (e : ExprTree) (a : TypedAct) → (updates C k span target op e).got ≡ Some a → ActShape (node.Aug target op e) a
-  updates_shape k span target op e a h = by (is_row target) refl h
+  updates_shape k span target op e a h = by (is_row target) refl (lacking_in C target) refl h
     where
-      by : (b : Bool) → is_row target ≡ b → (if b then updates_row C k span target e else updates_one C k span target op e).got ≡ Some a → ActShape (node.Aug target op e) a
-      by true q f = absurd (no_part_given (both (target_aims C k target) (typed_at C k free e)).got span no_target a f)
-      by false q f = update_shape k span target op e a q f
+      by : (b : Bool) → is_row target ≡ b → (o : Option (ExprTree × List ℕ)) → lacking_in C target ≡ o → (if b then updates_row C k span target e else updates_single C k span o target op e).got ≡ Some a → ActShape (node.Aug target op e) a
+      by true q o l f = absurd (no_part_given (both (target_aims C k target) (typed_at C k free e)).got span no_target a f)
+      by false q None l f = update_shape k span target op e a q l f
+      by false q (Some p) l f = absurd (never_lacking C.classes span p.1 (both (typed_at C k free p.0) (typed_at C k free e)) a f)
 
   definition_step : (s : StmtTree) (more : Suite) (t : TypedSuite) → is_definition s ≡ true → SuiteShape more t → SuiteShape (stmt_then s more) t
   definition_step s more t d h =
@@ -310,6 +343,7 @@ module _ (C : Context) where
   name_bound (first t x) ys w = one_bound t [] (t ∷ []) ys refl w
   name_bound (barred x) ys w = within_none ys
   name_bound (unwritten s) ys w = within_none ys
+  name_bound (lacking s x) ys w = within_none ys
   name_bound (misplaced s) ys w = within_none ys
 
   name_within : (k : Known) (span : Span) (x : Option (List ℕ)) (a : Option Aim) → NameAt C k span x a → Within (bound_by_name (name_target a)) (locals_among C (caught x))

@@ -11,7 +11,6 @@ use Rattle.py_syntax.specs.Statements as node
 use Rattle.py_syntax.specs.Statements.{StmtTree, StmtNode, Suite, no_stmts, stmt_then, Arms, no_arms, arm_then, Handlers, no_handlers, handler_then, MaybeSuite, no_suite, some_suite}
 use Rattle.py_typed.specs.Sorts as sort
 use Rattle.py_typed.specs.Sorts.{Sort}
-use Rattle.py_typed.specs.Classes.{Signature}
 use Rattle.py_typed.specs.Fits.{is_same_type}
 use Rattle.py_typed.specs.Expressions.{TypedExpr, type_of}
 use Rattle.py_typed.specs.Statements as act
@@ -21,7 +20,6 @@ use Rattle.py_typed.specs.Narrowing.{without, bound_by_all, or_shared, known_at_
 use Rattle.py_typed.specs.WellTyped as stmt
 use Rattle.py_typed.specs.WellTypedExpr as expr
 use Rattle.py_typed.proofs.FitLemmas.{and_left, and_right}
-use Rattle.py_check_context.specs.declared.scope.Meaning.{Meaning}
 use Rattle.py_check_context.specs.Context.{Context, free, test, dropped}
 use Rattle.py_check_flow.specs.Bindings.{name_in, target_bindings, suite_bindings}
 use Rattle.py_check_flow.specs.Closed as flow
@@ -45,7 +43,7 @@ use Rattle.py_check_expressions_laws.specs.WellTyped as law
 use Rattle.py_check_expressions_laws.specs.WellTyped.{Describes, Within}
 use Rattle.py_check_expressions_laws.proofs.Inside.{within_none, within_append, within_shared}
 use Rattle.py_check_expressions_laws.proofs.Loud.{none_before, none_behind}
-use Rattle.py_check_expressions_laws.proofs.Sound.{sound_typing}
+use Rattle.py_check_expressions_laws.proofs.Sound.{sound_typing, at_classes}
 use Rattle.py_check_expressions_laws.proofs.Telling.{told_typing, truth_tells, within_same}
 use Rattle.py_check_laws.specs.WellTyped.{is_filled, has_test, has_clause, maybe_written, are_targets, is_stmt_written, is_act_written, is_suite_written, are_arms_written, are_handlers_written, is_last_written, IsScope, IsResult}
 use Rattle.py_check_laws.proofs.Given.{made_given, both_given, row_given}
@@ -114,15 +112,15 @@ filled_block C r around k no_stmts f n ts h = absurd (cc)
 filled_block C r around k (stmt_then s more) f n ts h =
     has_first (statement C r around k s) (block C r around (after C k s) more) (block C r around k more) ts (is_definition s) (no_definition s (none_before (stmt_definitions s) (suite_definitions more) n)) h
 
-module _ (means : List ℕ → Meaning) (signatures : List (Option Signature)) (m : TypedModule) (locals : List Variable) (init : Option ℕ) (result : Option Sort) where
+module _ (C : Context) (m : TypedModule) (locals : List Variable) (init : Option ℕ) (result : Option Sort) where
   abbrev here : Context
-  here = scene means signatures m locals init
+  here = scene C m locals init
 
   abbrev one_takes : List TypedTarget → Sort → Bool
-  one_takes = single means signatures m locals init result
+  one_takes = single C m locals init result
 
   abbrev Fine : Bool → Bool → List ℕ → List ℕ → TypedAct → Type 0
-  Fine = Good means signatures m locals init result
+  Fine = Good C m locals init result
 
   -- a typed row of statements stands, and what is known behind it is known
   pub record SuiteGood (loops handling : Bool) (others end : List ℕ) (t : TypedSuite) : Type 0 where
@@ -156,27 +154,27 @@ module _ (means : List ℕ → Meaning) (signatures : List (Option Signature)) (
     stands : stmt.is_test m locals init result others t ≡ true
     tells : (b : Bool) → Within (facts here b e ++ k.names) (telling.facts b t ++ others)
 
-  test_stands : (k : Known) → Describes here k.types m locals → (e : ExprTree) → law.is_written e ≡ true → (t : TypedExpr) → (condition here k e).got ≡ Some t → (others : List ℕ) → Within k.names others → TestStands k e others t
+  test_stands : (k : Known) → Describes here k.types m locals init → (e : ExprTree) → law.is_written e ≡ true → (t : TypedExpr) → (condition here k e).got ≡ Some t → (others : List ℕ) → Within k.names others → TestStands k e others t
   test_stands k D e we t h others w =
       let v = made_given truth (typed_at here k test e) t h in
       let told = (told_typing here k.types test k.names e).each v.0 v.1 in
       subst (TestStands k e others) v.2 (record {
-        stands = (sound_typing means signatures k.types m locals init D test k.names e we refl).each v.0 v.1 others w refl;
+        stands = (sound_typing C k.types m locals init D test k.names e we refl).each v.0 v.1 others w refl;
         tells = λ b. within_append (facts here b e) k.names (telling.facts b (truth v.0)) others (within_same (facts here b e) (telling.facts b (truth v.0)) (telling.facts b v.0) (truth_tells b v.0) (told b)) w;
       })
 
   -- ---- single statements
 
-  alone : (loops handling : Bool) (k : Known) → Describes here k.types m locals → (e : ExprTree) → law.is_written e ≡ true → (a : TypedAct) → (made act.Do (typed_at here k dropped e)).got ≡ Some a → (others : List ℕ) → Within k.names others → Fine loops handling others k.names a
+  alone : (loops handling : Bool) (k : Known) → Describes here k.types m locals init → (e : ExprTree) → law.is_written e ≡ true → (a : TypedAct) → (made act.Do (typed_at here k dropped e)).got ≡ Some a → (others : List ℕ) → Within k.names others → Fine loops handling others k.names a
   alone loops handling k D e we a h others w =
       let q = made_given act.Do (typed_at here k dropped e) a h in
-      subst (Fine loops handling others k.names) q.2 (record { typed = (sound_typing means signatures k.types m locals init D dropped k.names e we refl).each q.0 q.1 others w refl; names = w })
+      subst (Fine loops handling others k.names) q.2 (record { typed = (sound_typing C k.types m locals init D dropped k.names e we refl).each q.0 q.1 others w refl; names = w })
 
-  deleted : (loops handling : Bool) (k : Known) → Describes here k.types m locals → (span : Span) (e : ExprTree) → law.is_written e ≡ true → (a : TypedAct) → (deletes here k span e).got ≡ Some a → (others : List ℕ) → Within k.names others → Fine loops handling others k.names a
+  deleted : (loops handling : Bool) (k : Known) → Describes here k.types m locals init → (span : Span) (e : ExprTree) → law.is_written e ≡ true → (a : TypedAct) → (deletes here k span e).got ≡ Some a → (others : List ℕ) → Within k.names others → Fine loops handling others k.names a
   deleted loops handling k D span e we a h others w =
       let q = deleted_item here k span e a h in
       let d = q.2 in
-      let v = (sound_typing means signatures k.types m locals init D free k.names e we refl).each q.0 q.1 others w refl in
+      let v = (sound_typing C k.types m locals init D free k.names e we refl).each q.0 q.1 others w refl in
       subst (Fine loops handling others k.names) d.made (record {
         typed = deleted_stands m locals init result loops handling others d.held d.key d.type d.place d.dict (subst (λ t. expr.stands m locals init false others t ≡ true) d.is v);
         names = w;
@@ -191,13 +189,13 @@ module _ (means : List ℕ → Meaning) (signatures : List (Option Signature)) (
   passed : (loops handling : Bool) (k : Known) (a : TypedAct) → act.Pass ≡ a → (others : List ℕ) → Within k.names others → Fine loops handling others k.names a
   passed loops handling k a q others w = subst (Fine loops handling others k.names) q (record { typed = refl; names = w })
 
-  text_stands : (k : Known) → Describes here k.types m locals → (text : Option ExprTree) → maybe_written text ≡ true → (t : Option TypedExpr) → Told here k text t → (others : List ℕ) → Within k.names others → stmt.maybe_of_type m locals init result others sort.Str t ≡ true
+  text_stands : (k : Known) → Describes here k.types m locals init → (text : Option ExprTree) → maybe_written text ≡ true → (t : Option TypedExpr) → Told here k text t → (others : List ℕ) → Within k.names others → stmt.maybe_of_type m locals init result others sort.Str t ≡ true
   text_stands k D text wt None told others w = refl
   text_stands k D text wt (Some t) told others w =
       and_from (expr.stands m locals init false others t) (is_same_type (type_of t) sort.Str)
-      ((sound_typing means signatures k.types m locals init D free k.names told.0 (subst (λ o. maybe_written o ≡ true) told.1 wt) refl).each t told.2 others w refl) (text_is (type_of t) told.3)
+      ((sound_typing C k.types m locals init D free k.names told.0 (subst (λ o. maybe_written o ≡ true) told.1 wt) refl).each t told.2 others w refl) (text_is (type_of t) told.3)
 
-  good_assert : (loops handling : Bool) (k : Known) → Describes here k.types m locals → (span : Span) (e : ExprTree) (text : Option ExprTree) → law.is_written e ≡ true → maybe_written text ≡ true → (a : TypedAct) → (asserts here k span e text).got ≡ Some a → (others : List ℕ) → Within k.names others
+  good_assert : (loops handling : Bool) (k : Known) → Describes here k.types m locals init → (span : Span) (e : ExprTree) (text : Option ExprTree) → law.is_written e ≡ true → maybe_written text ≡ true → (a : TypedAct) → (asserts here k span e text).got ≡ Some a → (others : List ℕ) → Within k.names others
       → Fine loops handling others (where_test here k true e).names a
   good_assert loops handling k D span e text we wt a h others w =
       let g = assert_given here k span e text a h in
@@ -261,23 +259,23 @@ module _ (means : List ℕ → Meaning) (signatures : List (Option Signature)) (
     PlainAct n span = is_some result ≡ true → node_definitions n span ≡ []
 
     mutual
-      good_stmt : (around : Around) (k : Known) (s : StmtTree) → IsScope here k.types → Describes here (after here k s).types m locals → is_stmt_written s ≡ true → (is_some result ≡ true → stmt_definitions s ≡ []) → (t : TypedStmt) → (statement here r around k s).got ≡ Some t → (others : List ℕ) → Within k.names others
+      good_stmt : (around : Around) (k : Known) (s : StmtTree) → IsScope here k.types → Describes here (after here k s).types m locals init → is_stmt_written s ≡ true → (is_some result ≡ true → stmt_definitions s ≡ []) → (t : TypedStmt) → (statement here r around k s).got ≡ Some t → (others : List ℕ) → Within k.names others
           → StmtGood around.looping around.handling others (after here k s).names t
       good_stmt around k (node.at n span) sc E ws pl t h others w =
           let q = made_given (λ a. on_line a span.line) (node_statement here r around k span n) t h in
           let g = good_act around k span n sc E ws pl q.0 q.1 others w in
           subst (StmtGood around.looping around.handling others (node_after here k span n).names) q.2 (record { typed = g.typed; names = g.names })
 
-      good_act : (around : Around) (k : Known) (span : Span) (n : StmtNode) → IsScope here k.types → Describes here (node_after here k span n).types m locals → is_act_written n ≡ true → PlainAct n span → (a : TypedAct) → (node_statement here r around k span n).got ≡ Some a → (others : List ℕ) → Within k.names others
+      good_act : (around : Around) (k : Known) (span : Span) (n : StmtNode) → IsScope here k.types → Describes here (node_after here k span n).types m locals init → is_act_written n ≡ true → PlainAct n span → (a : TypedAct) → (node_statement here r around k span n).got ≡ Some a → (others : List ℕ) → Within k.names others
           → Fine around.looping around.handling others (node_after here k span n).names a
       good_act around k span (node.Do e) sc E ws pl a h others w = alone around.looping around.handling k E e ws a h others w
       good_act around k span (node.Assign target e) sc E ws pl a h others w =
-          good_assign means signatures m locals init result around.looping around.handling k span target e sc (and_left (are_targets (leaves target)) (law.is_written e) ws) (and_right (are_targets (leaves target)) (law.is_written e) ws) E a h others w
-      good_act around k span (node.Annot target mark e) sc E ws pl a h others w = good_annotated means signatures m locals init result around.looping around.handling k span (name_in target) target mark e refl sc ws E a h others w
+          good_assign C m locals init result around.looping around.handling k span target e sc (and_left (are_targets (leaves target)) (law.is_written e) ws) (and_right (are_targets (leaves target)) (law.is_written e) ws) E a h others w
+      good_act around k span (node.Annot target mark e) sc E ws pl a h others w = good_annotated C m locals init result around.looping around.handling k span (name_in target) target mark e refl sc ws E a h others w
       good_act around k span (node.Aug target op e) sc E ws pl a h others w =
-          good_update means signatures m locals init result around.looping around.handling k span target op e (and_left (law.is_written target) (law.is_written e) ws) (and_right (law.is_written target) (law.is_written e) ws) E a h others w
+          good_update C m locals init result around.looping around.handling k span target op e (and_left (law.is_written target) (law.is_written e) ws) (and_right (law.is_written target) (law.is_written e) ws) E a h others w
       good_act around k span (node.Del e) sc E ws pl a h others w = deleted around.looping around.handling k E span e ws a h others w
-      good_act around k span (node.Return e) sc E ws pl a h others w = good_return means signatures m locals init result around.looping around.handling k span r is e ws E a h others w
+      good_act around k span (node.Return e) sc E ws pl a h others w = good_return C m locals init result around.looping around.handling k span r is e ws E a h others w
       good_act around k span node.Pass sc E ws pl a h others w = passed around.looping around.handling k a (same_Some act.Pass a h) others w
       good_act around k span (node.Global names) sc E ws pl a h others w = passed around.looping around.handling k a (same_Some act.Pass a h) others w
       good_act around k span node.Break sc E ws pl a h others w = jump r around.looping around.handling k span _ act.Break a (λ t o. t) (λ q. q) (λ o. refl) h others w
@@ -294,7 +292,7 @@ module _ (means : List ℕ → Meaning) (signatures : List (Option Signature)) (
           let shape = shape_block here r around way.at other q.0.1 b.1 in
           let last : (known : List ℕ) → Within way.at.names known → SuiteGood around.looping around.handling known end.names (suite_of q.0.1) =
           λ known wk. good_block around way.at other scw E wr.2 (λ z. none_behind (arms_definitions arms) (suite_definitions other) (pl z)) q.0.1 b.1 known wk in
-          let all = good_arms around (setting_out k) arms sc (described_before here way.at.types end.types m locals (follows_block here way.at other) E) wr.1 (λ z. none_before (arms_definitions arms) (suite_definitions other) (pl z)) q.0.0 b.0 others w
+          let all = good_arms around (setting_out k) arms sc (described_before here way.at.types end.types m locals init (follows_block here way.at other) E) wr.1 (λ z. none_before (arms_definitions arms) (suite_definitions other) (pl z)) q.0.0 b.0 others w
           (λ there. stmt.suite_typed m locals init result there around.looping around.handling (suite_of q.0.1)) (λ there ends. if telling.is_closed (suite_of q.0.1) then ends else or_shared ends (telling.after_suite one_takes there (suite_of q.0.1)))
           (common (met way.ends (flow.is_closed other) end.names)) None tt (λ known wk. (last known wk).typed)
           (λ known ends wk eo. all_ends (met way.ends (flow.is_closed other) end.names) (if telling.is_closed (suite_of q.0.1) then ends else or_shared ends (telling.after_suite one_takes known (suite_of q.0.1)))
@@ -312,7 +310,7 @@ module _ (means : List ℕ → Meaning) (signatures : List (Option Signature)) (
           let wr = of_three (law.is_written e) (is_filled body) (is_suite_written body) ws in
           let end = block_after here inner body in
           let shape = shape_block here r (around_loop around) inner body q.0.1 b.1 in
-          let D = described_before here k.types end.types m locals (follows_block here inner body) E in
+          let D = described_before here k.types end.types m locals init (follows_block here inner body) E in
           let left = without (telling.bound_suite (suite_of q.0.1)) others in
           let wl = within_without (locals_in here here_stmt) (telling.bound_suite (suite_of q.0.1)) k.names others shape.bound w in
           let st = test_stands l D e wr.0 q.0.0 b.0 left wl in
@@ -334,23 +332,23 @@ module _ (means : List ℕ → Meaning) (signatures : List (Option Signature)) (
           let looked = head_looked here k here_stmt target e q.0.0 hp in
           let shape = shape_block here r (around_loop around) l body q.0.1 b.1 in
           let fh = follows_target here (is_some s.got) (entering here k here_stmt) target (some_items (course here k e).got) in
-          let El = described_before here l.types end.types m locals (follows_block here l body) E in
-          let D = described_before here k.types l.types m locals fh El in
+          let El = described_before here l.types end.types m locals init (follows_block here l body) E in
+          let D = described_before here k.types l.types m locals init fh El in
           let ts = suite_of q.0.1 in
           let gone = bound_by_all q.0.0.0 ++ telling.bound_suite ts in
           let bound : Within gone (locals_in here here_stmt) =
           subst (Within gone) (sym (locals_two here (target_bindings target) (suite_bindings body)))
           (within_append (bound_by_all q.0.0.0) (telling.bound_suite ts) (locals_among here (target_bindings target)) (locals_among here (suite_bindings body)) (subst (λ z. Within (bound_by_all z) (locals_among here (target_bindings target))) hp.targets (targets_within here (entering here k here_stmt) target hp.aims looked.parts looked.aims)) shape.bound) in
           let wl = within_without (locals_in here here_stmt) gone k.names others bound w in
-          let hd = good_head means signatures m locals init result k D sc here_stmt span target e wr.0 q.0.0 b.0 hp El ts others wl in
+          let hd = good_head C m locals init result k D sc here_stmt span target e wr.0 q.0.0 b.0 hp El ts others wl in
           let g = good_block (around_loop around) l body (scope_on here k.types l.types fh sc) E wr.2 pl q.0.1 b.1 (stmt.in_loop_from m locals init result others q.0.0.0 hp.headed.item ts) hd.start in
-          let c = course_stands means signatures m locals init result k D e wr.0 hp.course hp.over others w in
+          let c = course_stands C m locals init result k D e wr.0 hp.course hp.over others w in
           subst (Fine around.looping around.handling others (node_after here k span (node.For target e body)).names) q.2
           (subst (λ z. Fine around.looping around.handling others (node_after here k span (node.For target e body)).names (loop_of q.0.0.0 z ts)) hp.is (record {
-            typed = loop_typed means signatures m locals init result around.looping around.handling others q.0.0.0 hp.course hp.headed.item ts c hp.headed.items hd.fit (body_there r (around_loop around) l body wr.1 pl q.0.1 b.1) g.typed;
-            names = subst (Within (entering here k here_stmt).names) (sym (loop_after means signatures m locals init result others q.0.0.0 hp.course ts)) wl;
+            typed = loop_typed C m locals init result around.looping around.handling others q.0.0.0 hp.course hp.headed.item ts c hp.headed.items hd.fit (body_there r (around_loop around) l body wr.1 pl q.0.1 b.1) g.typed;
+            names = subst (Within (entering here k here_stmt).names) (sym (loop_after C m locals init result others q.0.0.0 hp.course ts)) wl;
           }))
-      good_act around k span (node.Raise e) sc E ws pl a h others w = good_raise means signatures m locals init result around.looping around.handling k E e ws a (raise_given here around.handling k span e a h) others w
+      good_act around k span (node.Raise e) sc E ws pl a h others w = good_raise C m locals init result around.looping around.handling k E e ws a (raise_given here around.handling k span e a h) others w
       good_act around k span (node.Assert e text) sc E ws pl a h others w = good_assert around.looping around.handling k E span e text (and_left (law.is_written e) (maybe_written text) ws) (and_right (law.is_written e) (maybe_written text) ws) a h others w
       good_act around k span (node.Try body handlers last) sc E ws pl a h others w =
           let here_stmt = node.at (node.Try body handlers last) span in
@@ -376,8 +374,8 @@ module _ (means : List ℕ → Meaning) (signatures : List (Option Signature)) (
           let fb = follows_block here k body in
           let fc = follows_clauses here names l handlers in
           let fl = follows_last here names n last in
-          let En = described_before here n.types z.types m locals fl E in
-          let El = described_before here l.types n.types m locals fc En in
+          let En = described_before here n.types z.types m locals init fl E in
+          let El = described_before here l.types n.types m locals init fc En in
           let scl = scope_on here k.types l.types fb sc in
           let scn = scope_on here l.types n.types fc scl in
           let pb : Plain body = λ y. none_before (suite_definitions body) (handlers_definitions handlers ++ last_definitions last) (pl y) in
@@ -393,20 +391,20 @@ module _ (means : List ℕ → Meaning) (signatures : List (Option Signature)) (
       good_act around k span _ sc E ws pl a h others w = absurd (cc)
 
       -- STATEMENTS in a row
-      pub good_block : (around : Around) (k : Known) (body : Suite) → IsScope here k.types → Describes here (block_after here k body).types m locals → is_suite_written body ≡ true → Plain body → (ts : List TypedStmt) → (block here r around k body).got ≡ Some ts → (others : List ℕ) → Within k.names others
+      pub good_block : (around : Around) (k : Known) (body : Suite) → IsScope here k.types → Describes here (block_after here k body).types m locals init → is_suite_written body ≡ true → Plain body → (ts : List TypedStmt) → (block here r around k body).got ≡ Some ts → (others : List ℕ) → Within k.names others
           → SuiteGood around.looping around.handling others (block_after here k body).names (suite_of ts)
       good_block around k no_stmts sc E ws pl ts h others w = subst (λ l. SuiteGood around.looping around.handling others k.names (suite_of l)) (same_Some [] ts h) (record { typed = refl; names = w })
       good_block around k (stmt_then s more) sc E ws pl ts h others w =
           let l = after here k s in
-          let el = described_before here l.types (block_after here l more).types m locals (follows_block here l more) E in
+          let el = described_before here l.types (block_after here l more).types m locals init (follows_block here l more) E in
           let wm = and_right (is_stmt_written s) (is_suite_written more) ws in
           let pm : Plain more = λ z. none_behind (stmt_definitions s) (suite_definitions more) (pl z) in
           suite_step r around k s more ts others (is_definition s) refl
-          (λ same g. good_block around k more sc (subst (λ (z : Known). Describes here (block_after here z more).types m locals) same E) wm pm ts g others w)
+          (λ same g. good_block around k more sc (subst (λ (z : Known). Describes here (block_after here z more).types m locals init) same E) wm pm ts g others w)
           (λ t g. good_stmt around k s sc el (and_left (is_stmt_written s) (is_suite_written more) ws) (λ z. none_before (stmt_definitions s) (suite_definitions more) (pl z)) t g others w)
           (λ x g known wk. good_block around l more (scope_on here k.types l.types (follows_stmt here k s) sc) E wm pm x g known wk) h
 
-      good_arms : (around : Around) (w : Way) (arms : Arms) → IsScope here w.at.types → Describes here (arms_after here w arms).at.types m locals → are_arms_written arms ≡ true → PlainArms arms → (l : List (TypedExpr × TypedSuite)) → (branches here r around w arms).got ≡ Some l → (others : List ℕ) → Within w.at.names others
+      good_arms : (around : Around) (w : Way) (arms : Arms) → IsScope here w.at.types → Describes here (arms_after here w arms).at.types m locals init → are_arms_written arms ≡ true → PlainArms arms → (l : List (TypedExpr × TypedSuite)) → (branches here r around w arms).got ≡ Some l → (others : List ℕ) → Within w.at.names others
           → (other : List ℕ → Bool) (last : List ℕ → Option (List ℕ) → Option (List ℕ)) (final : List ℕ) (ends : Option (List ℕ)) → EndsOf w.ends ends → ((known : List ℕ) → Within (arms_after here w arms).at.names known → other known ≡ true)
           → ((known : List ℕ) (es : Option (List ℕ)) → Within (arms_after here w arms).at.names known → EndsOf (arms_after here w arms).ends es → Within final (known_at_end (last known es)))
           → (stmt.arms_typed m locals init result others around.looping around.handling (arms_of l) other ≡ true) × Within final (known_at_end (telling.after_arms one_takes others ends (arms_of l) last))
@@ -424,9 +422,9 @@ module _ (means : List ℕ → Meaning) (signatures : List (Option Signature)) (
           let b = both_given s t v.0 v.1 in
           let wr = of_four (law.is_written e) (is_filled body) (is_suite_written body) (are_arms_written more) wa in
           let fr = follows_arms here then_on more in
-          let Ee = described_before here end.types (arms_after here then_on more).at.types m locals fr E in
+          let Ee = described_before here end.types (arms_after here then_on more).at.types m locals init fr E in
           let fb = follows_block here inner body in
-          let st = test_stands w.at (described_before here w.at.types end.types m locals fb Ee) e wr.0 v.0.0 b.0 others wi in
+          let st = test_stands w.at (described_before here w.at.types end.types m locals init fb Ee) e wr.0 v.0.0 b.0 others wi in
           let pb : Plain body = λ z. none_before (suite_definitions body) (arms_definitions more) (pa z) in
           let g = good_block around inner body sc Ee wr.2 pb v.0.1 b.1 (telling.facts true v.0.0 ++ others) (st.tells true) in
           let shape = shape_block here r around inner body v.0.1 b.1 in
@@ -442,7 +440,7 @@ module _ (means : List ℕ → Meaning) (signatures : List (Option Signature)) (
           ))
 
       -- except clauses that begin with these names each
-      good_clauses : (around : Around) (names : List ℕ) (k : Known) (handlers : Handlers) → IsScope here k.types → Describes here (handlers_after here names k handlers).types m locals → are_handlers_written handlers ≡ true → (is_some result ≡ true → handlers_definitions handlers ≡ []) → (l : List HandlerParts) → (clauses here r around names k handlers).got ≡ Some l → (others : List ℕ) → Within names others
+      good_clauses : (around : Around) (names : List ℕ) (k : Known) (handlers : Handlers) → IsScope here k.types → Describes here (handlers_after here names k handlers).types m locals init → are_handlers_written handlers ≡ true → (is_some result ≡ true → handlers_definitions handlers ≡ []) → (l : List HandlerParts) → (clauses here r around names k handlers).got ≡ Some l → (others : List ℕ) → Within names others
           → stmt.handlers_typed m locals init result others around.looping (act.handlers_of l) ≡ true
       good_clauses around names k no_handlers sc E ws ph l h others w = subst (λ z. stmt.handlers_typed m locals init result others around.looping (act.handlers_of z) ≡ true) (same_Some [] l h) refl
       good_clauses around names k (handler_then e x body span more) sc E ws ph l h others w =
@@ -457,10 +455,10 @@ module _ (means : List ℕ → Meaning) (signatures : List (Option Signature)) (
           let wr = of_three (is_filled body) (is_suite_written body) (are_handlers_written more) ws in
           let fh = follows_name here (is_some s.got) place x (Some (sort.Exc Exception)) in
           let fb = follows_block here begun body in
-          let Ee = described_before here end.types (handlers_after here names end more).types m locals (follows_clauses here names end more) E in
-          let Eb = described_before here begun.types end.types m locals fb Ee in
+          let Ee = described_before here end.types (handlers_after here names end more).types m locals init (follows_clauses here names end more) E in
+          let Eb = described_before here begun.types end.types m locals init fb Ee in
           let scb = scope_on here k.types begun.types fh sc in
-          let hd = clause.good_head means signatures m locals init result place sc span e x (is_last more) v.0.0 b.0 Eb others w in
+          let hd = clause.good_head C m locals init result place sc span e x (is_last more) v.0.0 b.0 Eb others w in
           let pb : Plain body = λ y. none_before (suite_definitions body) (handlers_definitions more) (ph y) in
           let ts = suite_of v.0.1 in
           let known = telling.bound_by_name v.0.0.1 ++ others in
@@ -470,7 +468,7 @@ module _ (means : List ℕ → Meaning) (signatures : List (Option Signature)) (
           (five (stmt.is_filled m locals init result v.0.0.0) (stmt.name_fits m locals init result v.0.0.1) (stmt.is_body m locals init result ts) (stmt.suite_typed m locals init result known around.looping true ts) (stmt.handlers_typed m locals init result others around.looping (act.handlers_of q.1))
           hd.0 hd.1.right (body_there r (around_clause around) begun body wr.0 pb v.0.1 b.1) g.typed rest))
 
-      good_last : (around : Around) (names : List ℕ) (k : Known) (last : MaybeSuite) → IsScope here k.types → Describes here (last_after here names k last).types m locals → is_last_written last ≡ true → (is_some result ≡ true → last_definitions last ≡ []) → (o : Option (List TypedStmt)) → (maybe_block here r around names k last).got ≡ Some o → (others : List ℕ) → Within names others
+      good_last : (around : Around) (names : List ℕ) (k : Known) (last : MaybeSuite) → IsScope here k.types → Describes here (last_after here names k last).types m locals init → is_last_written last ≡ true → (is_some result ≡ true → last_definitions last ≡ []) → (o : Option (List TypedStmt)) → (maybe_block here r around names k last).got ≡ Some o → (others : List ℕ) → Within names others
           → stmt.last_typed m locals init result others around.looping around.handling (act.maybe_suite (option_map suite_of o)) ≡ true
       good_last around names k no_suite sc E ws pl o h others w = subst (λ z. stmt.last_typed m locals init result others around.looping around.handling (act.maybe_suite (option_map suite_of z)) ≡ true) (same_Some None o h) refl
       good_last around names k (some_suite body) sc E ws pl o h others w =
@@ -480,14 +478,11 @@ module _ (means : List ℕ → Meaning) (signatures : List (Option Signature)) (
           subst (λ z. stmt.last_typed m locals init result others around.looping around.handling (act.maybe_suite (option_map suite_of z)) ≡ true) q.2
           (and_from (stmt.is_body m locals init result (suite_of q.0)) (stmt.suite_typed m locals init result others around.looping around.handling (suite_of q.0)) (body_there r around begun body (and_left (is_filled body) (is_suite_written body) ws) pl q.0 q.1) g.typed)
 
-abbrev pub at_classes : Context → List Rattle.py_typed.specs.Classes.ClassEntry → Context
-at_classes C k = record { meaning = C.meaning; signatures = C.signatures; classes = k }
-
 -- for any context that has the classes of the module
-pub stands_in : (C : Context) (r : ReturnSort) (around : Around) (k : Known) (body : Suite) (m : TypedModule) (locals : List Variable) (init : Option ℕ) (result : Option Sort) → IsScope C k.types → IsResult (length C.classes) r result → Describes C (block_after C k body).types m locals
+pub stands_in : (C : Context) (r : ReturnSort) (around : Around) (k : Known) (body : Suite) (m : TypedModule) (locals : List Variable) (init : Option ℕ) (result : Option Sort) → IsScope C k.types → IsResult (length C.classes) r result → Describes C (block_after C k body).types m locals init
     → is_suite_written body ≡ true → (is_some result ≡ true → suite_definitions body ≡ []) → (ts : List TypedStmt) → (block C r around k body).got ≡ Some ts → (known : List ℕ) → Within k.names known
     → (stmt.suite_typed m locals init result known around.looping around.handling (suite_of ts) ≡ true) × Within (block_after C k body).names (telling.after_suite (stmt.is_single m locals init result) known (suite_of ts))
 stands_in C r around k body m locals init result sc is D ws pl ts g known w =
-    subst (λ e. IsScope (at_classes C e) k.types → IsResult (length e) r result → Describes (at_classes C e) (block_after (at_classes C e) k body).types m locals → (block (at_classes C e) r around k body).got ≡ Some ts
+    subst (λ e. IsScope (at_classes C e) k.types → IsResult (length e) r result → Describes (at_classes C e) (block_after (at_classes C e) k body).types m locals init → (block (at_classes C e) r around k body).got ≡ Some ts
     → (stmt.suite_typed m locals init result known around.looping around.handling (suite_of ts) ≡ true) × Within (block_after (at_classes C e) k body).names (telling.after_suite (stmt.is_single m locals init result) known (suite_of ts))) D.classes
-    (λ sc is D g. let q = good_block C.meaning C.signatures m locals init result r is around k body sc D ws pl ts g known w in (q.typed, q.names)) sc is D g
+    (λ sc is D g. let q = good_block C m locals init result r is around k body sc D ws pl ts g known w in (q.typed, q.names)) sc is D g

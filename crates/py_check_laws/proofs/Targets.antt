@@ -10,12 +10,12 @@ use Rattle.std.specs.Prelude.{is_some}
 use Rattle.py_syntax.specs.Expressions.{ExprTree}
 use Rattle.py_typed.specs.Sorts as sort
 use Rattle.py_typed.specs.Sorts.{Sort, Sorts, no_sorts, sort_then, sorts_of, listed_sorts}
-use Rattle.py_typed.specs.Classes.{ClassEntry, Signature}
-use Rattle.py_typed.specs.Fits.{is_same_type, fits}
+use Rattle.py_typed.specs.Classes.{ClassEntry}
+use Rattle.py_typed.specs.Fits.{is_same_type, fits, is_nothing}
 use Rattle.py_typed.specs.Expressions as node
 use Rattle.py_typed.specs.Expressions.{TypedExpr, TypedNode, typed, type_of}
 use Rattle.py_typed.specs.Statements.{Variable, TypedModule, TypedTarget}
-use Rattle.py_typed.specs.TargetTypes.{sort_at}
+use Rattle.py_typed.specs.TargetTypes.{sort_at, attribute_sort}
 use Rattle.py_typed.specs.Narrowing.{may_be_none, own_sort, after_target, after_parts}
 use Rattle.py_typed.specs.WellTypedExpr.{stands, is_value_type, indexed, declared}
 use Rattle.py_typed.specs.WellTyped as stmt
@@ -26,13 +26,13 @@ use Rattle.py_check_context.specs.Context.{Context, VarSort, unset, untyped, has
 use Rattle.py_check_flow.specs.Bindings.{name_in}
 use Rattle.py_check_coercions.specs.Values.{place_of, coerced}
 use Rattle.py_check_calls.specs.Callees.{is_variable}
-use Rattle.py_check_values.specs.Aims.{Aim, held, first, barred, unwritten, misplaced}
-use Rattle.py_check_values.specs.Assignments.{first_barred, first_unwritten}
+use Rattle.py_check_values.specs.Aims.{Aim, held, first, barred, unwritten, misplaced, lacking}
+use Rattle.py_check_values.specs.Assignments.{first_barred}
 use Rattle.py_check_places.specs.Places.{Known, is_unset, fix, first_type, bind_variable, bind_name, bind_names, is_plain}
 use Rattle.py_check_targets.specs.Targets.{targets_of, is_written, again_fault, parts_fault, next_part, more_parts, beyond}
 use Rattle.py_check_expressions_laws.specs.WellTyped as law
 use Rattle.py_check_expressions_laws.specs.WellTyped.{Describes, Within}
-use Rattle.py_check_expressions_laws.proofs.Types.{clash}
+use Rattle.py_check_expressions_laws.proofs.Types.{clash, value_not_nothing}
 use Rattle.py_check_expressions_laws.proofs.Stands.{parts_of_stands}
 use Rattle.py_check_laws.specs.Variables.{sort_in}
 use Rattle.py_check.specs.Fixed.{is_there}
@@ -40,10 +40,10 @@ use Rattle.py_check_laws.proofs.Looked.{Fair}
 use Rattle.py_check_laws.specs.WellTyped.{IsScope}
 use Rattle.py_check.proofs.Bound.{open_follows}
 use Rattle.py_check.proofs.Kept.{fix_set, fix_open, fix_first, Follows, follows_on, follows_name, follows_names, is_open, bind_set}
-use Rattle.py_check_laws.proofs.Assigned.{first_none}
+use Rattle.py_check_laws.proofs.Assigned.{first_none, is_itemless}
 use Rattle.py_check_laws.proofs.Names.{within_kept}
-use Rattle.py_check_laws.proofs.Aims.{AimsOf, Held, held_local, held_global, held_item, aim_held, First, first_local, first_global, aim_first, first_name, Aimed, held_aimed, first_aimed, aimed_bound, aimed_behind}
-use Rattle.py_check_laws.proofs.Values.{scene, declared_there, part_fits, item_at_place}
+use Rattle.py_check_laws.proofs.Aims.{AimsOf, Held, held_local, held_global, held_item, aim_held, First, first_local, first_global, aim_first, first_name, Aimed, held_aimed, first_aimed, aimed_bound, aimed_behind, held_attribute}
+use Rattle.py_check_laws.proofs.Values.{scene, declared_there, part_fits, item_at_place, attribute_at_place}
 use Rattle.py_check_laws.proofs.Closed.{scope_there, scope_on}
 
 -- ---- names
@@ -208,9 +208,9 @@ module _ (C : Context) (V : VarSorts) where
 
 -- ---- targets that stand
 
-module _ (means : List ℕ → Meaning) (signatures : List (Option Signature)) (m : TypedModule) (locals : List Variable) (init : Option ℕ) (result : Option Sort) where
+module _ (C : Context) (m : TypedModule) (locals : List Variable) (init : Option ℕ) (result : Option Sort) where
   abbrev here : Context
-  here = scene means signatures m locals init
+  here = scene C m locals init
 
   -- its declared type is this one, and it stands where so much is known
   pub record TargetStands (others : List ℕ) (target : TypedTarget) (t : Sort) : Type 0 where
@@ -226,7 +226,7 @@ module _ (means : List ℕ → Meaning) (signatures : List (Option Signature)) (
   three_hold : (a b c : Bool) → a ≡ true → b ≡ true → c ≡ true → (a && b && c) ≡ true
   three_hold a b c p q r = cc
 
-  pub held_stands : (k : Known) → Describes here k.types m locals → (e : ExprTree) → (name_in e ≡ None → law.is_written e ≡ true) → (target : TypedTarget) (t : Sort) → Held here k e target t → (others : List ℕ) → (name_in e ≡ None → Within k.names others) → TargetStands others target t
+  pub held_stands : (k : Known) → Describes here k.types m locals init → (e : ExprTree) → (name_in e ≡ None → law.is_written e ≡ true) → (target : TypedTarget) (t : Sort) → Held here k e target t → (others : List ℕ) → (name_in e ≡ None → Within k.names others) → TargetStands others target t
   held_stands k D e w target t (held_local x i n q is v) others wi =
       let d = (D.locals_are i t v).is in
       let u = (D.locals_are i t v).type in
@@ -236,15 +236,22 @@ module _ (means : List ℕ → Meaning) (signatures : List (Option Signature)) (
       let u = (D.globals_are i t v).type in
       subst (λ z. TargetStands others z t) is (record { there = declared_there m.globals i t d; type = declared_sort m.globals i t d; value = u })
   held_stands k D e w target t (held_item b i place n g written is) others wi =
-      let r = item_at_place means signatures m locals init k D e (w n) b i t place g written others (wi n) in
+      let r = item_at_place C m locals init k D e (w n) b i t place g written others (wi n) in
       subst (λ z. TargetStands others z t) is (record {
         there = three_hold (stands m locals init false others b) (stands m locals init false others i) (stmt.is_assignable m locals init result (type_of b) (type_of i)) r.0 r.1 (assignable (type_of b) (type_of i) r.2.at.0 written r.2.at.1);
         type = r.2.of;
         value = r.2.type;
       })
+  held_stands k D e w target t (held_attribute b a place n g is) others wi =
+      let r = attribute_at_place C m locals init k D e (w n) b a t place g others (wi n) in
+      subst (λ z. TargetStands others z t) is (record {
+        there = and_from (stands m locals init false others b) (not (is_nothing (attribute_sort m.classes.classes (type_of b) a))) r.0 (ap (λ s. not (is_nothing s)) r.1 ∙ ap not (value_not_nothing (length m.classes.classes) t r.2));
+        type = r.1;
+        value = r.2;
+      })
 
   -- a variable that has a type behind the binding
-  pub variable_stands : (V : VarSorts) → Describes here V m locals → (e : ExprTree) (target : TypedTarget) (k : Known) → First here k e target → (t : Sort) → ((x : List ℕ) → name_in e ≡ Some x → sort_in V (means x) ≡ has t) → (others : List ℕ) → TargetStands others target t
+  pub variable_stands : (V : VarSorts) → Describes here V m locals init → (e : ExprTree) (target : TypedTarget) (k : Known) → First here k e target → (t : Sort) → ((x : List ℕ) → name_in e ≡ Some x → sort_in V (C.meaning x) ≡ has t) → (others : List ℕ) → TargetStands others target t
   variable_stands V D e target k (first_local x i n q is v) t h others =
       let d = (D.locals_are i t (ap (sort_in V) (sym q) ∙ h x n)).is in
       let u = (D.locals_are i t (ap (sort_in V) (sym q) ∙ h x n)).type in
@@ -254,9 +261,9 @@ module _ (means : List ℕ → Meaning) (signatures : List (Option Signature)) (
       let u = (D.globals_are i t (ap (sort_in V) (sym q) ∙ h x n)).type in
       subst (λ z. TargetStands others z t) is (record { there = declared_there m.globals i t d; type = declared_sort m.globals i t d; value = u })
 
-  pub first_open : (k : Known) (e : ExprTree) (target : TypedTarget) (y : List ℕ) → First here k e target → name_in e ≡ Some y → is_open k.types (means y) ≡ true
-  first_open k e target y (first_local x i n q is v) h = ap (λ z. is_open k.types (means z)) (same_Some y x (sym h ∙ n)) ∙ ap (is_open k.types) q ∙ v
-  first_open k e target y (first_global x i n q is v) h = ap (λ z. is_open k.types (means z)) (same_Some y x (sym h ∙ n)) ∙ ap (is_open k.types) q ∙ v
+  pub first_open : (k : Known) (e : ExprTree) (target : TypedTarget) (y : List ℕ) → First here k e target → name_in e ≡ Some y → is_open k.types (C.meaning y) ≡ true
+  first_open k e target y (first_local x i n q is v) h = ap (λ z. is_open k.types (C.meaning z)) (same_Some y x (sym h ∙ n)) ∙ ap (is_open k.types) q ∙ v
+  first_open k e target y (first_global x i n q is v) h = ap (λ z. is_open k.types (C.meaning z)) (same_Some y x (sym h ∙ n)) ∙ ap (is_open k.types) q ∙ v
 
   -- ---- several targets
 
@@ -321,26 +328,27 @@ module _ (means : List ℕ → Meaning) (signatures : List (Option Signature)) (
   -- a target that has a type keeps it
   held_kept : (k0 k : Known) (e : ExprTree) (target : TypedTarget) (t : Sort) (o : Option Sort) → Held here k0 e target t → Follows k0.types k.types → (bind_name here true k (name_in e) o).types ≡ k.types
   held_kept k0 k e target t o (held_local x i n q is v) f =
-      ap (λ z. (bind_name here true k z o).types) n ∙ bind_set true k (means x) o (open_follows k0.types k.types (means x) f (ap (is_open k0.types) q ∙ ap is_unset v))
+      ap (λ z. (bind_name here true k z o).types) n ∙ bind_set true k (C.meaning x) o (open_follows k0.types k.types (C.meaning x) f (ap (is_open k0.types) q ∙ ap is_unset v))
   held_kept k0 k e target t o (held_global x i n q is v) f =
-      ap (λ z. (bind_name here true k z o).types) n ∙ bind_set true k (means x) o (open_follows k0.types k.types (means x) f (ap (is_open k0.types) q ∙ ap is_unset v))
+      ap (λ z. (bind_name here true k z o).types) n ∙ bind_set true k (C.meaning x) o (open_follows k0.types k.types (C.meaning x) f (ap (is_open k0.types) q ∙ ap is_unset v))
   held_kept k0 k e target t o (held_item b i place n g w is) f = ap (λ z. (bind_name here true k z o).types) n
+  held_kept k0 k e target t o (held_attribute b a place n g is) f = ap (λ z. (bind_name here true k z o).types) n
 
   pub sort_follows : (V W : VarSorts) (n : Meaning) (r : Sort) → Follows V W → sort_in V n ≡ has r → sort_in W n ≡ has r
   sort_follows V W (meaning.Local i) r f h = f.locals.stays i (ap is_unset h) ∙ h
   sort_follows V W (meaning.Global i) r f h = f.globals.stays i (ap is_unset h) ∙ h
   sort_follows V W _ r f h = h
 
-  same_bound : (k : Known) (e : ExprTree) (y : List ℕ) (t : Sort) → name_in e ≡ Some y → bind_name here true k (name_in e) (Some t) ≡ bind_variable true k (means y) (Some t)
+  same_bound : (k : Known) (e : ExprTree) (y : List ℕ) (t : Sort) → name_in e ≡ Some y → bind_name here true k (name_in e) (Some t) ≡ bind_variable true k (C.meaning y) (Some t)
   same_bound k e y t n = ap (λ o. bind_name here true k o (Some t)) n
 
   one_less : (a b : ℕ) → suc a ≡ suc b → a ≡ b
   one_less a b h = cc
 
   -- SEVERAL TARGETS that were looked at in one place, and are bound one behind the other to parts that fit them
-  pub rows : (k0 : Known) → Describes here k0.types m locals → (es : List ExprTree) (l : List Aim) (parts : Option (List Sort)) (ts : List Sort) → Fair parts ts → (seen : Seen) (k : Known) (others : List ℕ) → Follows k0.types k.types → IsScope here k.types → Given here k0.types k.types seen → Within k.names others → Near k0.names others es → AimsOf here k0 parts es l
-      → list_all law.is_written es ≡ true → first_barred l ≡ None → first_unwritten l ≡ None → parts_fault m.classes.classes seen l ts ≡ None → length ts ≡ length l
-      → Describes here (bind_names here true k (map name_in es) ts).types m locals → RowStands others l ts (bind_names here true k (map name_in es) ts).names
+  pub rows : (k0 : Known) → Describes here k0.types m locals init → (es : List ExprTree) (l : List Aim) (parts : Option (List Sort)) (ts : List Sort) → Fair parts ts → (seen : Seen) (k : Known) (others : List ℕ) → Follows k0.types k.types → IsScope here k.types → Given here k0.types k.types seen → Within k.names others → Near k0.names others es → AimsOf here k0 parts es l
+      → list_all law.is_written es ≡ true → first_barred l ≡ None → is_itemless l ≡ true → parts_fault m.classes.classes seen l ts ≡ None → length ts ≡ length l
+      → Describes here (bind_names here true k (map name_in es) ts).types m locals init → RowStands others l ts (bind_names here true k (map name_in es) ts).names
   rows k0 D [] [] parts [] fair seen k others f s g w near a wr ref less part n E = record { typed = refl; fit = refl; types = refl; names = within_kept k.names others w }
   rows k0 D [] [] parts (t ∷ ts) fair seen k others f s g w near a wr ref less part n E = absurd (cc)
   rows k0 D [] (x ∷ l) parts ts fair seen k others f s g w near a wr ref less part n E = absurd a
@@ -365,11 +373,11 @@ module _ (means : List ℕ → Meaning) (signatures : List (Option Signature)) (
       let h = aim_first here k0 e target y a.here in
       let p = first_none (again_fault m.classes.classes (lookup (bytes_eq y) seen) t) (parts_fault m.classes.classes (seen ++ (y, t) ∷ []) l ts) part in
       let o = first_open k0 e target y h x in
-      let g1 = given_same here k0.types (bind_variable true k (means y) (Some t)).types k1.types (seen ++ (y, t) ∷ []) (ap (λ (z : Known). z.types) (same_bound k e y t x)) (given_on here k0.types k seen y t s o g) in
+      let g1 = given_same here k0.types (bind_variable true k (C.meaning y) (Some t)).types k1.types (seen ++ (y, t) ∷ []) (ap (λ (z : Known). z.types) (same_bound k e y t x)) (given_on here k0.types k seen y t s o g) in
       let r = seen_type (lookup (bytes_eq y) seen) t in
-      let has_type : sort_in k1.types (means y) ≡ has r.0 =
+      let has_type : sort_in k1.types (C.meaning y) ≡ has r.0 =
       g1 y o ∙ ap seen_sort (found_last y seen y t) ∙ ap (λ (b : Bool). seen_sort (or_last (lookup (bytes_eq y) seen) (cond b (Some t) None))) (text_is_itself y) ∙ r.1 in
-      let st = variable_stands end.types E e target k0 h r.0 (λ z q. ap (λ v. sort_in end.types (means v)) (same_Some z y (sym q ∙ x)) ∙ sort_follows k1.types end.types (means y) r.0 (follows_names here true k1 (map name_in es) ts) has_type) others in
+      let st = variable_stands end.types E e target k0 h r.0 (λ z q. ap (λ v. sort_in end.types (C.meaning v)) (same_Some z y (sym q ∙ x)) ∙ sort_follows k1.types end.types (C.meaning y) r.0 (follows_names here true k1 (map name_in es) ts) has_type) others in
       let w1 = aimed_bound here e target (first_aimed here k0 e target h) true k (Some t) t others w (λ q. not_true (may_be_none t) q) in
       let rest = rows (beyond here k0 (name_in e) (next_part parts)) D es l (more_parts parts) ts (more_fair parts t ts fair) (seen ++ (y, t) ∷ []) k1 (after_target others target t) (follows_on k0.types k.types k1.types f (follows_name here true k (name_in e) (Some t))) (scope_on here k.types k1.types (follows_name here true k (name_in e) (Some t)) s)
       g1 w1 (near_rest k0 e es target (next_part parts) t others (first_aimed here k0 e target h) (next_plain parts t ts fair) near)
@@ -378,4 +386,5 @@ module _ (means : List ℕ → Meaning) (signatures : List (Option Signature)) (
       record { typed = q.0; fit = q.1; types = type_in_front others target (targets_of l) r.0 st rest.types; names = rest.names }
   rows k0 D (e ∷ es) (barred x ∷ l) parts (t ∷ ts) fair seen k others f s g w near a wr ref less part n E = absurd (cc)
   rows k0 D (e ∷ es) (unwritten x ∷ l) parts (t ∷ ts) fair seen k others f s g w near a wr ref less part n E = absurd (cc)
+  rows k0 D (e ∷ es) (lacking x y ∷ l) parts (t ∷ ts) fair seen k others f s g w near a wr ref less part n E = absurd (cc)
   rows k0 D (e ∷ es) (misplaced x ∷ l) parts (t ∷ ts) fair seen k others f s g w near a wr ref less part n E = absurd (cc)

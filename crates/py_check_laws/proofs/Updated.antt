@@ -11,7 +11,7 @@ use Rattle.py_syntax.specs.Expressions as tree
 use Rattle.py_syntax.specs.Expressions.{ExprTree, at}
 use Rattle.py_typed.specs.Sorts as sort
 use Rattle.py_typed.specs.Sorts.{Sort}
-use Rattle.py_typed.specs.Classes.{ClassEntry, Signature}
+use Rattle.py_typed.specs.Classes.{ClassEntry}
 use Rattle.py_typed.specs.Fits.{is_same_type, is_nothing, is_number, number_join, fits}
 use Rattle.py_typed.specs.Expressions as expr
 use Rattle.py_typed.specs.Expressions.{TypedExpr, TypedNode, typed, type_of}
@@ -34,12 +34,12 @@ use Rattle.py_check_operators.specs.Names.{variable, named}
 use Rattle.py_check_operators.specs.Operators.{is_sum, is_concat, is_numeric, op_text, arithmetic}
 use Rattle.py_check_values.specs.Returns as ret
 use Rattle.py_check_values.specs.Returns.{ReturnSort, gives, bare_return, value_return, due}
-use Rattle.py_check_values.specs.Aims.{Aim, held, first, barred, unwritten, misplaced}
+use Rattle.py_check_values.specs.Aims.{Aim, held, first, barred, unwritten, misplaced, lacking}
 use Rattle.py_check_values.specs.Assignments.{binding_fault, as_bound}
 use Rattle.py_check_places.specs.Places.{Known, is_bound, variable_at, bind_variable, bind_name}
-use Rattle.py_check_places.specs.Shapes.{is_row, is_item, bind_target}
-use Rattle.py_check_targets.specs.Targets.{target_of, variable_aim, name_aim, seen_aim, asked_by, declared, given, annotation_fault, read_aim, updated, typed_at, target_aims}
-use Rattle.py_check_assignments.specs.Assignments.{value_for, asked, annotated_value, declares, gives_value, annotates_name, annotates, binds_annotated, updates_row, updates_one, updates}
+use Rattle.py_check_places.specs.Shapes.{is_row, bind_target, is_access}
+use Rattle.py_check_targets.specs.Targets.{target_of, variable_aim, name_aim, seen_aim, asked_by, declared, given, annotation_fault, read_aim, updated, typed_at, target_aims, declared_own}
+use Rattle.py_check_assignments.specs.Assignments.{value_for, asked, annotated_value, declares, gives_value, annotates_name, annotates, binds_annotated, updates_row, updates_one, updates, annotates_own, annotates_at, updates_single}
 use Rattle.py_check_statements.specs.Bodies.{return_wanted, returns}
 use Rattle.py_check_expressions_laws.specs.WellTyped as law
 use Rattle.py_check_expressions_laws.specs.WellTyped.{Describes, Within}
@@ -52,21 +52,18 @@ use Rattle.py_check_laws.specs.WellTyped.{maybe_written, IsScope, IsResult}
 use Rattle.py_check_laws.proofs.Given.{done, ok_same, some_is, judged_given, both_given, rule_given, made_given, part_given, unless_ok}
 use Rattle.py_check.proofs.Bound.{name_no_row, single_bound}
 use Rattle.py_check.proofs.Kept.{follows_target, is_open}
-use Rattle.py_check_laws.proofs.Assigned.{given_is, updated_is}
+use Rattle.py_check_laws.proofs.Assigned.{given_is, updated_is, own_single, declared_own_is, never_lacking}
 use Rattle.py_check_laws.proofs.Whole.{read_set, bound_same}
 use Rattle.py_check_laws.proofs.Names.{within_less}
-use Rattle.py_check_laws.proofs.Aims.{AimAt, Held, held_local, held_global, held_item, aim_held, aim_first, first_name, held_aimed, aimed_bound}
+use Rattle.py_check_laws.proofs.Aims.{AimAt, Held, held_local, held_global, held_item, aim_held, aim_first, first_name, held_aimed, aimed_bound, held_attribute}
 use Rattle.py_check_laws.proofs.Literals.{heads}
 use Rattle.py_check_laws.proofs.Shapes.{no_part_given, read_aim_at}
-use Rattle.py_check_laws.proofs.Values.{scene, fault_fits, single_stands, stands_free}
+use Rattle.py_check_laws.proofs.Values.{scene, fault_fits, single_stands, stands_free, attribute_at_place}
 use Rattle.py_check_laws.proofs.Targets.{TargetStands, held_stands, first_open}
-use Rattle.py_check_laws.proofs.Bound.{described_before, Good, good_one}
+use Rattle.py_check_laws.proofs.Bound.{described_before, Good, good_one, own_given, own_written, name_written}
+use Rattle.py_check_targets.specs.Attributes.{own_attribute, lacking_in, declaring_fault}
 
 -- ---- a name that is annotated
-
-pub name_written : (e : ExprTree) (x : List ℕ) → name_in e ≡ Some x → law.is_written e ≡ true
-name_written (at (tree.Name y) span) x h = refl
-name_written _ x h = absurd (cc)
 
 asked_same_by : (t : TypedTarget) (x : List ℕ) (v : VarSort) (a : Aim) → variable_aim t x v ≡ Some a → asked v ≡ asked_by false (Some (a ∷ []))
 asked_same_by t x unset a h = ap (λ z. asked_by false (Some (z ∷ []))) (same_Some (first t x) a h)
@@ -161,49 +158,79 @@ module _ (C : Context) where
       read_by span y (expr.Global i) false (var_at k.types.globals i) s t v (sym (ap (λ z. (named k.types k.names span y z).got) (ap C.meaning (same_Some y x n) ∙ q)) ∙ h)
   global_read k _ x i s t n q v h = absurd (cc)
 
-module _ (means : List ℕ → Meaning) (signatures : List (Option Signature)) (m : TypedModule) (locals : List Variable) (init : Option ℕ) (result : Option Sort) where
+module _ (C : Context) (m : TypedModule) (locals : List Variable) (init : Option ℕ) (result : Option Sort) where
   abbrev here : Context
-  here = scene means signatures m locals init
+  here = scene C m locals init
 
   abbrev Fine : Bool → Bool → List ℕ → List ℕ → TypedAct → Type 0
-  Fine = Good means signatures m locals init result
+  Fine = Good C m locals init result
 
   -- ---- annotations
 
-  good_name : (loops handling : Bool) (k : Known) (span : Span) (x : List ℕ) (target mark : ExprTree) (e : Option ExprTree) → name_in target ≡ Some x → IsScope here k.types → maybe_written e ≡ true → Describes here (binds_annotated here k span (Some x) target mark e).types m locals → (a : TypedAct) → (annotates_name here k span x mark e).got ≡ Some a
+  good_name : (loops handling : Bool) (k : Known) (span : Span) (x : List ℕ) (target mark : ExprTree) (e : Option ExprTree) → name_in target ≡ Some x → IsScope here k.types → maybe_written e ≡ true → Describes here (binds_annotated here k span (Some x) target mark e).types m locals init → (a : TypedAct) → (annotates_name here k span x mark e).got ≡ Some a
       → (others : List ℕ) → Within k.names others → Fine loops handling others (binds_annotated here k span (Some x) target mark e).names a
   good_name loops handling k span x target mark None n sc we E a h others w =
-      let r = rule_given span (declared x (is_bound k (means x))) (both (seen_aim (name_aim k x (means x))) (annotation means mark)) a h in
-      let q = unless_ok (annotation_fault x (is_bound k (means x)) r.0.0) act.Pass a r.2 in
+      let r = rule_given span (declared x (is_bound k (C.meaning x))) (both (seen_aim (name_aim k x (C.meaning x))) (annotation C.meaning mark)) a h in
+      let q = unless_ok (annotation_fault x (is_bound k (C.meaning x)) r.0.0) act.Pass a r.2 in
       let ok = is_some (declares here k span x mark).got in
       let p = single_bound here ok k target (Some sort.Nothing) (name_no_row target x n) ∙ ap (λ o. bind_name here ok k o (Some sort.Nothing)) n in
-      subst (Fine loops handling others (bind_target here ok k target (Some sort.Nothing)).names) q.1 (record { typed = refl; names = subst (λ (z : Known). Within z.names others) (sym p) (dropped_within k (means x) others ok w) })
+      subst (Fine loops handling others (bind_target here ok k target (Some sort.Nothing)).names) q.1 (record { typed = refl; names = subst (λ (z : Known). Within z.names others) (sym p) (dropped_within k (C.meaning x) others ok w) })
   good_name loops handling k span x target mark (Some e) n sc we E a h others w =
       let s = gives_value here k span x mark e in
-      let parts = both (seen_aim (name_aim k x (means x))) (annotation means mark) in
-      let r = rule_given span (given m.classes.classes x (is_bound k (means x))) (both parts (annotated_value here k x e)) a h in
+      let parts = both (seen_aim (name_aim k x (C.meaning x))) (annotation C.meaning mark) in
+      let r = rule_given span (given m.classes.classes x (is_bound k (C.meaning x))) (both parts (annotated_value here k x e)) a h in
       let b = both_given parts (annotated_value here k x e) r.0 r.1 in
-      let c = both_given (seen_aim (name_aim k x (means x))) (annotation means mark) r.0.0 b.0 in
-      let g = given_is m.classes.classes x (is_bound k (means x)) r.0 a r.2 in
+      let c = both_given (seen_aim (name_aim k x (C.meaning x))) (annotation C.meaning mark) r.0.0 b.0 in
+      let g = given_is m.classes.classes x (is_bound k (C.meaning x)) r.0 a r.2 in
       let aim = r.0.0.0 in
       let v = r.0.1 in
       let same = bound_same here k target (is_some s.got) (option_map type_of (annotated_value here k x e).got) (type_of v) (some_is s.got a h) (ap (option_map type_of) b.1) in
       let p = same ∙ single_bound here true k target (Some (type_of v)) (name_no_row target x n) in
-      let D = described_before here k.types (bind_target here (is_some s.got) k target (option_map type_of (annotated_value here k x e).got)).types m locals (follows_target here (is_some s.got) k target (option_map type_of (annotated_value here k x e).got)) E in
+      let D = described_before here k.types (bind_target here (is_some s.got) k target (option_map type_of (annotated_value here k x e).got)).types m locals init (follows_target here (is_some s.got) k target (option_map type_of (annotated_value here k x e).got)) E in
       let at_name : AimAt here k (name_in target) target aim = subst (λ o. AimAt here k o target aim) (sym n) c.0 in
       let wt = name_written target x n in
-      let sv = single_stands means signatures m locals init k D (target ∷ []) (and_from (law.is_written target) true wt refl) (aim ∷ []) None (record { here = at_name; rest = tt }) e we v (aim, refl, g.right)
-      (ap (λ z. (typed_at here k z e).got) (sym (asked_same k x (means x) aim c.0)) ∙ b.1) others w in
+      let sv = single_stands C m locals init k D (target ∷ []) (and_from (law.is_written target) true wt refl) (aim ∷ []) None (record { here = at_name; rest = tt }) e we v (aim, refl, g.right)
+      (ap (λ z. (typed_at here k z e).got) (sym (asked_same k x (C.meaning x) aim c.0)) ∙ b.1) others w in
       subst (Fine loops handling others (bind_target here (is_some s.got) k target (option_map type_of (annotated_value here k x e).got)).names) g.is
       (subst (λ (z : Known). Fine loops handling others z.names (act.Assign (target_of aim) (as_bound aim v))) (sym p)
-      (good_one means signatures m locals init result loops handling k target wt sc aim at_name v g.right (subst (λ (z : Known). Describes here z.types m locals) p E) others w sv))
+      (good_one C m locals init result loops handling k target wt sc aim at_name v g.right (subst (λ (z : Known). Describes here z.types m locals init) p E) others w sv))
+
+  -- an attribute of the object that an `__init__` sets up
+  own_unbound : (k : Known) (target : ExprTree) (p : ExprTree × List ℕ) → own_attribute C.inside target ≡ Some p → bind_target here false k target None ≡ k
+  own_unbound k target p q =
+      let s = own_single C.inside target p q in
+      single_bound here false k target None s.0 ∙ ap (λ o. bind_name here false k o None) s.1
+
+  good_own : (loops handling : Bool) (k : Known) (span : Span) (p : ExprTree × List ℕ) (target mark : ExprTree) (e : Option ExprTree) → own_attribute C.inside target ≡ Some p → IsScope here k.types → maybe_written e ≡ true → Describes here (bind_target here false k target None).types m locals init → (a : TypedAct) → (annotates_own here k span p.1 target mark e).got ≡ Some a
+      → (others : List ℕ) → Within k.names others → Fine loops handling others (bind_target here false k target None).names a
+  good_own loops handling k span p target mark None o sc we E a h others w =
+      let r = rule_given span (declared_own (declaring_fault C.inside p.1 span)) (both (target_aims here k target) (annotation C.meaning mark)) a h in
+      subst (Fine loops handling others (bind_target here false k target None).names) (declared_own_is (declaring_fault C.inside p.1 span) r.0 a r.2)
+      (record { typed = refl; names = subst (λ (z : Known). Within z.names others) (sym (own_unbound k target p o)) w })
+  good_own loops handling k span p target mark (Some e) o sc we E a h others w =
+      let q = own_given C m locals init result k span p target mark e o a h in
+      let g = q.3 in
+      let v = q.1 in
+      let s = own_single C.inside target p o in
+      let wt = own_written C m locals init result target p o in
+      let same = own_unbound k target p o in
+      let named : bind_name here true k (name_in target) (Some (type_of v)) ≡ k = ap (λ z. bind_name here true k z (Some (type_of v))) s.1 in
+      let D : Describes here k.types m locals init = subst (λ (z : Known). Describes here z.types m locals init) same E in
+      let sv = single_stands C m locals init k D (target ∷ []) (and_from (law.is_written target) true wt refl) (g.aim ∷ []) None (record { here = g.here_it_is; rest = tt }) e we v (g.aim, refl, g.right) g.valued others w in
+      subst (Fine loops handling others (bind_target here false k target None).names) g.is
+      (subst (λ (z : Known). Fine loops handling others z.names (act.Assign (target_of g.aim) (as_bound g.aim v))) (named ∙ sym same)
+      (good_one C m locals init result loops handling k target wt sc g.aim g.here_it_is v g.right (subst (λ (z : Known). Describes here z.types m locals init) (sym named) D) others w sv))
 
   -- AN ASSIGNMENT WITH AN ANNOTATION
-  pub good_annotated : (loops handling : Bool) (k : Known) (span : Span) (x : Option (List ℕ)) (target mark : ExprTree) (e : Option ExprTree) → name_in target ≡ x → IsScope here k.types → maybe_written e ≡ true → Describes here (binds_annotated here k span x target mark e).types m locals → (a : TypedAct) → (annotates here k span x target mark e).got ≡ Some a
+  pub good_annotated : (loops handling : Bool) (k : Known) (span : Span) (x : Option (List ℕ)) (target mark : ExprTree) (e : Option ExprTree) → name_in target ≡ x → IsScope here k.types → maybe_written e ≡ true → Describes here (binds_annotated here k span x target mark e).types m locals init → (a : TypedAct) → (annotates here k span x target mark e).got ≡ Some a
       → (others : List ℕ) → Within k.names others → Fine loops handling others (binds_annotated here k span x target mark e).names a
   good_annotated loops handling k span (Some x) target mark e n sc we E a h others w = good_name loops handling k span x target mark e n sc we E a h others w
-  good_annotated loops handling k span None target mark None n sc we E a h others w = absurd (no_part_given (both (target_aims here k target) (annotation means mark)).got span no_target a h)
-  good_annotated loops handling k span None target mark (Some e) n sc we E a h others w = absurd (no_part_given (both (both (target_aims here k target) (annotation means mark)) (value_for here k target e)).got span no_target a h)
+  good_annotated loops handling k span None target mark e n sc we E a h others w = by (own_attribute C.inside target) refl e we E h
+    where
+      by : (o : Option (ExprTree × List ℕ)) → own_attribute C.inside target ≡ o → (e : Option ExprTree) → maybe_written e ≡ true → Describes here (bind_target here false k target None).types m locals init → (annotates_at here k span o target mark e).got ≡ Some a → Fine loops handling others (bind_target here false k target None).names a
+      by None q None we E g = absurd (no_part_given (both (target_aims here k target) (annotation C.meaning mark)).got span no_target a g)
+      by None q (Some e) we E g = absurd (no_part_given (both (both (target_aims here k target) (annotation C.meaning mark)) (value_for here k target e)).got span no_target a g)
+      by (Some p) q e we E g = good_own loops handling k span p target mark e q sc we E a g others w
 
   -- ---- operations with assignment
 
@@ -214,7 +241,7 @@ module _ (means : List ℕ → Meaning) (signatures : List (Option Signature)) (
   reads_same false true s h r = r true
   reads_same false false s h r = refl
 
-  held_read : (k : Known) → Describes here k.types m locals → (e : ExprTree) → law.is_written e ≡ true → (target : TypedTarget) (s : Sort) → Held here k e target s → (t : TypedExpr) → (typed_at here k free e).got ≡ Some t → ((d : Bool) → reads_as d (type_of t) ≡ type_of t) → (others : List ℕ) → Within k.names others
+  held_read : (k : Known) → Describes here k.types m locals init → (e : ExprTree) → law.is_written e ≡ true → (target : TypedTarget) (s : Sort) → Held here k e target s → (t : TypedExpr) → (typed_at here k free e).got ≡ Some t → ((d : Bool) → reads_as d (type_of t) ≡ type_of t) → (others : List ℕ) → Within k.names others
       → stmt.read_type m locals init result others target ≡ type_of t
   held_read k D e w target s (held_local x i n q is v) t h r others wi =
       let read = local_read here k e x i s t n q v h in
@@ -224,8 +251,11 @@ module _ (means : List ℕ → Meaning) (signatures : List (Option Signature)) (
   held_read k D e w target s (held_global x i n q is v) t h r others wi =
       subst (λ z. stmt.read_type m locals init result others z ≡ type_of t) is (Rattle.py_check_laws.proofs.Targets.declared_sort m.globals i s (D.globals_are i s v).is ∙ sym (global_read here k e x i s t n q v h))
   held_read k D e w target s (held_item b i place n g written is) t h r others wi =
-      let item = Rattle.py_check_laws.proofs.Values.item_at_place means signatures m locals init k D e w b i s place g written others wi in
+      let item = Rattle.py_check_laws.proofs.Values.item_at_place C m locals init k D e w b i s place g written others wi in
       subst (λ z. stmt.read_type m locals init result others z ≡ type_of t) is (item.2.of ∙ ap type_of (same_Some (typed (expr.At b i) s place) t (sym g ∙ h)))
+  held_read k D e w target s (held_attribute b a place n g is) t h r others wi =
+      let q = attribute_at_place C m locals init k D e w b a s place g others wi in
+      subst (λ z. stmt.read_type m locals init result others z ≡ type_of t) is (q.1 ∙ ap type_of (same_Some (typed (expr.Attr b a) s place) t (sym g ∙ h)))
 
   three : (a b c : Bool) → a ≡ true → b ≡ true → c ≡ true → (a && b && c) ≡ true
   three a b c p q r = cc
@@ -233,46 +263,48 @@ module _ (means : List ℕ → Meaning) (signatures : List (Option Signature)) (
   only_target : (t u : TypedTarget) (more : List TypedTarget) → t ∷ [] ≡ u ∷ more → t ≡ u
   only_target t u more h = cc
 
-  update_by : (loops handling : Bool) (k : Known) (target : ExprTree) (o : BinOp) (a : Aim) → AimAt here k (name_in target) target a → law.is_written target ≡ true → Describes here k.types m locals → (p : TypedExpr × TypedExpr) → (typed_at here k free target).got ≡ Some p.0 → (r : TypedExpr) → Operates o (type_of p.0) (type_of p.1) (type_of r)
+  update_by : (loops handling : Bool) (k : Known) (target : ExprTree) (o : BinOp) (a : Aim) → AimAt here k (name_in target) target a → law.is_written target ≡ true → Describes here k.types m locals init → (p : TypedExpr × TypedExpr) → (typed_at here k free target).got ≡ Some p.0 → (r : TypedExpr) → Operates o (type_of p.0) (type_of p.1) (type_of r)
       → binding_fault m.classes.classes a (type_of r) ≡ None → (u : TypedTarget) (more : List TypedTarget) → target_of a ≡ u ∷ more → (others : List ℕ) → Within k.names others → stands m locals init false others p.1 ≡ true → Fine loops handling others (bind_name here false k (name_in target) None).names (act.Aug u o p.1 (type_of r))
   update_by loops handling k target o (held t s) a wt D p g r ops f u more is others w sv =
       let h = aim_held here k target t s a in
-      let st = held_stands means signatures m locals init result k D target (λ q. wt) t s h others (λ q. w) in
+      let st = held_stands C m locals init result k D target (λ q. wt) t s h others (λ q. w) in
       subst (λ z. Fine loops handling others (bind_name here false k (name_in target) None).names (act.Aug z o p.1 (type_of r))) (only_target t u more is) (record {
         typed = three (stands m locals init false others p.1) (stmt.target_typed m locals init result others t) (stmt.update_fits m locals init result others t o (type_of p.1) (type_of r)) sv st.there
             (and_from (is_type (operation_sort o (stmt.read_type m locals init result others t) (type_of p.1)) (type_of r)) (fits m.classes.classes (type_of r) (stmt.target_type m locals init result t))
             (ap (λ z. is_type (operation_sort o z (type_of p.1)) (type_of r)) (held_read k D target wt t s h p.0 g ops.reads others w) ∙ ops.type)
-            (ap (fits m.classes.classes (type_of r)) st.type ∙ fault_fits means signatures m locals init s (type_of r) f));
+            (ap (fits m.classes.classes (type_of r)) st.type ∙ fault_fits C m locals init s (type_of r) f));
         names = aimed_bound here target t (held_aimed here k target t s h) false k None (type_of r) others w (λ q. ops.plain);
       })
   update_by loops handling k target o (first t x) a wt D p g r ops f u more is others w sv =
       let n = first_name here k target t x a in
-      clash (is_open k.types (means x)) (first_open means signatures m locals init result k target t x (aim_first here k target t x a) n) (read_set here k target x n p.0 g)
+      clash (is_open k.types (C.meaning x)) (first_open C m locals init result k target t x (aim_first here k target t x a) n) (read_set here k target x n p.0 g)
   update_by loops handling k target o (barred x) a wt D p g r ops f u more is others w sv = absurd (cc)
   update_by loops handling k target o (unwritten s) a wt D p g r ops f u more is others w sv = absurd (cc)
+  update_by loops handling k target o (lacking s x) a wt D p g r ops f u more is others w sv = absurd (cc)
   update_by loops handling k target o (misplaced s) a wt D p g r ops f u more is others w sv = absurd (cc)
 
-  good_one_update : (loops handling : Bool) (k : Known) (span : Span) (target : ExprTree) (o : BinOp) (e : ExprTree) → is_row target ≡ false → law.is_written target ≡ true → law.is_written e ≡ true → Describes here k.types m locals → (a : TypedAct) → (updates_one here k span target o e).got ≡ Some a → (others : List ℕ) → Within k.names others
+  good_one_update : (loops handling : Bool) (k : Known) (span : Span) (target : ExprTree) (o : BinOp) (e : ExprTree) → is_row target ≡ false → lacking_in here target ≡ None → law.is_written target ≡ true → law.is_written e ≡ true → Describes here k.types m locals init → (a : TypedAct) → (updates_one here k span target o e).got ≡ Some a → (others : List ℕ) → Within k.names others
       → Fine loops handling others (bind_target here false k target None).names a
-  good_one_update loops handling k span target o e q wt we D a h others w =
-      let r = rule_given span (updated m.classes.classes span o (read_aim here k (name_in target) (is_item target))) (both (typed_at here k free target) (typed_at here k free e)) a h in
+  good_one_update loops handling k span target o e q l wt we D a h others w =
+      let r = rule_given span (updated m.classes.classes span o (read_aim here k (name_in target) (is_access target))) (both (typed_at here k free target) (typed_at here k free e)) a h in
       let b = both_given (typed_at here k free target) (typed_at here k free e) r.0 r.1 in
-      let u = updated_is m.classes.classes span o (read_aim here k (name_in target) (is_item target)) r.0 a r.2 in
-      let aim = read_aim here k (name_in target) (is_item target) r.0.0 in
+      let u = updated_is m.classes.classes span o (read_aim here k (name_in target) (is_access target)) r.0 a r.2 in
+      let aim = read_aim here k (name_in target) (is_access target) r.0.0 in
       subst (Fine loops handling others (bind_target here false k target None).names) u.is
       (subst (λ (z : Known). Fine loops handling others z.names (act.Aug u.target o r.0.1 (type_of u.result))) (sym (single_bound here false k target None q))
-      (update_by loops handling k target o aim (read_aim_at here k (name_in target) target r.0.0 b.0 u.placed) wt D r.0 b.0 u.result (operates m.classes.classes span o r.0 u.result u.operates) u.right u.target u.more u.aimed others w
-      (stands_free means signatures m locals init k D e we r.0.1 b.1 others w)))
+      (update_by loops handling k target o aim (read_aim_at here k (name_in target) target r.0.0 l b.0 u.placed) wt D r.0 b.0 u.result (operates m.classes.classes span o r.0 u.result u.operates) u.right u.target u.more u.aimed others w
+      (stands_free C m locals init k D e we r.0.1 b.1 others w)))
 
   -- AN OPERATION WITH ASSIGNMENT
-  pub good_update : (loops handling : Bool) (k : Known) (span : Span) (target : ExprTree) (o : BinOp) (e : ExprTree) → law.is_written target ≡ true → law.is_written e ≡ true → Describes here (bind_target here false k target None).types m locals → (a : TypedAct) → (updates here k span target o e).got ≡ Some a → (others : List ℕ) → Within k.names others
+  pub good_update : (loops handling : Bool) (k : Known) (span : Span) (target : ExprTree) (o : BinOp) (e : ExprTree) → law.is_written target ≡ true → law.is_written e ≡ true → Describes here (bind_target here false k target None).types m locals init → (a : TypedAct) → (updates here k span target o e).got ≡ Some a → (others : List ℕ) → Within k.names others
       → Fine loops handling others (bind_target here false k target None).names a
   good_update loops handling k span target o e wt we E a h others w =
-      let D = described_before here k.types (bind_target here false k target None).types m locals (follows_target here false k target None) E in by D (is_row target) refl h
+      let D = described_before here k.types (bind_target here false k target None).types m locals init (follows_target here false k target None) E in by D (is_row target) refl (lacking_in here target) refl h
     where
-      by : Describes here k.types m locals → (b : Bool) → is_row target ≡ b → (if b then updates_row here k span target e else updates_one here k span target o e).got ≡ Some a → Fine loops handling others (bind_target here false k target None).names a
-      by D true q f = absurd (no_part_given (both (target_aims here k target) (typed_at here k free e)).got span no_target a f)
-      by D false q f = good_one_update loops handling k span target o e q wt we D a f others w
+      by : Describes here k.types m locals init → (b : Bool) → is_row target ≡ b → (x : Option (ExprTree × List ℕ)) → lacking_in here target ≡ x → (if b then updates_row here k span target e else updates_single here k span x target o e).got ≡ Some a → Fine loops handling others (bind_target here false k target None).names a
+      by D false q (Some p) l f = absurd (never_lacking m.classes.classes span p.1 (both (typed_at here k free p.0) (typed_at here k free e)) a f)
+      by D true q x l f = absurd (no_part_given (both (target_aims here k target) (typed_at here k free e)).got span no_target a f)
+      by D false q None l f = good_one_update loops handling k span target o e q l wt we D a f others w
 
   -- ---- returns
 
@@ -280,11 +312,11 @@ module _ (means : List ℕ → Meaning) (signatures : List (Option Signature)) (
   return_other others sort.Nothing v q s e = absurd (cc)
   return_other others t v q s e = and_from (stands m locals init false others v) (is_same_type (type_of v) t) s (ap (λ z. is_same_type z t) e ∙ type_is_itself t)
 
-  result_stands : (k : Known) → Describes here k.types m locals → (e : ExprTree) → law.is_written e ≡ true → (s : Sort) → is_result_type (length m.classes.classes) s ≡ true → (t : TypedExpr) → (typed_at here k (wants s) e).got ≡ Some t → fits m.classes.classes (type_of t) s ≡ true → (others : List ℕ) → Within k.names others → stands m locals init false others t ≡ true
+  result_stands : (k : Known) → Describes here k.types m locals init → (e : ExprTree) → law.is_written e ≡ true → (s : Sort) → is_result_type (length m.classes.classes) s ≡ true → (t : TypedExpr) → (typed_at here k (wants s) e).got ≡ Some t → fits m.classes.classes (type_of t) s ≡ true → (others : List ℕ) → Within k.names others → stands m locals init false others t ≡ true
   result_stands k D e w s v t g f others wi =
-      (sound_typing means signatures k.types m locals init D (wants s) k.names e w (sought_of_asked (length m.classes.classes) (wants s) v)).each t g others wi (or_left (fits m.classes.classes (type_of t) s) (parts_taken m.classes.classes (wants s) (type_of t)) f)
+      (sound_typing C k.types m locals init D (wants s) k.names e w (sought_of_asked (length m.classes.classes) (wants s) v)).each t g others wi (or_left (fits m.classes.classes (type_of t) s) (parts_taken m.classes.classes (wants s) (type_of t)) f)
 
-  due_fits : (k : Known) → Describes here k.types m locals → (e : ExprTree) → law.is_written e ≡ true → (t : Sort) → is_result_type (length m.classes.classes) t ≡ true → (a v : TypedExpr) → (typed_at here k (wants t) e).got ≡ Some a → due m.classes.classes t a ≡ Ok v → (others : List ℕ) → Within k.names others → stmt.return_fits m locals init result others (Some t) (Some v) ≡ true
+  due_fits : (k : Known) → Describes here k.types m locals init → (e : ExprTree) → law.is_written e ≡ true → (t : Sort) → is_result_type (length m.classes.classes) t ≡ true → (a v : TypedExpr) → (typed_at here k (wants t) e).got ≡ Some a → due m.classes.classes t a ≡ Ok v → (others : List ℕ) → Within k.names others → stmt.return_fits m locals init result others (Some t) (Some v) ≡ true
   due_fits k D e we t rt a v g h others w = by (is_nothing t) refl h
     where
       none_by : (c : Bool) → is_none_literal a ≡ c → is_nothing t ≡ true → (if c then done a else Err Rattle.py_check_messages.specs.Messages.no_return_expected) ≡ Ok v → stmt.return_fits m locals init result others (Some t) (Some v) ≡ true
@@ -316,14 +348,14 @@ module _ (means : List ℕ → Meaning) (signatures : List (Option Signature)) (
       by true q = refl
       by false q = absurd (cc)
 
-  value_fits : (k : Known) → Describes here k.types m locals → (e : ExprTree) → law.is_written e ≡ true → (span : Span) (r : ReturnSort) → IsResult (length m.classes.classes) r result → (a v : TypedExpr) → (typed_at here k (return_wanted r) e).got ≡ Some a → (value_return m.classes.classes span r a).got ≡ Some v → (others : List ℕ) → Within k.names others
+  value_fits : (k : Known) → Describes here k.types m locals init → (e : ExprTree) → law.is_written e ≡ true → (span : Span) (r : ReturnSort) → IsResult (length m.classes.classes) r result → (a v : TypedExpr) → (typed_at here k (return_wanted r) e).got ≡ Some a → (value_return m.classes.classes span r a).got ≡ Some v → (others : List ℕ) → Within k.names others
       → stmt.return_fits m locals init result others result (Some v) ≡ true
   value_fits k D e we span ret.outside is a v g h others w = absurd (cc)
   value_fits k D e we span ret.untyped is a v g h others w = absurd (cc)
   value_fits k D e we span (ret.gives t) is a v g h others w = subst (λ z. stmt.return_fits m locals init result others z (Some v) ≡ true) (sym is.0) (due_fits k D e we t is.1 a v g (judged_given span (due m.classes.classes t a) v h) others w)
 
   -- A RETURN
-  pub good_return : (loops handling : Bool) (k : Known) (span : Span) (r : ReturnSort) → IsResult (length m.classes.classes) r result → (e : Option ExprTree) → maybe_written e ≡ true → Describes here k.types m locals → (a : TypedAct) → (returns here r k span e).got ≡ Some a → (others : List ℕ) → Within k.names others → Fine loops handling others k.names a
+  pub good_return : (loops handling : Bool) (k : Known) (span : Span) (r : ReturnSort) → IsResult (length m.classes.classes) r result → (e : Option ExprTree) → maybe_written e ≡ true → Describes here k.types m locals init → (a : TypedAct) → (returns here r k span e).got ≡ Some a → (others : List ℕ) → Within k.names others → Fine loops handling others k.names a
   good_return loops handling k span r is None we D a h others w =
       let q = made_given (λ u. act.Return None) (bare_return span r) a h in subst (Fine loops handling others k.names) q.2 (record { typed = bare_fits span r q.0 others is q.1; names = w })
   good_return loops handling k span r is (Some e) we D a h others w =

@@ -1,41 +1,41 @@
 -- Values that are typed at a place stand there, and so do the targets that they are bound to.
-use Rattle.std.proofs.Common.{◌≡◌, ℕ, zero, suc, ◌<◌, Bool, true, false, ◌&&◌, nat_lt, List, [], ◌∷◌, length, Option, Some, None, refl, ap, ap₂, sym, ◌∙◌, subst, if◌then◌else◌, lt-ltb, eq-eqb, arith}
+use Rattle.std.proofs.Common.{◌≡◌, ℕ, zero, suc, ◌<◌, Bool, true, false, ◌&&◌, nat_lt, List, [], ◌∷◌, length, Option, Some, None, refl, ap, ap₂, sym, ◌∙◌, subst, if◌then◌else◌, lt-ltb, eq-eqb, arith, not, ◌||◌}
 use Rattle.std.proofs.lemmas.Bool.{and_from, or_left, or_right}
 use Rattle.std.proofs.lemmas.Option.{same_Some}
 use Rattle.std.specs.List.{list_all}
-use Rattle.std.specs.Option.{option_map}
+use Rattle.std.specs.Option.{option_map, option_and_then}
 use Rattle.py_syntax.specs.declared.token.Span.{Span}
 use Rattle.py_syntax.specs.Expressions.{ExprTree}
 use Rattle.py_typed.specs.Sorts as sort
 use Rattle.py_typed.specs.Sorts.{Sort, Sorts, no_sorts, sort_then, sorts_of, listed_sorts}
-use Rattle.py_typed.specs.Classes.{ClassEntry, Signature}
+use Rattle.py_typed.specs.Classes.{ClassEntry}
 use Rattle.py_typed.specs.Fits.{is_same_type, is_nothing, fits}
 use Rattle.py_typed.specs.Expressions as node
 use Rattle.py_typed.specs.Expressions.{TypedExpr, typed, type_of}
 use Rattle.py_typed.specs.Statements.{Variable, TypedModule, TypedTarget}
-use Rattle.py_typed.specs.TargetTypes.{item_sort}
-use Rattle.py_typed.specs.WellTypedExpr.{stands, is_value_type, are_value_types, is_result_type, is_type, indexed, declared}
+use Rattle.py_typed.specs.TargetTypes.{item_sort, attribute_sort, sort_or_nothing}
+use Rattle.py_typed.specs.WellTypedExpr.{stands, is_value_type, are_value_types, is_result_type, is_type, indexed, declared, instance_of}
 use Rattle.py_typed.proofs.FitLemmas.{one_type, and_left, and_right}
-use Rattle.py_check_context.specs.declared.scope.Meaning.{Meaning}
 use Rattle.py_check_context.specs.Context.{Context, free, wants, wants_some}
 use Rattle.py_check_flow.specs.Bindings.{name_in}
 use Rattle.py_check_messages.specs.Seen.{Message, Seen}
 use Rattle.py_check_messages.specs.Messages.{wrong_assignment}
-use Rattle.py_check_values.specs.Aims.{Aim, held, first, barred, unwritten, misplaced}
+use Rattle.py_check_values.specs.Aims.{Aim, held, first, barred, unwritten, misplaced, lacking}
 use Rattle.py_check_values.specs.Assignments.{binding_fault, as_many, items_for}
 use Rattle.py_check_places.specs.Places.{Known}
-use Rattle.py_check_targets.specs.Targets.{is_written, held_sorts, tuple_sort, single_sort, asked_sort, asked_by, again_fault, unfit_fault, asked_fault, typed_at, next_part, more_parts, beyond, target_aims, aims_behind}
+use Rattle.py_check_targets.specs.Targets.{is_written, held_sorts, tuple_sort, single_sort, asked_sort, asked_by, again_fault, unfit_fault, asked_fault, typed_at, next_part, more_parts, beyond, target_aims, aims_behind, holds_none, hold_none}
 use Rattle.py_check_targets.proofs.LookLemmas.{one_look}
 use Rattle.py_check_assignments.specs.Assignments.{asked_for, value_for}
 use Rattle.py_check_expressions_laws.specs.WellTyped as law
-use Rattle.py_check_expressions_laws.specs.WellTyped.{Describes, Within}
+use Rattle.py_check_expressions_laws.specs.WellTyped.{Describes, Within, is_taken}
 use Rattle.py_check_expressions_laws.proofs.Types.{result_of_value, value_of_result, listed}
 use Rattle.py_check_expressions_laws.proofs.Stands.{parts_of_stands, value_type}
-use Rattle.py_check_expressions_laws.proofs.Rows.{all_fits, is_sought, sought_of_asked}
-use Rattle.py_check_expressions_laws.proofs.Sound.{sound_typing}
+use Rattle.py_check_expressions_laws.proofs.Rows.{all_fits, is_sought, sought_of_asked, parts_taken, all_parts, is_held, holds_nothing, hold_nothing}
+use Rattle.py_check_expressions_laws.proofs.Sound.{sound_typing, at_classes}
 use Rattle.py_check_places.specs.Shapes.{is_row, leaves, some_parts, parts_of}
 use Rattle.py_check_laws.proofs.Assigned.{items_are, RowBound, BoundTo, FitsAsked, aims_length, first_none}
-use Rattle.py_check_laws.proofs.Aims.{AimAt, AimsOf, Held, held_local, held_global, held_item, aim_held, aims_are}
+use Rattle.py_check_laws.proofs.Aims.{AimAt, AimsOf, Held, held_local, held_global, held_item, aim_held, aims_are, held_attribute}
+use Rattle.py_typed.specs.Order.{attribute_of}
 
 pub of_three : (a b c : Bool) → (a && b && c) ≡ true → (a ≡ true) × (b ≡ true) × (c ≡ true)
 of_three true true true h = (refl, refl, refl)
@@ -99,40 +99,82 @@ fits_known false m h = absurd (cc)
 pub part_fits : (classes : List ClassEntry) (s t : Sort) → again_fault classes (Some t) s ≡ None → fits classes s t ≡ true
 part_fits classes s t h = fits_known (fits classes s t) (wrong_assignment classes s t) h
 
-module _ (means : List ℕ → Meaning) (signatures : List (Option Signature)) (m : TypedModule) (locals : List Variable) (init : Option ℕ) where
+mutual
+  same_holds : (s : Sort) → holds_nothing s ≡ holds_none s
+  same_holds sort.Nothing = refl
+  same_holds (sort.TupleOf ts) = same_hold ts
+  same_holds sort.Int = refl
+  same_holds sort.I64 = refl
+  same_holds sort.Bool = refl
+  same_holds sort.Str = refl
+  same_holds (sort.ListOf t) = refl
+  same_holds (sort.DictOf k t) = refl
+  same_holds (sort.Optional t) = refl
+  same_holds (sort.Instance n) = refl
+  same_holds (sort.Exc x) = refl
+
+  same_hold : (ts : Sorts) → hold_nothing ts ≡ hold_none ts
+  same_hold no_sorts = refl
+  same_hold (sort_then t ts) = ap₂ (λ (a b : Bool). a || b) (same_holds t) (same_hold ts)
+
+module _ (C : Context) (m : TypedModule) (locals : List Variable) (init : Option ℕ) where
   -- the context, with the classes of the module
   abbrev pub scene : Context
-  scene = record { meaning = means; signatures = signatures; classes = m.classes.classes }
+  scene = at_classes C m.classes.classes
 
   -- a value that is asked for nothing stands where more is known
-  pub stands_free : (k : Known) → Describes scene k.types m locals → (e : ExprTree) → law.is_written e ≡ true → (t : TypedExpr) → (typed_at scene k free e).got ≡ Some t → (others : List ℕ) → Within k.names others → stands m locals init false others t ≡ true
-  stands_free k D e w t g others wi = (sound_typing means signatures k.types m locals init D free k.names e w refl).each t g others wi refl
+  pub stands_free : (k : Known) → Describes scene k.types m locals init → (e : ExprTree) → law.is_written e ≡ true → (t : TypedExpr) → (typed_at scene k free e).got ≡ Some t → (others : List ℕ) → Within k.names others → stands m locals init false others t ≡ true
+  stands_free k D e w t g others wi = (sound_typing C k.types m locals init D free k.names e w refl).each t g others wi refl
 
-  pub stands_wanted : (k : Known) → Describes scene k.types m locals → (e : ExprTree) → law.is_written e ≡ true → (s : Sort) → is_value_type (length m.classes.classes) s ≡ true → (t : TypedExpr) → (typed_at scene k (wants s) e).got ≡ Some t → fits m.classes.classes (type_of t) s ≡ true → (others : List ℕ) → Within k.names others → stands m locals init false others t ≡ true
+  pub stands_wanted : (k : Known) → Describes scene k.types m locals init → (e : ExprTree) → law.is_written e ≡ true → (s : Sort) → is_value_type (length m.classes.classes) s ≡ true → (t : TypedExpr) → (typed_at scene k (wants s) e).got ≡ Some t → fits m.classes.classes (type_of t) s ≡ true → (others : List ℕ) → Within k.names others → stands m locals init false others t ≡ true
   stands_wanted k D e w s v t g f others wi =
-      (sound_typing means signatures k.types m locals init D (wants s) k.names e w (sought_of_asked (length m.classes.classes) (wants s) (result_of_value (length m.classes.classes) s v))).each t g others wi
+      (sound_typing C k.types m locals init D (wants s) k.names e w (sought_of_asked (length m.classes.classes) (wants s) (result_of_value (length m.classes.classes) s v))).each t g others wi
       (or_left (fits m.classes.classes (type_of t) s) (Rattle.py_check_expressions_laws.proofs.Rows.parts_taken m.classes.classes (wants s) (type_of t)) f)
 
   -- a tuple for several targets, whose parts fit them
-  pub stands_parts : (k : Known) → Describes scene k.types m locals → (e : ExprTree) → law.is_written e ≡ true → (ts us : Sorts) → are_value_types (length m.classes.classes) ts ≡ true → (t : TypedExpr) → (typed_at scene k (wants (sort.TupleOf ts)) e).got ≡ Some t → type_of t ≡ sort.TupleOf us → all_fits m.classes.classes us ts ≡ true → (others : List ℕ) → Within k.names others
+  pub stands_parts : (k : Known) → Describes scene k.types m locals init → (e : ExprTree) → law.is_written e ≡ true → (ts us : Sorts) → are_value_types (length m.classes.classes) ts ≡ true → (t : TypedExpr) → (typed_at scene k (wants (sort.TupleOf ts)) e).got ≡ Some t → type_of t ≡ sort.TupleOf us → all_fits m.classes.classes us ts ≡ true → (others : List ℕ) → Within k.names others
       → stands m locals init false others t ≡ true
   stands_parts k D e w ts us v t g q f others wi =
-      (sound_typing means signatures k.types m locals init D (wants (sort.TupleOf ts)) k.names e w v).each t g others wi
-      (subst (λ s. Rattle.py_check_expressions_laws.proofs.Rows.is_held m.classes.classes (wants (sort.TupleOf ts)) s ≡ true) (sym q) (or_right (fits m.classes.classes (sort.TupleOf us) (sort.TupleOf ts)) (all_fits m.classes.classes us ts) f))
+      (sound_typing C k.types m locals init D (wants (sort.TupleOf ts)) k.names e w v).each t g others wi
+      (subst (λ s. is_held m.classes.classes (wants (sort.TupleOf ts)) s ≡ true) (sym q) (or_right (fits m.classes.classes (sort.TupleOf us) (sort.TupleOf ts)) (parts_taken m.classes.classes (wants (sort.TupleOf ts)) (sort.TupleOf us)) (or_left (all_fits m.classes.classes us ts) (not (holds_nothing (sort.TupleOf us))) f)))
+
+  -- and one that holds no None, which need not fit
+  stands_whole : (k : Known) → Describes scene k.types m locals init → (e : ExprTree) → law.is_written e ≡ true → (ts : Sorts) → are_value_types (length m.classes.classes) ts ≡ true → (t : TypedExpr) → (typed_at scene k (wants (sort.TupleOf ts)) e).got ≡ Some t → holds_nothing (type_of t) ≡ false → (others : List ℕ) → Within k.names others
+      → stands m locals init false others t ≡ true
+  stands_whole k D e w ts v t g f others wi =
+      (sound_typing C k.types m locals init D (wants (sort.TupleOf ts)) k.names e w v).each t g others wi
+      (or_right (is_taken m.classes.classes (wants (sort.TupleOf ts)) (type_of t)) (parts_taken m.classes.classes (wants (sort.TupleOf ts)) (type_of t)) (or_right (all_parts m.classes.classes (wants (sort.TupleOf ts)) (type_of t)) (not (holds_nothing (type_of t))) (ap not f)))
 
   -- ---- targets that have a type
 
-  pub item_at_place : (k : Known) → Describes scene k.types m locals → (e : ExprTree) → law.is_written e ≡ true → (b i : TypedExpr) (t : Sort) (place : Span) → (typed_at scene k free e).got ≡ Some (typed (node.At b i) t place) → is_written (type_of b) ≡ true → (others : List ℕ) → Within k.names others
+  pub item_at_place : (k : Known) → Describes scene k.types m locals init → (e : ExprTree) → law.is_written e ≡ true → (b i : TypedExpr) (t : Sort) (place : Span) → (typed_at scene k free e).got ≡ Some (typed (node.At b i) t place) → is_written (type_of b) ≡ true → (others : List ℕ) → Within k.names others
       → (stands m locals init false others b ≡ true) × (stands m locals init false others i ≡ true) × IsItem (length m.classes.classes) (type_of b) (type_of i) t
   item_at_place k D e w b i t place g written others wi =
       let r = parts_of_stands m locals init false others (node.At b i) t place (stands_free k D e w (typed (node.At b i) t place) g others wi) in
       let sb = and_left (stands m locals init false others b) (stands m locals init false others i) r.0 in
       (sb, and_right (stands m locals init false others b) (stands m locals init false others i) r.0, item_is (length m.classes.classes) (type_of b) (type_of i) t written (value_type m locals init false others b sb) r.1)
 
-  pub held_value : (k : Known) → Describes scene k.types m locals → (e : ExprTree) → law.is_written e ≡ true → (target : TypedTarget) (t : Sort) → Held scene k e target t → is_value_type (length m.classes.classes) t ≡ true
+  -- an attribute, by its object and its type
+  pub attribute_at_place : (k : Known) → Describes scene k.types m locals init → (e : ExprTree) → law.is_written e ≡ true → (b : TypedExpr) (a : List ℕ) (t : Sort) (place : Span) → (typed_at scene k free e).got ≡ Some (typed (node.Attr b a) t place) → (others : List ℕ) → Within k.names others
+      → (stands m locals init false others b ≡ true) × (attribute_sort m.classes.classes (type_of b) a ≡ t) × (is_value_type (length m.classes.classes) t ≡ true)
+  attribute_at_place k D e w b a t place g others wi =
+      let r = parts_of_stands m locals init false others (node.Attr b a) t place (stands_free k D e w (typed (node.Attr b a) t place) g others wi) in
+      let q = of_sort (type_of b) r.1 in
+      (r.0, q.0, q.1)
+    where
+      found : (n : ℕ) (o : Option Sort) → attribute_of m.classes.classes n a ≡ o → is_type o t ≡ true → (sort_or_nothing o ≡ t) × (is_value_type (length m.classes.classes) t ≡ true)
+      found n None p h = absurd (cc)
+      found n (Some s) p h = let same = one_type s t h in (same, D.attributes_typed n a t (p ∙ ap Some same))
+
+      of_sort : (s : Sort) → is_type (option_and_then (λ c. attribute_of m.classes.classes c a) (instance_of s)) t ≡ true → (attribute_sort m.classes.classes s a ≡ t) × (is_value_type (length m.classes.classes) t ≡ true)
+      of_sort (sort.Instance n) h = found n (attribute_of m.classes.classes n a) refl h
+      of_sort _ h = absurd (cc)
+
+  pub held_value : (k : Known) → Describes scene k.types m locals init → (e : ExprTree) → law.is_written e ≡ true → (target : TypedTarget) (t : Sort) → Held scene k e target t → is_value_type (length m.classes.classes) t ≡ true
   held_value k D e w target t (held_local x i n q is v) = (D.locals_are i t v).type
   held_value k D e w target t (held_global x i n q is v) = (D.globals_are i t v).type
   held_value k D e w target t (held_item b i place n g written is) = (item_at_place k D e w b i t place g written k.names (λ x h. h)).2.type
+  held_value k D e w target t (held_attribute b a place n g is) = (attribute_at_place k D e w b a t place g k.names (λ x h. h)).2
 
   -- ---- what targets ask for
 
@@ -140,7 +182,7 @@ module _ (means : List ℕ → Meaning) (signatures : List (Option Signature)) (
   some_sorts t None ts h = absurd (cc)
   some_sorts t (Some l) ts h = (l, refl, same_Some (t ∷ l) ts h)
 
-  sorts_sought : (k : Known) → Describes scene k.types m locals → (es : List ExprTree) → list_all law.is_written es ≡ true → (l : List Aim) (parts : Option (List Sort)) → AimsOf scene k parts es l → (ts : List Sort) → held_sorts l ≡ Some ts → are_value_types (length m.classes.classes) (sorts_of ts) ≡ true
+  sorts_sought : (k : Known) → Describes scene k.types m locals init → (es : List ExprTree) → list_all law.is_written es ≡ true → (l : List Aim) (parts : Option (List Sort)) → AimsOf scene k parts es l → (ts : List Sort) → held_sorts l ≡ Some ts → are_value_types (length m.classes.classes) (sorts_of ts) ≡ true
   sorts_sought k D [] w [] parts a ts h = subst (λ z. are_value_types (length m.classes.classes) (sorts_of z) ≡ true) (same_Some [] ts h) refl
   sorts_sought k D [] w (x ∷ l) parts a ts h = absurd a
   sorts_sought k D (e ∷ es) w [] parts a ts h = absurd a
@@ -152,6 +194,7 @@ module _ (means : List ℕ → Meaning) (signatures : List (Option Signature)) (
   sorts_sought k D (e ∷ es) w (first t x ∷ l) parts a ts h = absurd (cc)
   sorts_sought k D (e ∷ es) w (barred x ∷ l) parts a ts h = absurd (cc)
   sorts_sought k D (e ∷ es) w (unwritten s ∷ l) parts a ts h = absurd (cc)
+  sorts_sought k D (e ∷ es) w (lacking s x ∷ l) parts a ts h = absurd (cc)
   sorts_sought k D (e ∷ es) w (misplaced s ∷ l) parts a ts h = absurd (cc)
 
   held_many : (l : List Aim) (ts : List Sort) → held_sorts l ≡ Some ts → length ts ≡ length l
@@ -160,6 +203,7 @@ module _ (means : List ℕ → Meaning) (signatures : List (Option Signature)) (
   held_many (first t x ∷ l) ts h = absurd (cc)
   held_many (barred x ∷ l) ts h = absurd (cc)
   held_many (unwritten s ∷ l) ts h = absurd (cc)
+  held_many (lacking s x ∷ l) ts h = absurd (cc)
   held_many (misplaced s ∷ l) ts h = absurd (cc)
 
   sorts_fit : (ts ss : List Sort) → length ss ≡ length ts → unfit_fault m.classes.classes ts ss ≡ None → all_fits m.classes.classes (sorts_of ss) (sorts_of ts) ≡ true
@@ -179,16 +223,22 @@ module _ (means : List ℕ → Meaning) (signatures : List (Option Signature)) (
       ap (λ l. as_many l n) (listed ts) ∙ ap (λ b. if b then Some ts else None) (eq-eqb (length ts) n e)
 
   -- a tuple whose parts fit what the targets ask for, or that was asked for nothing
-  row_stands : (k : Known) → Describes scene k.types m locals → (es : List ExprTree) → list_all law.is_written es ≡ true → (early : List Aim) → AimsOf scene k None es early → (n : ℕ) → length early ≡ n → (e : ExprTree) → law.is_written e ≡ true → (v : TypedExpr) (ss : List Sort) → items_for (type_of v) n ≡ Some ss → (o : Option (List Sort)) → held_sorts early ≡ o
+  row_stands : (k : Known) → Describes scene k.types m locals init → (es : List ExprTree) → list_all law.is_written es ≡ true → (early : List Aim) → AimsOf scene k None es early → (n : ℕ) → length early ≡ n → (e : ExprTree) → law.is_written e ≡ true → (v : TypedExpr) (ss : List Sort) → items_for (type_of v) n ≡ Some ss → (o : Option (List Sort)) → held_sorts early ≡ o
       → asked_fault m.classes.classes n (option_map tuple_sort o) (type_of v) ≡ None → (typed_at scene k (wants_some (option_map tuple_sort o)) e).got ≡ Some v → (others : List ℕ) → Within k.names others → stands m locals init false others v ≡ true
   row_stands k D es we early a n many e w v ss items None q f g others wi = stands_free k D e w v g others wi
   row_stands k D es we early a n many e w v ss items (Some ts) q f g others wi =
       let i = items_are (type_of v) n ss items in
       let as_asked = held_many early ts q ∙ many in
-      let unfit : unfit_fault m.classes.classes ts ss ≡ None =
-      ap₂ (λ (x y : Option (List Sort)). unfit_fault m.classes.classes (some_parts x) (some_parts y)) (sym (asked_parts ts n as_asked)) (sym items) ∙ f in
-      stands_parts k D e w (sorts_of ts) i.0 (sorts_sought k D es we early None a ts q) v g i.1
-      (subst (λ z. all_fits m.classes.classes z (sorts_of ts) ≡ true) (ap sorts_of (sym i.2) ∙ sorts_again i.0) (sorts_fit ts ss (i.3 ∙ sym as_asked) unfit)) others wi
+      by i as_asked (holds_none (type_of v)) refl f
+    where
+      by : (i : (us : Sorts) × (type_of v ≡ sort.TupleOf us) × (listed_sorts us ≡ ss) × (length ss ≡ n)) → length ts ≡ n → (b : Bool) → holds_none (type_of v) ≡ b
+          → (if b then unfit_fault m.classes.classes (some_parts (items_for (tuple_sort ts) n)) (some_parts (items_for (type_of v) n)) else None) ≡ None → stands m locals init false others v ≡ true
+      by i as_asked false h f = stands_whole k D e w (sorts_of ts) (sorts_sought k D es we early None a ts q) v g (same_holds (type_of v) ∙ h) others wi
+      by i as_asked true h f =
+          let unfit : unfit_fault m.classes.classes ts ss ≡ None =
+          ap₂ (λ (x y : Option (List Sort)). unfit_fault m.classes.classes (some_parts x) (some_parts y)) (sym (asked_parts ts n as_asked)) (sym items) ∙ f in
+          stands_parts k D e w (sorts_of ts) i.0 (sorts_sought k D es we early None a ts q) v g i.1
+          (subst (λ z. all_fits m.classes.classes z (sorts_of ts) ≡ true) (ap sorts_of (sym i.2) ∙ sorts_again i.0) (sorts_fit ts ss (i.3 ∙ sym as_asked) unfit)) others wi
 
   pub fault_fits : (t s : Sort) → again_fault m.classes.classes (Some t) s ≡ None → fits m.classes.classes s t ≡ true
   fault_fits t s h = by (fits m.classes.classes s t) h
@@ -197,16 +247,17 @@ module _ (means : List ℕ → Meaning) (signatures : List (Option Signature)) (
       by true q = refl
       by false q = absurd (cc)
 
-  one_stands : (k : Known) → Describes scene k.types m locals → (t : ExprTree) → law.is_written t ≡ true → (a : Aim) → AimAt scene k (name_in t) t a → (e : ExprTree) → law.is_written e ≡ true → (v : TypedExpr) → binding_fault m.classes.classes a (type_of v) ≡ None
+  one_stands : (k : Known) → Describes scene k.types m locals init → (t : ExprTree) → law.is_written t ≡ true → (a : Aim) → AimAt scene k (name_in t) t a → (e : ExprTree) → law.is_written e ≡ true → (v : TypedExpr) → binding_fault m.classes.classes a (type_of v) ≡ None
       → (typed_at scene k (wants_some (single_sort (a ∷ []))) e).got ≡ Some v → (others : List ℕ) → Within k.names others → stands m locals init false others v ≡ true
   one_stands k D t wt (held u s) a e w v f g others wi = stands_wanted k D e w s (held_value k D t wt u s (aim_held scene k t u s a)) v g (fault_fits s (type_of v) f) others wi
   one_stands k D t wt (first u x) a e w v f g others wi = stands_free k D e w v g others wi
   one_stands k D t wt (barred x) a e w v f g others wi = absurd (cc)
   one_stands k D t wt (unwritten s) a e w v f g others wi = absurd (cc)
+  one_stands k D t wt (lacking s x) a e w v f g others wi = absurd (cc)
   one_stands k D t wt (misplaced s) a e w v f g others wi = absurd (cc)
 
   -- a value of one target stands, where that takes it
-  pub single_stands : (k : Known) → Describes scene k.types m locals → (es : List ExprTree) → list_all law.is_written es ≡ true → (l : List Aim) (parts : Option (List Sort)) → AimsOf scene k parts es l → (e : ExprTree) → law.is_written e ≡ true → (v : TypedExpr) → BoundTo m.classes.classes false l (type_of v)
+  pub single_stands : (k : Known) → Describes scene k.types m locals init → (es : List ExprTree) → list_all law.is_written es ≡ true → (l : List Aim) (parts : Option (List Sort)) → AimsOf scene k parts es l → (e : ExprTree) → law.is_written e ≡ true → (v : TypedExpr) → BoundTo m.classes.classes false l (type_of v)
       → (typed_at scene k (asked_by false (Some l)) e).got ≡ Some v → (others : List ℕ) → Within k.names others → stands m locals init false others v ≡ true
   single_stands k D [] we [] parts a e w v r g others wi = let clash = r.1 in absurd (cc)
   single_stands k D [] we (x ∷ l) parts a e w v r g others wi = absurd a
@@ -219,7 +270,7 @@ module _ (means : List ℕ → Meaning) (signatures : List (Option Signature)) (
   single_stands k D (t ∷ es) we (x ∷ y ∷ l) parts a e w v r g others wi = let clash = r.1 in absurd (cc)
 
   -- THE VALUE of an assignment stands, where its targets take it, and it fits what several of them asked for
-  pub given_stands : (k : Known) → Describes scene k.types m locals → (target : ExprTree) → list_all law.is_written (leaves target) ≡ true → (l : List Aim) (t : Option Sort) → (aims_behind scene k target t).got ≡ Some l → (e : ExprTree) → law.is_written e ≡ true → (v : TypedExpr) → BoundTo m.classes.classes (is_row target) l (type_of v)
+  pub given_stands : (k : Known) → Describes scene k.types m locals init → (target : ExprTree) → list_all law.is_written (leaves target) ≡ true → (l : List Aim) (t : Option Sort) → (aims_behind scene k target t).got ≡ Some l → (e : ExprTree) → law.is_written e ≡ true → (v : TypedExpr) → BoundTo m.classes.classes (is_row target) l (type_of v)
       → FitsAsked m.classes.classes (is_row target) (asked_for scene k target) l (type_of v) → (value_for scene k target e).got ≡ Some v → (others : List ℕ) → Within k.names others → stands m locals init false others v ≡ true
   given_stands k D target we l t h e w v r f g others wi = by (is_row target) refl r f
     where

@@ -3,7 +3,7 @@ use Rattle.std.proofs.Common.{◌≡◌, ℕ, suc, Bool, true, false, List, [], 
 use Rattle.std.proofs.lemmas.Option.{same_Some}
 use Rattle.std.proofs.lemmas.List.{length-map}
 use Rattle.std.specs.Prelude.{is_some}
-use Rattle.std.specs.Option.{option_map}
+use Rattle.std.specs.Option.{option_map, option_and_then}
 use Rattle.value_core.specs.declared.exception.ExcClass.TheVariants.{Exception}
 use Rattle.py_syntax.specs.declared.token.Span.{Span}
 use Rattle.py_syntax.specs.declared.expression.BinOp.{BinOp}
@@ -39,10 +39,10 @@ use Rattle.py_check_expressions.specs.Typing.{arguments}
 use Rattle.py_check_values.specs.Returns as ret
 use Rattle.py_check_values.specs.Returns.{ReturnSort, bare_return, value_return, due}
 use Rattle.py_check_places.specs.Places.{Known, is_unset, fix, is_bound, bind_variable, bind_name, bind_names, with_names, where_test, entering, Way, setting_out, behind_arm}
-use Rattle.py_check_places.specs.Shapes.{is_row, is_item, is_flat, leaves, target_names, bind_target, parts_of}
+use Rattle.py_check_places.specs.Shapes.{is_row, is_item, is_flat, leaves, target_names, bind_target, parts_of, is_access}
 use Rattle.py_check_values.specs.Aims.{Aim}
-use Rattle.py_check_targets.specs.Targets.{name_aim, variable_aim, seen_aim, value_aim, read_aim, targets_of, assigned, declared, given, updated, typed_at, single_aim, aims, target_aims, next_part, more_parts, beyond, aims_behind}
-use Rattle.py_check_assignments.specs.Assignments.{value_for, assigns, binds, declares, annotated_value, gives_value, annotates_name, annotates_other, annotates, binds_annotated, updates_one, updates_row, updates, asked_for}
+use Rattle.py_check_targets.specs.Targets.{name_aim, variable_aim, seen_aim, value_aim, read_aim, targets_of, assigned, declared, given, updated, typed_at, single_aim, aims, target_aims, next_part, more_parts, beyond, aims_behind, other_aim, declared_own, given_own}
+use Rattle.py_check_assignments.specs.Assignments.{value_for, assigns, binds, declares, annotated_value, gives_value, annotates_name, annotates_other, annotates, binds_annotated, updates_one, updates_row, updates, asked_for, annotates_own, annotates_at, updates_single}
 use Rattle.py_check_loops.specs.Loops.{value, range_call, is_range_name, range_arguments, span_of, course_by, course, head, loop_of}
 use Rattle.py_check_loops.specs.Heads.{some_items, for_head, in_for}
 use Rattle.py_check_statements.specs.Deletions.{deletion}
@@ -51,7 +51,7 @@ use Rattle.py_check_exceptions.specs.Handlers.{only, tuple_items, named_class, c
 use Rattle.py_check_exceptions.specs.Handlers as clause
 use Rattle.py_check_statements.specs.declared.bodies.Around.{Around}
 use Rattle.py_check_statements.specs.Bodies.{is_definition, condition, after, node_after, block_after, arms_after, handlers_after, last_after, outside_try, return_wanted, returns, in_loop, around_loop, around_clause, is_last, clause_of, try_of, present, statement, node_statement, block, branches, clauses, maybe_block}
-use Rattle.py_check_expressions_laws.specs.Laws.{is_voiceless, is_untyped, AllHaveTypes}
+use Rattle.py_check_expressions_laws.specs.Laws.{is_voiceless, is_untyped, AllHaveTypes, is_voiceless_member, is_voiceless_init, is_voiceless_inside}
 use Rattle.py_check_expressions_laws.proofs.Inside.{either}
 use Rattle.py_check_expressions_laws.proofs.Loud.{IsLoud, loud_is, loud_fails, none_before, none_behind, both_say, loud_both, loud_made, loud_behind, loud_judged, loud_rule, loud_row, loud_positional, loud_typing, loud_arguments}
 use Rattle.py_check_laws.proofs.Looked.{looked_behind}
@@ -59,10 +59,13 @@ use Rattle.py_check_laws.specs.Statements.{is_judged}
 use Rattle.py_check_laws.proofs.Given.{some_is, rule_given, both_given, made_given}
 use Rattle.py_check.proofs.Bound.{single_bound, name_no_row}
 use Rattle.py_check.proofs.Kept.{fix_cases, is_open, bind_set}
-use Rattle.py_check_laws.proofs.Assigned.{row_bound, items_are, BoundTo, assigned_is, head_is}
+use Rattle.py_check_laws.proofs.Assigned.{row_bound, items_are, BoundTo, assigned_is, head_is, own_single}
 use Rattle.py_check_expressions_laws.proofs.Known.{known_left, known_right, known_name}
 use Rattle.py_check_laws.proofs.KnownParts.{AreKnown, target_read, leaves_read}
 use Rattle.py_check_laws.proofs.Annotated.{loud_if, loud_annotation}
+use Rattle.py_check_context.specs.Members as member
+use Rattle.py_check_context.specs.Members.{Member}
+use Rattle.py_check_targets.specs.Attributes.{own_attribute, lacking_in, lacking_at, is_set_first, class_inside, declaring_fault}
 
 -- ---- variables
 
@@ -184,9 +187,38 @@ module _ (C : Context) where
           let i = items_are t (length l) r.parts r.items in
           subst (λ (l : Known). AllTyped l.types) (sym (row_bound C true k target t r.parts q (ap (Rattle.py_check_values.specs.Assignments.items_for t) (sym n) ∙ r.items))) (typed_names k all (target_names target) r.parts (length-map (leaves target) name_in ∙ sym n ∙ sym i.3))
 
-  module _ (names : (x : List ℕ) → is_voiceless C.signatures (C.meaning x) ≡ false) where
-    all_have : (V : VarSorts) → AllTyped V → AllHaveTypes C V
-    all_have V all = record { names = names; locals = all.locals; globals = all.globals }
+  -- no name in reach but a variable, and no member of a class, is without a type
+  pub record InReach : Type 0 where
+    pub names : (x : List ℕ) → is_voiceless C.signatures (C.meaning x) ≡ false
+    pub members : (n : ℕ) (a : List ℕ) → is_voiceless_member C.signatures (C.member n a) ≡ false
+    pub inits : (n : ℕ) → is_voiceless_init C.signatures (C.init n) ≡ false
+    pub inside : is_voiceless_inside C.signatures C.inside ≡ false
+
+  module _ (reach : InReach) where
+    names : (x : List ℕ) → is_voiceless C.signatures (C.meaning x) ≡ false
+    names x = reach.names x
+
+    pub all_have : (V : VarSorts) → AllTyped V → AllHaveTypes C V
+    all_have V all = record { names = reach.names; locals = all.locals; globals = all.globals; members = reach.members; inits = reach.inits; inside = reach.inside }
+
+    -- so nothing sets an attribute that nothing declares
+    not_first : (o : Option Member) (span : Span) → is_voiceless_member C.signatures o ≡ false → is_set_first o span ≡ false
+    not_first None span h = refl
+    not_first (Some (member.attribute t)) span h = refl
+    not_first (Some member.untyped) span h = absurd (cc)
+    not_first (Some (member.unknown place)) span h = absurd (cc)
+    not_first (Some (member.method f)) span h = refl
+
+    none_lacks : (e : ExprTree) → lacking_in C e ≡ None
+    none_lacks (at n span) = by (own_attribute C.inside (at n span))
+      where
+        in_class : (a : List ℕ) (o : Option ℕ) → is_set_first (option_and_then (λ n. C.member n a) o) span ≡ false
+        in_class a None = refl
+        in_class a (Some n) = not_first (C.member n a) span (reach.members n a)
+
+        by : (o : Option (ExprTree × List ℕ)) → lacking_at C span o ≡ None
+        by None = refl
+        by (Some p) = ap (λ b. if b then Some p else None) (in_class p.1 (class_inside C.inside))
 
     meanings_typed : (x : List ℕ) → Rattle.py_check_annotations.specs.Names.is_untyped (C.meaning x) ≡ false
     meanings_typed x = meaning_typed C.signatures (C.meaning x) (names x)
@@ -203,7 +235,7 @@ module _ (C : Context) where
     loud_value k all w e u = loud_typing C k.types (all_have k.types all) w k.names e u
 
     loud_single : (k : Known) → AllTyped k.types → (x : Option (List ℕ)) (e : ExprTree) → AreKnown C.meaning (reads Value e) → IsLoud (single_aim C k x e)
-    loud_single k all None e u = loud_made (value_aim (is_item e)) (typed_at C k free e) (loud_value k all free e u)
+    loud_single k all None e u = subst (λ o. IsLoud (other_aim C k e o)) (sym (none_lacks e)) (loud_made (value_aim (is_access e)) (typed_at C k free e) (loud_value k all free e u))
     loud_single k all (Some x) e u = loud_seen (name_aim k x (C.meaning x)) (aim_there k all x (C.meaning x))
 
     read_known : (e : ExprTree) (x : List ℕ) → name_in e ≡ Some x → AreKnown C.meaning (reads Value e) → is_unknown (C.meaning x) ≡ false
@@ -263,8 +295,22 @@ module _ (C : Context) where
     other_never k span target mark None = no_part (both (target_aims C k target) (annotation C.meaning mark)).got span no_target
     other_never k span target mark (Some e) = no_part (both (both (target_aims C k target) (annotation C.meaning mark)) (value_for C k target e)).got span no_target
 
+    loud_own : (k : Known) → AllTyped k.types → (span : Span) (a : List ℕ) (target mark : ExprTree) (e : Option ExprTree) → AreKnown C.meaning (target_sights target ++ (reads Annotation mark ++ maybe_reads Value e)) → IsLoud (annotates_own C k span a target mark e)
+    loud_own k all span a target mark None u =
+        let more = (reads Annotation mark ++ maybe_reads Value None) in
+        loud_rule span (declared_own (declaring_fault C.inside a span)) (both (target_aims C k target) (annotation C.meaning mark)) (loud_marked_target k all target mark (front (target_sights target) more u) (front (reads Annotation mark) [] (back (target_sights target) more u)))
+    loud_own k all span a target mark (Some e) u =
+        let s = both (target_aims C k target) (annotation C.meaning mark) in
+        let more = (reads Annotation mark ++ reads Value e) in
+        loud_rule span (given_own C.classes target (declaring_fault C.inside a span)) (both s (value_for C k target e))
+        (loud_both s (value_for C k target e) (loud_marked_target k all target mark (front (target_sights target) more u) (front (reads Annotation mark) (reads Value e) (back (target_sights target) more u))) (loud_value k all _ e (back (reads Annotation mark) (reads Value e) (back (target_sights target) more u))))
+
+    loud_at : (k : Known) → AllTyped k.types → (span : Span) (o : Option (ExprTree × List ℕ)) (target mark : ExprTree) (e : Option ExprTree) → AreKnown C.meaning (target_sights target ++ (reads Annotation mark ++ maybe_reads Value e)) → IsLoud (annotates_at C k span o target mark e)
+    loud_at k all span None target mark e u = loud_other k all span target mark e u
+    loud_at k all span (Some p) target mark e u = loud_own k all span p.1 target mark e u
+
     loud_annotates : (k : Known) → AllTyped k.types → (span : Span) (x : Option (List ℕ)) (target mark : ExprTree) (e : Option ExprTree) → AreKnown C.meaning (target_sights target ++ (reads Annotation mark ++ maybe_reads Value e)) → IsLoud (annotates C k span x target mark e)
-    loud_annotates k all span None target mark e u = loud_other k all span target mark e u
+    loud_annotates k all span None target mark e u = loud_at k all span (own_attribute C.inside target) target mark e u
     loud_annotates k all span (Some x) target mark e u = loud_annotates_name k all span x mark e (back (target_sights target) (reads Annotation mark ++ maybe_reads Value e) u)
 
     loud_row_update : (k : Known) → AllTyped k.types → (span : Span) (target e : ExprTree) → AreKnown C.meaning (target_sights target ++ reads Value e) → IsLoud (updates_row C k span target e)
@@ -273,10 +319,12 @@ module _ (C : Context) where
 
     loud_one_update : (k : Known) → AllTyped k.types → (span : Span) (target : ExprTree) (op : BinOp) (e : ExprTree) → AreKnown C.meaning (target_sights target ++ reads Value e) → IsLoud (updates_one C k span target op e)
     loud_one_update k all span target op e u =
-        loud_rule span (updated C.classes span op (read_aim C k (name_in target) (is_item target))) (both (typed_at C k free target) (typed_at C k free e)) (loud_both (typed_at C k free target) (typed_at C k free e) (loud_value k all free target (target_read C.meaning target (front (target_sights target) (reads Value e) u))) (loud_value k all free e (back (target_sights target) (reads Value e) u)))
+        loud_rule span (updated C.classes span op (read_aim C k (name_in target) (is_access target))) (both (typed_at C k free target) (typed_at C k free e)) (loud_both (typed_at C k free target) (typed_at C k free e) (loud_value k all free target (target_read C.meaning target (front (target_sights target) (reads Value e) u))) (loud_value k all free e (back (target_sights target) (reads Value e) u)))
 
     loud_updates : (k : Known) → AllTyped k.types → (span : Span) (target : ExprTree) (op : BinOp) (e : ExprTree) → AreKnown C.meaning (target_sights target ++ reads Value e) → IsLoud (updates C k span target op e)
-    loud_updates k all span target op e u = loud_if (is_row target) (updates_row C k span target e) (updates_one C k span target op e) (loud_row_update k all span target e u) (loud_one_update k all span target op e u)
+    loud_updates k all span target op e u =
+        loud_if (is_row target) (updates_row C k span target e) (updates_single C k span (lacking_in C target) target op e) (loud_row_update k all span target e u)
+        (subst (λ o. IsLoud (updates_single C k span o target op e)) (sym (none_lacks target)) (loud_one_update k all span target op e u))
 
     range_read : (e : ExprTree) (args : Arguments) → range_arguments C e ≡ Some args → AreKnown C.meaning (reads Value e) → AreKnown C.meaning (arguments_reads Value args)
     range_read (at (tree.Call f given) span) args q u = by (is_range_name C (name_in f)) q
@@ -395,7 +443,13 @@ module _ (C : Context) where
         subst (λ (l : Known). AllTyped l.types) (sym (bound_same k target (is_some s.got) (option_map type_of (annotated_value C k x e).got) (type_of r.0.1) (some_is s.got g.0 g.1) (ap (option_map type_of) b.1))) (typed_single k all target (type_of r.0.1) (name_no_row target x n))
 
     quiet_annotated : (k : Known) → AllTyped k.types → (span : Span) (x : Option (List ℕ)) (target mark : ExprTree) (e : Option ExprTree) → name_in target ≡ x → AreKnown C.meaning (target_sights target ++ (reads Annotation mark ++ maybe_reads Value e)) → (annotates C k span x target mark e).said ≡ [] → AllTyped (binds_annotated C k span x target mark e).types
-    quiet_annotated k all span None target mark e n u h = absurd ((loud_other k all span target mark e u).says (other_never k span target mark e) h)
+    quiet_annotated k all span None target mark e n u h = by (own_attribute C.inside target) refl h
+      where
+        by : (o : Option (ExprTree × List ℕ)) → own_attribute C.inside target ≡ o → (annotates_at C k span o target mark e).said ≡ [] → AllTyped (bind_target C false k target None).types
+        by None q g = absurd ((loud_other k all span target mark e u).says (other_never k span target mark e) g)
+        by (Some p) q g =
+            let s = own_single C.inside target p q in
+            subst (λ (l : Known). AllTyped l.types) (sym (single_bound C false k target None s.0 ∙ ap (λ o. bind_name C false k o None) s.1)) all
     quiet_annotated k all span (Some x) target mark e n u h = quiet_name k all span x target mark e n (back (target_sights target) (reads Annotation mark ++ maybe_reads Value e) u) h
 
     kept_name : (k : Known) → AllTyped k.types → (x : Option (List ℕ)) → ((y : List ℕ) → x ≡ Some y → is_open k.types (C.meaning y) ≡ false) → AllTyped (bind_name C false k x None).types
@@ -405,16 +459,16 @@ module _ (C : Context) where
     quiet_one : (k : Known) → AllTyped k.types → (span : Span) (target : ExprTree) (op : BinOp) (e : ExprTree) → is_row target ≡ false → AreKnown C.meaning (target_sights target ++ reads Value e) → (updates_one C k span target op e).said ≡ [] → AllTyped (bind_target C false k target None).types
     quiet_one k all span target op e n u h =
         let g = quiet_got (updates_one C k span target op e) (loud_one_update k all span target op e u) h in
-        let r = rule_given span (updated C.classes span op (read_aim C k (name_in target) (is_item target))) (both (typed_at C k free target) (typed_at C k free e)) g.0 g.1 in
+        let r = rule_given span (updated C.classes span op (read_aim C k (name_in target) (is_access target))) (both (typed_at C k free target) (typed_at C k free e)) g.0 g.1 in
         let b = both_given (typed_at C k free target) (typed_at C k free e) r.0 r.1 in
         subst (λ (l : Known). AllTyped l.types) (sym (single_bound C false k target None n)) (kept_name k all (name_in target) (λ y q. read_set k target y q r.0.0 b.0))
 
     quiet_update : (k : Known) → AllTyped k.types → (span : Span) (target : ExprTree) (op : BinOp) (e : ExprTree) → AreKnown C.meaning (target_sights target ++ reads Value e) → (updates C k span target op e).said ≡ [] → AllTyped (bind_target C false k target None).types
     quiet_update k all span target op e u h = by (is_row target) refl h
       where
-        by : (b : Bool) → is_row target ≡ b → (if b then updates_row C k span target e else updates_one C k span target op e).said ≡ [] → AllTyped (bind_target C false k target None).types
+        by : (b : Bool) → is_row target ≡ b → (if b then updates_row C k span target e else updates_single C k span (lacking_in C target) target op e).said ≡ [] → AllTyped (bind_target C false k target None).types
         by true q f = absurd ((loud_row_update k all span target e u).says (no_part (both (target_aims C k target) (typed_at C k free e)).got span no_target) f)
-        by false q f = quiet_one k all span target op e q u f
+        by false q f = quiet_one k all span target op e q u (ap (λ o. (updates_single C k span o target op e).said) (sym (none_lacks target)) ∙ f)
 
     quiet_head : (k : Known) → AllTyped k.types → (s : StmtTree) (span : Span) (target e : ExprTree) → AreKnown C.meaning (target_sights target) → AreKnown C.meaning (reads Value e) → (for_head C k s span target e).said ≡ [] → AllTyped (in_for C k s span target e).types
     quiet_head k all s span target e ut u h =

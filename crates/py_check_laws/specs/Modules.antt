@@ -1,24 +1,25 @@
 -- What holds of the typing of every module.
-use Rattle.std.specs.Prelude.{◌≡◌, ℕ, suc, Bool, true, false, ◌&&◌, List, [], ◌∷◌, ◌++◌, map, Some, None, is_some}
-use Rattle.std.specs.List.{list_all}
+use Rattle.std.specs.Prelude.{◌≡◌, ℕ, suc, Bool, true, false, ◌&&◌, List, [], ◌∷◌, ◌++◌, map, Option, Some, None, is_some}
+use Rattle.std.specs.List.{list_all, flat_map}
 use Rattle.py_syntax.specs.Statements.{Suite}
 use Rattle.py_binder.specs.Scope.{module_scope, functions}
+use Rattle.py_typed.specs.Classes.{ClassEntry}
 use Rattle.py_typed.specs.Statements.{TypedFunc, TypedModule}
 use Rattle.py_typed.specs.WellTyped.{suite_typed, all_differ}
-use Rattle.py_typed.specs.WellTypedModule.{is_well_typed}
+use Rattle.py_typed.specs.WellTypedModule.{names_of, is_well_typed}
 use Rattle.py_typed.specs.WellTypedExpr.{init_class}
 use Rattle.py_check_context.specs.Context.{VarSort, has, var_at}
 use Rattle.py_check_names.specs.Meanings.{variables, own_names}
 use Rattle.py_check_signatures.specs.Headers.{signature_of}
 use Rattle.py_check_definitions.specs.Definitions.{Headed, headed_functions}
-use Rattle.py_check.specs.Module.{ModuleContext, context_in, own_statements, body, body_after, global_sorts, module_context, diagnostics, typed}
+use Rattle.py_check.specs.Module.{ModuleContext, context_in, function_context, own_statements, body, body_after, global_sorts, module_context, diagnostics, typed}
 use Rattle.py_check_laws.specs.WellTyped.{is_suite_written, is_filled}
 
--- the signature of each function, what it returns and its body have a typed form
+-- the signature of each function and method, what it returns and its body have a typed form
 abbrev pub are_typed : ModuleContext → List VarSort → List Headed → Bool
 are_typed e sorts [] = true
 are_typed e sorts (f ∷ more) =
-    is_some (signature_of f.header) && is_some f.header.ret && is_some (body (context_in e f.inside) e.variables sorts f).got
+    is_some (signature_of f.header) && is_some f.header.ret && is_some (body (function_context e f) e.variables sorts f).got
     && are_typed e sorts more
 
 -- and so have the module's own statements
@@ -46,7 +47,7 @@ all_have_types types i (name ∷ more) = has_type (var_at types i) && all_have_t
 abbrev pub are_own_typed : ModuleContext → List VarSort → List Headed → Bool
 are_own_typed e sorts [] = true
 are_own_typed e sorts (f ∷ more) =
-    all_have_types (body_after (context_in e f.inside) e.variables sorts f).types.locals 0 (own_names f.inside) && are_own_typed e sorts more
+    all_have_types (body_after (function_context e f) e.variables sorts f).types.locals 0 (own_names f.inside) && are_own_typed e sorts more
 
 -- and those of the module, behind its own statements
 abbrev pub are_variables_typed : Suite → Bool
@@ -76,17 +77,34 @@ QuietModuleStands = (m : Suite) → diagnostics m ≡ [] → is_module_written m
 
 -- ---- names
 
--- where nothing is said of a module, its variables and its functions have names that differ
+-- the name of a function that is no method
+abbrev pub name_if : Option ℕ → List ℕ → List (List ℕ)
+name_if None name = name ∷ []
+name_if (Some c) name = []
+
+abbrev pub function_name : TypedFunc → List (List ℕ)
+function_name f = name_if f.class f.name
+
+-- the names of a module: those of its variables, of its functions but for methods, and of its classes
+abbrev pub all_names : Suite → List (List ℕ)
+all_names m = variables (module_scope m) ++ (flat_map function_name (typed m).funcs ++ map (λ c. c.name) (typed m).classes.classes)
+
+-- where nothing is said of a module, its names differ
 abbrev pub QuietModuleNamesDiffer : Type 0
-QuietModuleNamesDiffer = (m : Suite) → diagnostics m ≡ [] → all_differ (variables (module_scope m) ++ map (λ f. f.name) (functions m)) ≡ true
+QuietModuleNamesDiffer = (m : Suite) → diagnostics m ≡ [] → all_differ (all_names m) ≡ true
 
 -- ---- the whole
+
+-- a class whose name, and those of whose members, a text can write
+abbrev pub is_entry_named : (List ℕ → Bool) → ClassEntry → Bool
+is_entry_named is_identifier c = is_identifier c.name && list_all is_identifier (names_of c.attributes ++ names_of c.methods)
 
 -- names that a text can write, and bodies that are not empty
 abbrev pub are_names_written : (List ℕ → Bool) → Suite → Bool
 are_names_written is_identifier m =
     list_all is_identifier (variables (module_scope m))
     && list_all (λ f. is_identifier f.tree.name && list_all is_identifier (own_names f.inside) && is_filled f.tree.body) (headed_functions m)
+    && list_all (is_entry_named is_identifier) (module_context m).classes
 
 -- where nothing is said of a module that a text can write, its typed tree is a well typed module
 abbrev pub QuietModuleIsWellTyped : Type 0

@@ -73,7 +73,7 @@ module _ (meanings : List ℕ → Meaning) where
 -- typing knew, typing knows. In a function with these variables, of a module that the context describes where they end
 abbrev pub TypedBlockKnowsNoMore : Type 0
 TypedBlockKnowsNoMore =
-    (c : Context) (ret : ReturnSort) (a : Around) (k : Known) (body : Suite) (m : TypedModule) (locals : List Variable) (init : Option ℕ) (result : Option Sort) → IsScope c k.types → Describes c (block_after c k body).types m locals
+    (c : Context) (ret : ReturnSort) (a : Around) (k : Known) (body : Suite) (m : TypedModule) (locals : List Variable) (init : Option ℕ) (result : Option Sort) → IsScope c k.types → Describes c (block_after c k body).types m locals init
     → is_suite_written body ≡ true → is_bare_suite c.meaning body ≡ true → (ts : List TypedStmt) → (block c ret a k body).got ≡ Some ts → (known : List ℕ) → Within known k.names
     → Within (after_suite (is_single m locals init result) known (suite_of ts)) (block_after c k body).names
 
@@ -98,7 +98,7 @@ WhileBodyKnowsNoMore =
 abbrev pub ForBodyKnowsNoMore : Type 0
 ForBodyKnowsNoMore =
     (c : Context) (ret : ReturnSort) (a : Around) (k : Known) (span : Span) (target e : ExprTree) (body : Suite) (m : TypedModule) (locals : List Variable) (init : Option ℕ) (result : Option Sort) → IsScope c k.types
-    → Describes c (in_for c k (node.at (node.For target e body) span) span target e).types m locals → is_written e ≡ true → is_bare_suite c.meaning body ≡ true
+    → Describes c (in_for c k (node.at (node.For target e body) span) span target e).types m locals init → is_written e ≡ true → is_bare_suite c.meaning body ≡ true
     → (targets : List TypedTarget) (over : Course) (item : Sort) → (for_head c k (node.at (node.For target e body) span) span target e).got ≡ Some (targets, over) → course_items over ≡ Some item
     → (ts : List TypedStmt) → (block c ret (around_loop a) (in_for c k (node.at (node.For target e body) span) span target e) body).got ≡ Some ts
     → (known : List ℕ) → Within known k.names

@@ -25,8 +25,8 @@ abbrev pub is_judged : ReturnSort → Bool
 is_judged untyped = false
 is_judged r = true
 
--- where no name in reach is without a type, statements of a module or of a function in which each name that is read or bound is
--- known, and of which nothing is said, are typed whole, and behind them no name is without a type
+-- where no name in reach and no member of a class is without a type, statements of a module or of a function in which each name that is
+-- read or bound is known, and of which nothing is said, are typed whole, and behind them no name is without a type
 abbrev pub QuietBlockIsTyped : Type 0
 QuietBlockIsTyped =
     (c : Context) (home : Home) (ret : ReturnSort) (a : Around) (k : Known) (body : Suite) → is_judged ret ≡ true → AllHaveTypes c k.types
@@ -39,6 +39,6 @@ QuietBlockIsTyped =
 -- type keeps it, so it describes all that comes before too. In a function nothing is defined and nothing imported
 abbrev pub TypedBlockIsWellTyped : Type 0
 TypedBlockIsWellTyped =
-    (c : Context) (ret : ReturnSort) (a : Around) (k : Known) (body : Suite) (m : TypedModule) (locals : List Variable) (init : Option ℕ) (result : Option Sort) → IsScope c k.types → IsResult (length c.classes) ret result → Describes c (block_after c k body).types m locals
+    (c : Context) (ret : ReturnSort) (a : Around) (k : Known) (body : Suite) (m : TypedModule) (locals : List Variable) (init : Option ℕ) (result : Option Sort) → IsScope c k.types → IsResult (length c.classes) ret result → Describes c (block_after c k body).types m locals init
     → is_suite_written body ≡ true → (is_some result ≡ true → suite_definitions body ≡ []) → (ts : List TypedStmt) → (block c ret a k body).got ≡ Some ts → (known : List ℕ) → Within k.names known
     → (suite_typed m locals init result known a.looping a.handling (suite_of ts) ≡ true) × Within (block_after c k body).names (after_suite (is_single m locals init result) known (suite_of ts))

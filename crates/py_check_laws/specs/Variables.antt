@@ -16,14 +16,15 @@ use Rattle.py_check_context.specs.declared.scope.Meaning.TheVariants as meaning
 use Rattle.py_check_context.specs.Context.{Context, VarSort, unset, VarSorts, var_at}
 use Rattle.py_check_flow.specs.Bindings.{bound_names, name_in, suite_bindings}
 use Rattle.py_check_annotations.specs.Annotations.{annotation}
-use Rattle.py_check_names.specs.Meanings.{variables, module_meaning}
+use Rattle.py_check_names.specs.Meanings.{variables}
+use Rattle.py_check_definitions.specs.Names.{module_meaning}
 use Rattle.py_check_calls.specs.Callees.{is_variable}
 use Rattle.py_check_places.specs.Places.{Known, first_type, is_unset}
 use Rattle.py_check_assignments.specs.Assignments.{value_for, assigns}
 use Rattle.py_check_statements.specs.Bodies.{block_after}
 use Rattle.py_check_definitions.specs.Definitions.{Headed, headed_functions}
 use Rattle.py_check_definitions.specs.Starts.{given_sort, first_mark}
-use Rattle.py_check.specs.Module.{context_in, body_after, global_sorts, module_context}
+use Rattle.py_check.specs.Module.{function_context, body_after, global_sorts, module_context}
 use Rattle.py_check.specs.Fixed.{is_there}
 use Rattle.py_check_laws.specs.WellTyped.{IsScope}
 
@@ -81,7 +82,7 @@ ModuleFixesTypes =
 abbrev pub BodiesFixNothing : Type 0
 BodiesFixNothing =
     (m : Suite) (f : Headed)
-    → (body_after (context_in (module_context m) f.inside) (module_context m).variables (global_sorts (module_context m) (module_scope m) (headed_functions m) m) f).types.globals ≡ global_sorts (module_context m) (module_scope m) (headed_functions m) m
+    → (body_after (function_context (module_context m) f) (module_context m).variables (global_sorts (module_context m) (module_scope m) (headed_functions m) m) f).types.globals ≡ global_sorts (module_context m) (module_scope m) (headed_functions m) m
 
 -- one whose first binding is annotated has the type of that annotation, if it has one
 abbrev pub AnnotationsGiveTypes : Type 0

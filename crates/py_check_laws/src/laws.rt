@@ -5,8 +5,8 @@ ghost use Rattle.py_check_laws.specs.Narrowing.{ForBodyKnowsNoMore, TestKnowsNoM
 ghost use Rattle.py_check_laws.specs.Statements.{QuietBlockIsTyped, TypedBlockIsWellTyped};
 ghost use Rattle.py_check_laws.specs.Variables.{AnnotationsGiveTypes, BindingsGiveTypes, BodiesFixNothing, FirstAssignmentsGiveTypes, ModuleFixesTypes, OnlyBindingsGiveTypes, TypesStay};
 
-/// Where no name in reach is without a type and each name in a block is known, a block of which nothing is said is typed whole, and no
-/// name is without a type behind it.
+/// Where no name in reach and no member of a class is without a type, and each name in a block is known, a block of which nothing is
+/// said is typed whole, and no name is without a type behind it.
 pub fn what_is_not_typed_in_a_block_has_said_why()
     ensures { QuietBlockIsTyped }
 {}
@@ -37,8 +37,8 @@ pub fn the_body_of_a_for_knows_no_more()
     ensures { ForBodyKnowsNoMore }
 {}
 
-/// All that is said of a statement is at its own place, or else it is what is said of its parts: of both only of a `for`, whose own
-/// entry stands in front of those of its body.
+/// All that is said of a statement, wherever it stands, is the same messages at its own place, or else what is said of its parts: of
+/// both only of a `for`, whose own entry stands in front of those of its body.
 pub fn a_statement_has_an_entry_or_its_parts_have()
     ensures { StatementOwnOrOfParts }
 {}
@@ -95,7 +95,7 @@ pub fn statements_of_a_quiet_module_are_well_typed()
     ensures { QuietModuleStands }
 {}
 
-/// In a module of which nothing is said the variables of the module and its functions have names that differ.
+/// In a module of which nothing is said the names of its variables, its classes and its functions, but for methods, differ.
 pub fn names_of_a_quiet_module_differ()
     ensures { QuietModuleNamesDiffer }
 {}

@@ -1,5 +1,5 @@
 -- The head of a `for`, typed by computing.
-use Rattle.std.proofs.Common.{◌≡◌, refl, ℕ, List, [], ◌∷◌, codes}
+use Rattle.std.proofs.Common.{◌≡◌, refl, ℕ, List, [], ◌∷◌, None, codes}
 use Rattle.std.specs.Prelude.{unwrap_or}
 use Rattle.std.specs.Map.{lookup}
 use Rattle.std.specs.Str.{bytes_eq}
@@ -29,6 +29,9 @@ c = record {
   meaning = λ x. unwrap_or (lookup (bytes_eq x) names) meaning.Unknown;
   signatures = [];
   classes = [];
+  member = λ n a. None;
+  init = λ n. None;
+  inside = None;
 }
 
 -- where y is known not to be None

@@ -215,18 +215,19 @@ fn is_name_aim(a: &Aim<'_>) -> bool
     ensures { result ≡ targets.is_name_aim (aim_seen a.now) }
 {
     match a {
-        Aim::Held(target, _) => !is_item_target(target),
+        Aim::Held(target, _) => is_name_target(target),
         Aim::First(_, _) => true,
         Aim::Barred(_) => true,
         Aim::Unwritten(_) => false,
+        Aim::Lacking(_, _) => false,
         Aim::Misplaced(_) => false,
     }
 }
 
-fn is_item_target(target: &Target) -> bool
-    ensures { result ≡ targets.is_item_target (typed_target target.now) }
+fn is_name_target(target: &Target) -> bool
+    ensures { result ≡ targets.is_name_target (typed_target target.now) }
 {
-    matches!(target, Target::At(_, _))
+    matches!(target, Target::Local(_) | Target::Global(_))
 }
 
 // Whether items of a type may be bound to targets; what is wrong is said.
@@ -272,6 +273,7 @@ fn put_target(found: &mut Many<Target>, a: Aim<'_>) -> Result<(), Memory>
         Aim::First(target, _) => found.push(target),
         Aim::Barred(_) => Ok(()),
         Aim::Unwritten(_) => Ok(()),
+        Aim::Lacking(_, _) => Ok(()),
         Aim::Misplaced(_) => Ok(()),
     }
 }

@@ -2,4 +2,3 @@ pub mod WalkLemmas
 pub mod TableLemmas
 pub mod OutlineLemmas
 pub mod MeaningLemmas
-mod Examples

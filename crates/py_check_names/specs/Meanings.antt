@@ -6,15 +6,13 @@ use Rattle.std.specs.Prelude.{ℕ, Bool, true, false, List, map, filter, Option,
 use Rattle.std.specs.List.{position_or_len}
 use Rattle.std.specs.Map.{lookup}
 use Rattle.std.specs.Str.{bytes_eq}
-use Rattle.py_syntax.specs.Statements.{Suite, FuncTree}
 use Rattle.py_binder.specs.declared.scope.Role.{Role}
 use Rattle.py_binder.specs.declared.scope.Role.TheVariants as role
 use Rattle.py_binder.specs.declared.scope.Scope.{Scope}
-use Rattle.py_binder.specs.Scope.{first_sights, is_variable, module_scope, module_role, function_scope}
+use Rattle.py_binder.specs.Scope.{first_sights, is_variable}
 use Rattle.py_check_context.specs.declared.scope.Meaning.{Meaning}
 use Rattle.py_check_context.specs.declared.scope.Meaning.TheVariants.{Local, Global, Untyped, Unknown}
 use Rattle.py_check_names.specs.Builtins.{builtin_meaning}
-use Rattle.py_check_names.specs.Outline.{suite_definitions, said_from}
 
 -- a name of a function's own
 abbrev pub is_own : Role → Bool
@@ -52,15 +50,3 @@ module _ (said : List ℕ → Option Meaning) (outer inner : List (List ℕ)) wh
 abbrev pub meaning_in : (List ℕ → Option Meaning) → List (List ℕ) → Scope → List ℕ → Meaning
 meaning_in said outer inside name =
     unwrap_or (lookup (bytes_eq name) (map (λ p. (p.0, by_role said outer (own_names inside) p.0 p.1)) inside.names)) Unknown
-
--- ---- over the tree
-
-abbrev pub said_in : Suite → List ℕ → Option Meaning
-said_in m name = lookup (bytes_eq name) (said_from 0 (suite_definitions m))
-
--- WHAT A NAME MEANS in a module, and in a function of it
-abbrev pub module_meaning : Suite → List ℕ → Meaning
-module_meaning m = meaning_in (said_in m) (variables (module_scope m)) (module_scope m)
-
-abbrev pub function_meaning : Suite → FuncTree → List ℕ → Meaning
-function_meaning m f = meaning_in (said_in m) (variables (module_scope m)) (function_scope (module_role m) f)

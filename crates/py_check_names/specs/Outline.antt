@@ -1,8 +1,8 @@
 -- The definitions and imports of a module, and what they make of names (Python Language Reference, "Naming and binding").
 --
--- Functions are numbered in the order of the text, methods at the place of their class. A class has no type yet. An import of
--- a name that may be imported, under its own name, means what that is; a statement that imports anything else is refused
--- whole, and its names have no type.
+-- Functions are numbered in the order of the text, methods at the place of their class. Whether a class has a type is not asked here.
+-- An import of a name that may be imported, under its own name, means what that is; a statement that imports anything else is
+-- refused whole, and its names have no type.
 use Rattle.std.specs.Prelude.{ℕ, ◌+◌, Bool, true, false, ◌&&◌, List, [], ◌∷◌, ◌++◌, map, length, Option, is_some, is_none, unwrap_or}
 use Rattle.std.specs.List.{list_all}
 use Rattle.py_syntax.specs.declared.token.Span.{Span}

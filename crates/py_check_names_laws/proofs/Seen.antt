@@ -189,7 +189,7 @@ module _ (tests : Tests) where
     act_pass h (s.Try body handlers last) span p =
         two (suite_sights h body) (handlers_sights h handlers ++ maybe_suite_sights h last) (suite_pass h body p.2) (two (handlers_sights h handlers) (maybe_suite_sights h last) (handlers_pass h handlers p.3) (last_pass h last p.4))
     act_pass h (s.Def name params ret body marks) span p = def_pass h (record { name = name; params = params; ret = ret; body = body; marks = marks }) span p
-    act_pass h (s.ClassDef name bases body marks) span p = class_pass h (record { name = name; bases = bases; body = body; marks = marks }) span p
+    act_pass h (s.ClassDef name bases body marks) span p = class_pass h (record { name = name; bases = bases; body = body; marks = marks }) span p.1
 
     -- ALL that is seen of statements passes
     pub suite_pass : (h : Home) (body : Suite) → SuitePasses tests body → SightsPass (suite_sights h body)

@@ -14,6 +14,12 @@ abbrev pub is_item : ExprTree → Bool
 is_item (at (tree.Index e i) span) = true
 is_item e = false
 
+-- an item or an attribute
+abbrev pub is_access : ExprTree → Bool
+is_access (at (tree.Index e i) span) = true
+is_access (at (tree.Attr e a) span) = true
+is_access e = false
+
 abbrev pub is_row : ExprTree → Bool
 is_row (at (tree.TupleOf es) span) = true
 is_row (at (tree.ListOf es) span) = true

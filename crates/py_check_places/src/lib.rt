@@ -12,4 +12,4 @@ mod shapes;
 pub use names::bind_target;
 pub use parts::{parts_of, some_parts};
 pub use places::{Place, all_known, bind_name, enter, known_behind, learn, meet};
-pub use shapes::{is_flat, is_item, is_row, leaves};
+pub use shapes::{is_access, is_flat, is_item, is_row, leaves};

@@ -52,6 +52,17 @@ pub fn is_item(e: &Expr) -> bool
     matches!(e.kind, ExprKind::Index(_, _))
 }
 
+/// Whether an expression is an item or an attribute.
+pub fn is_access(e: &Expr) -> bool
+    ensures { result ≡ shapes.is_access (expr_tree e.now) }
+{
+    match e.kind {
+        ExprKind::Index(_, _) => true,
+        ExprKind::Attr(_, _) => true,
+        _ => false,
+    }
+}
+
 /// Whether an expression is a tuple or a list.
 pub fn is_row(e: &Expr) -> bool
     ensures { result ≡ shapes.is_row (expr_tree e.now) }

@@ -1,2 +1,3 @@
 pub mod DefinitionLemmas
+mod HeaderLemmas
 mod Examples

@@ -9,16 +9,17 @@ use Rattle.py_check_messages.specs.Seen.{Message}
 use Rattle.py_check_messages.specs.Messages as message
 use Rattle.py_check_signatures.specs.declared.headers.Header.{Header}
 use Rattle.py_check_signatures.specs.declared.definitions.DefFault.{DefFault}
-use Rattle.py_check_signatures.specs.declared.definitions.DefFault.TheVariants.{AlreadyDefined, Decorated, DuplicateParameter, BuiltinName, MissingAnnotation, TooManyNames, MissingReturn}
+use Rattle.py_check_signatures.specs.declared.definitions.DefFault.TheVariants.{AlreadyDefined, OutsideProfile, SelfMissing, DuplicateParameter, BuiltinName, MissingAnnotation, TooManyNames, MissingReturn}
 use Rattle.py_check_signatures.specs.Headers.{HeaderSorts}
 
 abbrev pub header_sorts : Header → HeaderSorts
-header_sorts h = record { params = map (option_map sort) h.params; ret = option_map sort h.ret; typed = h.typed }
+header_sorts h = record { owner = h.owner; params = map (option_map sort) h.params; ret = option_map sort h.ret; typed = h.typed }
 
 -- the text of a fault of the function of this name
 abbrev pub fault_message : List ℕ → DefFault → Message
 fault_message name AlreadyDefined = message.already_defined name
-fault_message name Decorated = message.outside_profile name
+fault_message name OutsideProfile = message.outside_profile name
+fault_message name SelfMissing = message.self_missing name
 fault_message name (DuplicateParameter x) = message.duplicate_parameter x.now
 fault_message name (BuiltinName x) = message.cannot_assign x.now
 fault_message name MissingAnnotation = message.missing_annotation

@@ -9,13 +9,13 @@ ghost use Rattle.py_check_messages.specs.Seen.{diag};
 ghost use Rattle.py_check_signatures.specs.Views.{header_sorts, fault_message, parts};
 ghost use Rattle.py_check_signatures.specs.Definitions as spec;
 
-use crate::headers::Header;
+use crate::headers::{Header, Owner, asked, is_init};
 use indexmap::IndexSet;
 use py_binder::Scope;
 use py_check_flow::is_closed;
 use py_check_messages::{
     already_defined, cannot_assign, duplicate_parameter, missing_annotation, missing_return,
-    outside_profile, too_many_names,
+    outside_profile, self_missing, too_many_names,
 };
 use py_check_names::{builtin_meaning, is_own};
 use py_syntax::{Expr, Func, Span};
@@ -28,7 +28,8 @@ use value_core::{Many, Memory, Name};
 #[derive(Clone, Copy)]
 pub(crate) enum DefFault<'a> {
     AlreadyDefined,
-    Decorated,
+    OutsideProfile,
+    SelfMissing,
     DuplicateParameter(&'a Name),
     BuiltinName(&'a Name),
     MissingAnnotation,
@@ -97,7 +98,7 @@ fn add_fault(
         return Ok(());
     }
     let twice = repeated(alloc, f)?;
-    match def_fault(fresh, own, f, twice, &header.ret) {
+    match def_fault(header, fresh, own, f, twice) {
         Some(fault) => say(alloc, span, &f.name, fault, faults),
         None => Ok(()),
     }
@@ -115,19 +116,22 @@ fn no_marks(marks: &[Expr]) -> bool
 
 /// What is wrong with a definition, where this parameter stands twice.
 fn def_fault<'a>(
+    header: &Header,
     fresh: bool,
     own: usize,
     f: &'a Func,
     twice: Option<&'a Name>,
-    ret: &Option<Ty>,
 ) -> Option<DefFault<'a>>
-    ensures { option_map (fault_message (parts f.now).name) result ≡ spec.fault_by fresh own (parts f.now) (option_copied twice.entry) (option_map sort ret.now) }
+    ensures { option_map (fault_message (parts f.now).name) result ≡ spec.fault_by header.now.owner fresh own (parts f.now) (option_copied twice.entry) (header_sorts header.now).ret }
 {
     if !fresh {
         return Some(DefFault::AlreadyDefined);
     }
-    if !no_marks(f.marks.as_slice()) {
-        return Some(DefFault::Decorated);
+    if is_outside(header.owner, f) {
+        return Some(DefFault::OutsideProfile);
+    }
+    if lacks_own(header.owner, f.params.as_slice()) {
+        return Some(DefFault::SelfMissing);
     }
     if let Some(x) = twice {
         return Some(DefFault::DuplicateParameter(x));
@@ -135,29 +139,85 @@ fn def_fault<'a>(
     if let Some(x) = builtin_param(f) {
         return Some(DefFault::BuiltinName(x));
     }
-    body_fault(own, f, ret)
+    body_fault(header, own, f)
 }
 
-fn body_fault<'a>(own: usize, f: &'a Func, ret: &Option<Ty>) -> Option<DefFault<'a>>
-    ensures { option_map (fault_message (parts f.now).name) result ≡ spec.body_fault own (parts f.now) (option_map sort ret.now) }
+/// Whether a function of this owner has a decorator, a name or an annotation that has no place there.
+fn is_outside(owner: Owner, f: &Func) -> bool
+    ensures { result ≡ spec.is_outside owner (parts f.now) }
 {
-    if !all_marked(f) {
+    !no_marks(f.marks.as_slice())
+        || no_method_name(owner, &f.name)
+        || own_marked(owner, f.params.as_slice())
+}
+
+/// Whether a function of this owner may not have this name.
+fn no_method_name(owner: Owner, name: &Name) -> bool
+    ensures { result ≡ spec.no_method_name owner name.now }
+{
+    match owner {
+        Owner::Module => false,
+        Owner::Class(_) => is_special(name) && !is_init(owner, name),
+    }
+}
+
+/// Whether a name is `__x__` for some x.
+fn is_special(name: &Name) -> bool
+    ensures { result ≡ spec.is_special name.now }
+{
+    let text = name.as_str().as_bytes();
+    text.len() > 4 && text.starts_with(b"__") && text.ends_with(b"__")
+}
+
+/// Whether the first parameter of a method has an annotation.
+fn own_marked(owner: Owner, params: &[(Name, Option<Expr>)]) -> bool
+    ensures { result ≡ spec.own_marked owner (map param_tree params.now) }
+{
+    match owner {
+        Owner::Module => false,
+        Owner::Class(_) => first_marked(params),
+    }
+}
+
+fn first_marked(params: &[(Name, Option<Expr>)]) -> bool
+    ensures { result ≡ spec.first_marked (map param_tree params.now) }
+{
+    match params {
+        [] => false,
+        [(_, mark), ..] => mark.is_some(),
+    }
+}
+
+/// Whether this is a method without a first parameter.
+fn lacks_own(owner: Owner, params: &[(Name, Option<Expr>)]) -> bool
+    ensures { result ≡ spec.lacks_own owner (map param_tree params.now) }
+{
+    match owner {
+        Owner::Module => false,
+        Owner::Class(_) => params.is_empty(),
+    }
+}
+
+fn body_fault<'a>(header: &Header, own: usize, f: &'a Func) -> Option<DefFault<'a>>
+    ensures { option_map (fault_message (parts f.now).name) result ≡ spec.body_fault header.now.owner own (parts f.now) (header_sorts header.now).ret }
+{
+    if !all_marked(header, f) {
         return Some(DefFault::MissingAnnotation);
     }
     if own > MOST_NAMES {
         return Some(DefFault::TooManyNames);
     }
-    if gives_value(ret) && !is_closed(f.body.as_slice()) {
+    if gives_value(&header.ret) && !is_closed(f.body.as_slice()) {
         return Some(DefFault::MissingReturn);
     }
     None
 }
 
-/// Whether each parameter has an annotation, and so has what is returned.
-fn all_marked(f: &Func) -> bool
-    ensures { result ≡ spec.all_marked (parts f.now) }
+/// Whether each parameter has an annotation that is asked for one, and what is returned has a type.
+fn all_marked(header: &Header, f: &Func) -> bool
+    ensures { result ≡ spec.all_marked header.now.owner (parts f.now) (header_sorts header.now).ret }
 {
-    are_marked(f.params.as_slice()) && f.ret.is_some()
+    are_marked(asked(header.owner, f.params.as_slice())) && header.ret.is_some()
 }
 
 fn are_marked(params: &[(Name, Option<Expr>)]) -> bool
@@ -235,7 +295,8 @@ fn say(
 {
     match fault {
         DefFault::AlreadyDefined => already_defined(alloc, span, name.as_str(), faults),
-        DefFault::Decorated => outside_profile(alloc, span, name.as_str(), faults),
+        DefFault::OutsideProfile => outside_profile(alloc, span, name.as_str(), faults),
+        DefFault::SelfMissing => self_missing(alloc, span, name.as_str(), faults),
         DefFault::DuplicateParameter(x) => duplicate_parameter(alloc, span, x.as_str(), faults),
         DefFault::BuiltinName(x) => cannot_assign(alloc, span, x.as_str(), faults),
         DefFault::MissingAnnotation => missing_annotation(alloc, span, faults),

@@ -9,4 +9,4 @@ mod definitions;
 mod headers;
 
 pub use definitions::{add_def_fault, is_new, own_count};
-pub use headers::{Header, header_of, signature_of};
+pub use headers::{Header, Owner, header_of, is_init, signature_of};

@@ -64,7 +64,7 @@ module _ (named : List ℕ → Bool) where
     node_written (e.ListOf items) h = exprs_written items h
     node_written (e.DictOf entries) h = entries_written entries h
     node_written (e.TupleOf items) h = exprs_written items h
-    node_written (e.Attr a name) h = expr_written a h
+    node_written (e.Attr a name) h = expr_written a h.1
     node_written (e.Index a i) h = and_from (is_written a) (is_written i) (expr_written a h.0) (expr_written i h.1)
     node_written (e.Call callee more) h = and_from (is_written callee) (are_arguments more) (expr_written callee h.0) (arguments_written more h.1)
     node_written _ h = refl

@@ -41,6 +41,9 @@ c = record {
   meaning = λ x. unwrap_or (lookup (bytes_eq x) names) meaning.Unknown;
   signatures = None ∷ [];
   classes = [];
+  member = λ n a. None;
+  init = λ n. None;
+  inside = None;
 }
 
 abbrev start : Known

@@ -1,12 +1,14 @@
 -- What is assigned to (Python Language Reference, "Assignment statements"; PEP 484).
 --
--- A target is a name, an item, or a flat tuple of these. The rule of an item, which is an expression, is asked before that of the
--- assignment. No name of a target is read by it. Where a target is a variable without a type nothing is said of what holds it.
+-- A target is a name, an item, an attribute, or a flat tuple of these. The rule of an item or an attribute, which is an expression, is
+-- asked before that of the assignment. No name of a target is read by it. Where a target is a variable without a type nothing is said of
+-- what holds it. Where a target sets an attribute that nothing declares, that is told before all else, once the object and all other
+-- parts are typed.
 -- The value is asked for the types of its targets, where each of these has one before anything is known of the value, and else for
 -- nothing. Then the targets are bound one behind the other, so an item is looked at with what is known once the names before it are
--- bound to their parts. The value has to fit both what its targets are then and what it was asked for: a tuple display that does not
--- fit what it was asked for may have an item None, which no other tuple has.
-use Rattle.std.specs.Prelude.{ℕ, Bool, true, false, not, ◌&&◌, if◌then◌else◌, List, [], ◌∷◌, ◌++◌, length, Option, Some, None, unwrap_or, Result, Ok, Err}
+-- bound to their parts, and the value has to fit what its targets are then. A tuple display that does not fit what it was asked for may
+-- have an item None, at any depth, which no other tuple has: such a one has to fit what it was asked for too.
+use Rattle.std.specs.Prelude.{ℕ, Bool, true, false, ◌&&◌, ◌||◌, if◌then◌else◌, List, [], ◌∷◌, ◌++◌, length, Option, Some, None, unwrap_or, Result, Ok, Err}
 use Rattle.std.specs.List.{list_all, flat_map}
 use Rattle.std.specs.Option.{option_map}
 use Rattle.std.specs.Map.{lookup}
@@ -14,29 +16,30 @@ use Rattle.std.specs.Str.{bytes_eq}
 use Rattle.py_syntax.specs.declared.token.Span.{Span}
 use Rattle.py_syntax.specs.declared.expression.BinOp.{BinOp}
 use Rattle.py_syntax.specs.Expressions.{ExprTree}
-use Rattle.py_typed.specs.Sorts.{Sort, sorts_of}
+use Rattle.py_typed.specs.Sorts.{Sort, Sorts, no_sorts, sort_then, sorts_of}
 use Rattle.py_typed.specs.Sorts as sort
 use Rattle.py_typed.specs.Classes.{ClassEntry}
 use Rattle.py_typed.specs.Fits.{fits}
 use Rattle.py_typed.specs.Expressions as node
 use Rattle.py_typed.specs.Expressions.{TypedExpr, typed, type_of}
 use Rattle.py_typed.specs.Statements as act
-use Rattle.py_typed.specs.Statements.{TypedTarget, LocalTarget, GlobalTarget, ItemTarget, TypedAct}
+use Rattle.py_typed.specs.Statements.{TypedTarget, LocalTarget, GlobalTarget, AttrTarget, ItemTarget, TypedAct}
 use Rattle.py_check_context.specs.declared.scope.Meaning.{Meaning}
 use Rattle.py_check_context.specs.declared.scope.Meaning.TheVariants as meaning
 use Rattle.py_check_context.specs.Context.{Context, VarSort, unset, untyped, has, var_at, Wanted, free, wants_some}
 use Rattle.py_check_flow.specs.Bindings.{name_in}
-use Rattle.py_check_places.specs.Shapes.{is_item, is_row, is_flat, leaves, some_parts, parts_of}
+use Rattle.py_check_places.specs.Shapes.{is_access, is_row, is_flat, leaves, some_parts, parts_of}
 use Rattle.py_check_messages.specs.Seen.{Seen, Message, is, made}
 use Rattle.py_check_messages.specs.Rows.{row_then}
-use Rattle.py_check_messages.specs.Messages.{no_target, cannot_assign, already_defined, wrong_assignment}
+use Rattle.py_check_messages.specs.Messages.{no_target, cannot_assign, already_defined, no_attribute, wrong_assignment}
 use Rattle.py_check_coercions.specs.Rows.{first_of}
 use Rattle.py_check_coercions.specs.Several.{unless}
 use Rattle.py_check_operators.specs.Operators.{arithmetic}
 use Rattle.py_check_expressions.specs.Typing.{typing}
-use Rattle.py_check_values.specs.Aims.{Aim, held, first, barred, unwritten, misplaced}
-use Rattle.py_check_values.specs.Assignments.{assignment, binding_fault, unpacking_fault, items_for}
+use Rattle.py_check_values.specs.Aims.{Aim, held, first, barred, unwritten, lacking, misplaced}
+use Rattle.py_check_values.specs.Assignments.{assignment, binding_fault, lacking_fault, unpacking_fault, items_for}
 use Rattle.py_check_places.specs.Places.{Known, with_names, known_behind}
+use Rattle.py_check_targets.specs.Attributes.{lacking_in}
 
 -- ---- single targets
 
@@ -64,14 +67,20 @@ is_written t = false
 abbrev pub part_aim : TypedExpr → TypedExpr → Sort → Aim
 part_aim e i t = if is_written (type_of e) then held (ItemTarget e i) t else unwritten (type_of e)
 
-abbrev pub item_aim : TypedExpr → Aim
-item_aim (typed (node.At e i) t place) = part_aim e i t
-item_aim (typed (node.TupleAt e i) t place) = unwritten (type_of e)
-item_aim e = misplaced (type_of e)
+-- and an attribute
+abbrev pub access_aim : TypedExpr → Aim
+access_aim (typed (node.At e i) t place) = part_aim e i t
+access_aim (typed (node.TupleAt e i) t place) = unwritten (type_of e)
+access_aim (typed (node.Attr e a) t place) = held (AttrTarget e a) t
+access_aim e = misplaced (type_of e)
 
--- any other expression
+-- an expression, which is written as an item or an attribute or not
 abbrev pub value_aim : Bool → TypedExpr → Aim
-value_aim written e = if written then item_aim e else misplaced (type_of e)
+value_aim written e = if written then access_aim e else misplaced (type_of e)
+
+-- an attribute of this object that nothing declares
+abbrev pub lacking_aim : List ℕ → TypedExpr → Aim
+lacking_aim a e = lacking (type_of e) a
 
 abbrev pub target_of : Aim → List TypedTarget
 target_of (held target t) = target ∷ []
@@ -82,13 +91,14 @@ abbrev pub is_placed : Aim → Bool
 is_placed (misplaced t) = false
 is_placed a = true
 
--- a name, and not an item
-abbrev pub is_item_target : TypedTarget → Bool
-is_item_target (ItemTarget e i) = true
-is_item_target target = false
+-- a name, and neither an item nor an attribute
+abbrev pub is_name_target : TypedTarget → Bool
+is_name_target (LocalTarget i) = true
+is_name_target (GlobalTarget i) = true
+is_name_target target = false
 
 abbrev pub is_name_aim : Aim → Bool
-is_name_aim (held target t) = not (is_item_target target)
+is_name_aim (held target t) = is_name_target target
 is_name_aim (first target x) = true
 is_name_aim (barred x) = true
 is_name_aim a = false
@@ -166,15 +176,27 @@ abbrev pub several_fault : List ClassEntry → List Aim → Sort → Option Mess
 several_fault classes aims t =
     first_of (unpacking_fault classes aims t) (parts_fault classes [] aims (some_parts (items_for t (length aims))))
 
--- a value that was asked for the types of its targets has to fit these too, part by part
+abbrev mutual
+  -- None's type, and that of a tuple that has such an item
+  pub holds_none : Sort → Bool
+  holds_none sort.Nothing = true
+  holds_none (sort.TupleOf ts) = hold_none ts
+  holds_none t = false
+
+  pub hold_none : Sorts → Bool
+  hold_none no_sorts = false
+  hold_none (sort_then t ts) = holds_none t || hold_none ts
+
+-- a value that was asked for the types of its targets, and may not fit these, part by part
 abbrev pub unfit_fault : List ClassEntry → List Sort → List Sort → Option Message
 unfit_fault classes (t ∷ ts) (s ∷ ss) = first_of (again_fault classes (Some t) s) (unfit_fault classes ts ss)
 unfit_fault classes ts ss = None
 
--- for so many targets
+-- for so many targets: it has to fit them where its type has an item of None's type
 abbrev pub asked_fault : List ClassEntry → ℕ → Option Sort → Sort → Option Message
 asked_fault classes n None s = None
-asked_fault classes n (Some t) s = unfit_fault classes (some_parts (items_for t n)) (some_parts (items_for s n))
+asked_fault classes n (Some t) s =
+    if holds_none s then unfit_fault classes (some_parts (items_for t n)) (some_parts (items_for s n)) else None
 
 -- what is wrong where a value that was asked for this, if for anything, is bound to several targets
 abbrev pub taking_fault : List ClassEntry → Option Sort → List Aim → Sort → Option Message
@@ -192,10 +214,18 @@ act_of ts (Ok e) = Ok (act.Assign ts e)
 act_of ts (Err m) = Err m
 
 -- of the targets and the value, which was asked for this, if for anything
-abbrev pub assigned : List ClassEntry → ExprTree → Option Sort → List Aim × TypedExpr → Result TypedAct Message
-assigned classes target asked p =
+abbrev pub placed : List ClassEntry → ExprTree → Option Sort → List Aim × TypedExpr → Result TypedAct Message
+placed classes target asked p =
     if are_placed (is_flat target) p.0 then act_of (targets_of p.0) (value_assigned classes (is_row target) asked p.0 p.1)
     else Err no_target
+
+-- what is wrong comes before a rule
+abbrev pub fault_or : {A : Type 0} → Option Message → Result A Message → Result A Message
+fault_or (Some m) r = Err m
+fault_or None r = r
+
+abbrev pub assigned : List ClassEntry → ExprTree → Option Sort → List Aim × TypedExpr → Result TypedAct Message
+assigned classes target asked p = fault_or (lacking_fault classes p.0) (placed classes target asked p)
 
 -- ---- an annotation
 
@@ -209,11 +239,20 @@ abbrev pub declared : List ℕ → Bool → Aim × Sort → Result TypedAct Mess
 declared x bound p = unless (annotation_fault x bound p.0) act.Pass
 
 abbrev pub given_after : List ClassEntry → Option Message → Aim → TypedExpr → Result TypedAct Message
-given_after classes (Some m) a e = Err m
-given_after classes None a e = act_of (target_of a) (assignment classes a e)
+given_after classes fault a e = fault_or fault (act_of (target_of a) (assignment classes a e))
 
 abbrev pub given : List ClassEntry → List ℕ → Bool → (Aim × Sort) × TypedExpr → Result TypedAct Message
 given classes x bound p = given_after classes (annotation_fault x bound p.0.0) p.0.0 p.1
+
+-- an attribute of the object that an `__init__` sets up, where this is wrong with its annotation
+abbrev pub declared_own : Option Message → List Aim × Sort → Result TypedAct Message
+declared_own fault p = unless fault act.Pass
+
+abbrev pub taken_own : List ClassEntry → ExprTree → Option Message → List Aim × TypedExpr → Result TypedAct Message
+taken_own classes target fault p = fault_or fault (assigned classes target None p)
+
+abbrev pub given_own : List ClassEntry → ExprTree → Option Message → (List Aim × Sort) × TypedExpr → Result TypedAct Message
+given_own classes target fault p = taken_own classes target fault (p.0.0, p.1)
 
 -- ---- an operation with assignment
 
@@ -231,6 +270,10 @@ abbrev pub of_operation : List ClassEntry → Aim → BinOp → TypedExpr → Re
 of_operation classes a o b (Ok r) = updated_to classes a o b (type_of r)
 of_operation classes a o b (Err m) = Err m
 
+-- to an attribute that nothing declares
+abbrev pub updated_lacking : List ClassEntry → List ℕ → TypedExpr × TypedExpr → Result TypedAct Message
+updated_lacking classes a p = Err (no_attribute classes (type_of p.0) a)
+
 -- of the target's value and the operand
 abbrev pub updated : List ClassEntry → Span → BinOp → (TypedExpr → Aim) → TypedExpr × TypedExpr → Result TypedAct Message
 updated classes span o aim p = of_operation classes (aim p.0) o p.1 (arithmetic classes span o p)
@@ -239,10 +282,15 @@ module _ (c : Context) where
   abbrev pub typed_at : Known → Wanted → ExprTree → Seen TypedExpr
   typed_at k w e = typing c k.types w k.names e
 
+  -- a single target that is no name, by the attribute that it lacks, if it does
+  abbrev pub other_aim : Known → ExprTree → Option (ExprTree × List ℕ) → Seen Aim
+  other_aim k e None = made (value_aim (is_access e)) (typed_at k free e)
+  other_aim k e (Some p) = made (lacking_aim p.1) (typed_at k free p.0)
+
   -- a single target
   abbrev pub single_aim : Known → Option (List ℕ) → ExprTree → Seen Aim
   single_aim k (Some x) e = seen_aim (name_aim k x (c.meaning x))
-  single_aim k None e = made (value_aim (is_item e)) (typed_at k free e)
+  single_aim k None e = other_aim k e (lacking_in c e)
 
   -- behind a target with this name, if it is one, which takes a part of a value
   abbrev pub beyond : Known → Option (List ℕ) → Option Sort → Known
@@ -262,5 +310,5 @@ module _ (c : Context) where
 
   -- one that was read
   abbrev pub read_aim : Known → Option (List ℕ) → Bool → TypedExpr → Aim
-  read_aim k (Some x) item a = unwrap_or (name_aim k x (c.meaning x)) (misplaced (type_of a))
-  read_aim k None item a = value_aim item a
+  read_aim k (Some x) access a = unwrap_or (name_aim k x (c.meaning x)) (misplaced (type_of a))
+  read_aim k None access a = value_aim access a

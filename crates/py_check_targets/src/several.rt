@@ -3,10 +3,12 @@ ghost use Rattle.std.specs.Prelude.{◌≡◌, [], map, IfOk};
 ghost use Rattle.std.specs.Option.{option_map, option_copied};
 ghost use Rattle.std.specs.Map.{lookup};
 ghost use Rattle.std.specs.Str.{bytes_eq};
-ghost use Rattle.py_typed.specs.Sorts.{sort};
+ghost use Rattle.py_typed.specs.Sorts.{sort, sorts_of};
 ghost use Rattle.py_typed.specs.Classes.{class_entry};
 ghost use Rattle.py_check_messages.specs.Seen.{Finds};
 ghost use Rattle.py_check_values.specs.Aims.{aim_seen};
+ghost use Rattle.py_check_values.specs.Assignments as assignments;
+ghost use Rattle.py_check_places.specs.Shapes as shapes;
 ghost use Rattle.py_check_targets.specs.Targets as rule_of;
 ghost use Rattle.py_check_targets.specs.Views.{part_seen};
 
@@ -37,7 +39,7 @@ pub fn binds_several(
     fit_parts(alloc, classes, span, aims, parts, faults)
 }
 
-/// The same of a value that was asked for this type, if for any: it has to fit it too.
+/// The same of a value that was asked for this type, if for any: where it has an item of None's type it has to fit that too.
 pub fn takes_several(
     alloc: Global,
     classes: &Classes,
@@ -55,7 +57,7 @@ pub fn takes_several(
     fits_asked(alloc, classes, span, aims.len(), asked, t, faults)
 }
 
-// Whether a value of a type fits what it was asked for, part by part for so many targets.
+// Whether a value of a type, where that has an item of None's type, fits what it was asked for, part by part for so many targets.
 fn fits_asked(
     alloc: Global,
     classes: &Classes,
@@ -70,9 +72,50 @@ fn fits_asked(
     let Some(asked) = asked else {
         return Ok(true);
     };
+    if !holds_none(t) {
+        return Ok(true);
+    }
+    fits_parts(alloc, classes, span, count, asked, t, faults)
+}
+
+fn fits_parts(
+    alloc: Global,
+    classes: &Classes,
+    span: Span,
+    count: usize,
+    asked: &Ty,
+    t: &Ty,
+    faults: &mut Many<Diag>,
+) -> Result<bool, Memory>
+    ensures { IfOk result (λ right. Finds right faults.old faults.new span (rule_of.unfit_fault (map class_entry classes.now.list) (shapes.some_parts (assignments.items_for (sort asked.now) count)) (shapes.some_parts (assignments.items_for (sort t.now) count)))) }
+{
     let asked = some_parts(items_for(asked, count));
     let parts = some_parts(items_for(t, count));
     fit_each(alloc, classes, span, asked, parts, faults)
+}
+
+/// Whether a type is that of None, or of a tuple that has such an item.
+#[cycle(none)]
+fn holds_none(t: &Ty) -> bool
+    ensures { result ≡ rule_of.holds_none (sort t.now) }
+{
+    match t {
+        Ty::Nothing => true,
+        Ty::Tuple(ts) => hold_none(ts.as_slice()),
+        _ => false,
+    }
+}
+
+#[cycle(none)]
+fn hold_none(ts: &[Ty]) -> bool
+    ensures { result ≡ rule_of.hold_none (sorts_of (map sort ts.now)) }
+{
+    for t in ts {
+        if holds_none(t) {
+            return true;
+        }
+    }
+    false
 }
 
 // Whether each part fits its type; the first that does not is said.
@@ -145,6 +188,7 @@ fn fits_part(
         Aim::First(_, x) => fits_again(alloc, classes, span, first_part(seen, x), s, faults),
         Aim::Barred(_) => Ok(true),
         Aim::Unwritten(_) => Ok(true),
+        Aim::Lacking(_, _) => Ok(true),
         Aim::Misplaced(_) => Ok(true),
     }
 }
@@ -194,6 +238,7 @@ fn put_new_name<'a>(seen: &mut Vec<NewName<'a>>, a: &'a Aim<'_>, ty: &'a Ty) -> 
         Aim::Held(_, _) => Ok(()),
         Aim::Barred(_) => Ok(()),
         Aim::Unwritten(_) => Ok(()),
+        Aim::Lacking(_, _) => Ok(()),
         Aim::Misplaced(_) => Ok(()),
     }
 }

@@ -13,14 +13,16 @@ ghost use Rattle.py_check_coercions.specs.Boxes.{boxed};
 ghost use Rattle.py_check_values.specs.Aims.{aim_seen};
 ghost use Rattle.py_check_places.specs.Places as places;
 ghost use Rattle.py_check_places.specs.Places.{with_names};
+ghost use Rattle.py_check_targets.specs.Attributes as attributes;
 ghost use Rattle.py_check_targets.specs.Targets as rule_of;
 ghost use Rattle.py_check_places.specs.Views.{known_at, trees};
 ghost use Rattle.py_check_targets.specs.Views.{boxed_aim, parts_from};
 
+use crate::attributes::lacking_in;
 use py_check_context::{Context, Meaning, VarType, Want, meaning_of};
 use py_check_expressions::{Environment, expression};
 use py_check_flow::name_in;
-use py_check_places::{Place, is_item, is_row, known_behind, leaves, parts_of};
+use py_check_places::{Place, is_access, is_row, known_behind, leaves, parts_of};
 use py_check_values::Aim;
 use py_syntax::Expr;
 use py_syntax_diagnostics::Diag;
@@ -94,12 +96,12 @@ fn variable_aim<'a>(target: Target, x: &'a Name, ty: VarType) -> Option<Aim<'a>>
     }
 }
 
-/// An expression that stands as a target.
+/// An expression that stands as a target, and is written as an item or an attribute or not.
 pub fn value_aim<'a>(written: bool, e: Box<TExpr>) -> Aim<'a>
     ensures { aim_seen result ≡ rule_of.value_aim written (boxed e) }
 {
     if written {
-        return item_aim(e);
+        return access_aim(e);
     }
     Aim::Misplaced(only_type(e))
 }
@@ -113,8 +115,8 @@ fn only_type(e: Box<TExpr>) -> Ty
     ty
 }
 
-fn item_aim<'a>(e: Box<TExpr>) -> Aim<'a>
-    ensures { aim_seen result ≡ rule_of.item_aim (boxed e) }
+fn access_aim<'a>(e: Box<TExpr>) -> Aim<'a>
+    ensures { aim_seen result ≡ rule_of.access_aim (boxed e) }
 {
     let TExpr { kind, ty, span: _ } = Box::into_inner(e);
     match kind {
@@ -122,6 +124,10 @@ fn item_aim<'a>(e: Box<TExpr>) -> Aim<'a>
         TKind::TupleAt(held, _) => {
             drop(ty);
             Aim::Unwritten(only_type(held))
+        }
+        TKind::Attr(object, name) => {
+            let target = Target::Attr(Box::into_inner(object), name);
+            Aim::Held(target, ty)
         }
         other => {
             drop(other);
@@ -168,17 +174,46 @@ fn single_aim<'a>(
             let a = name_aim(alloc, place, x, meaning_of(scope, x))?;
             in_box(alloc, a)
         }
+        None => other_aim(alloc, scope, place, names, e, faults),
+    }
+}
+
+// One that is no name.
+fn other_aim<'a>(
+    alloc: Global,
+    scope: &Context<'_>,
+    place: &Place,
+    names: &[usize],
+    e: &'a Expr,
+    faults: &mut Many<Diag>,
+) -> Result<Option<Box<Aim<'a>>>, Memory>
+    ensures { IfOk result (λ a. Tells boxed_aim a faults.old faults.new (rule_of.other_aim (context scope.now) (with_names (known_at place.now) names.now) (expr_tree e.now) (attributes.lacking_in (context scope.now) (expr_tree e.now)))) }
+{
+    let environment = Environment {
+        scope,
+        vars: &place.types,
+        known: names,
+    };
+    match lacking_in(scope, e) {
+        Some(own) => {
+            let object = expression(alloc, environment, Want::Free, own.object, faults)?;
+            let a = lacking_of(own.name, object);
+            in_box(alloc, a)
+        }
         None => {
-            let environment = Environment {
-                scope,
-                vars: &place.types,
-                known: names,
-            };
             let t = expression(alloc, environment, Want::Free, e, faults)?;
-            let a = aim_of(is_item(e), t);
+            let a = aim_of(is_access(e), t);
             in_box(alloc, a)
         }
     }
+}
+
+// An attribute that nothing declares, of this object, if that is typed.
+fn lacking_of<'a>(name: &'a Name, object: Option<Box<TExpr>>) -> Option<Aim<'a>>
+    ensures { option_map aim_seen result ≡ option_map (rule_of.lacking_aim name.now) (option_map boxed object) }
+{
+    let object = object?;
+    Some(Aim::Lacking(only_type(object), name))
 }
 
 fn aim_of<'a>(written: bool, e: Option<Box<TExpr>>) -> Option<Aim<'a>>

@@ -116,6 +116,7 @@ fn held_type<'a>(a: &'a Aim<'_>) -> Option<&'a Ty>
         Aim::First(_, _) => None,
         Aim::Barred(_) => None,
         Aim::Unwritten(_) => None,
+        Aim::Lacking(_, _) => None,
         Aim::Misplaced(_) => None,
     }
 }

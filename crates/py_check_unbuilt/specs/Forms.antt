@@ -1,4 +1,4 @@
--- What the forms are called that are not built yet: in the words of the profile, and a form that hangs on the type of something
+-- What the forms are called that are not compiled yet: in the words of the profile, and a form that hangs on the type of something
 -- with the kind of the type behind them.
 use Rattle.std.specs.Prelude.{ℕ, List, [], ◌++◌, Option, Some, None, codes}
 use Rattle.py_check_unbuilt.specs.declared.form.Form.{Form}
@@ -34,7 +34,6 @@ form_kind _ = None
 -- what a form is called, up to that kind
 abbrev pub form_words : Form → List ℕ
 form_words form.Class = codes "class"
-form_words form.Decorator = codes "decorator"
 form_words form.Del = codes "del"
 form_words form.Try = codes "try"
 form_words form.Raise = codes "raise"
@@ -42,7 +41,6 @@ form_words form.Assert = codes "assert"
 form_words form.For = codes "for"
 form_words form.SeveralTargets = codes "several targets"
 form_words form.NameSuper = codes "the name super"
-form_words form.NameTrait = codes "the name trait"
 form_words form.ExceptionClass = codes "exception class"
 form_words form.DictDisplay = codes "dict display"
 form_words form.ListDisplay = codes "list display"

@@ -1,4 +1,4 @@
-//! The forms of the language that are not built yet, and what they are called.
+//! The forms of the language that are not compiled yet, and what they are called.
 ghost use Rattle.std.specs.Prelude.{◌≡◌};
 ghost use Rattle.py_check_unbuilt.specs.Forms.{kind_name, form_words, form_kind};
 
@@ -41,11 +41,10 @@ impl TypeKind {
     }
 }
 
-/// A form of the language that is not built yet. It is written in words.
+/// A form of the language that is not compiled yet. It is written in words.
 #[derive(Clone, Copy)]
 pub enum Form {
     Class,
-    Decorator,
     Del,
     Try,
     Raise,
@@ -55,8 +54,6 @@ pub enum Form {
     SeveralTargets,
     /// The name `super`.
     NameSuper,
-    /// The name `trait`.
-    NameTrait,
     /// The name of a class of exceptions.
     ExceptionClass,
     DictDisplay,
@@ -89,7 +86,7 @@ pub enum Form {
     Value(TypeKind),
 }
 
-/// A form that is not built, and the line that it stands on.
+/// A form that is not compiled, and the line that it stands on.
 #[derive(Clone, Copy)]
 pub struct Unbuilt {
     pub line: usize,
@@ -103,7 +100,6 @@ impl Form {
     {
         match self {
             Form::Class => "class",
-            Form::Decorator => "decorator",
             Form::Del => "del",
             Form::Try => "try",
             Form::Raise => "raise",
@@ -111,7 +107,6 @@ impl Form {
             Form::For => "for",
             Form::SeveralTargets => "several targets",
             Form::NameSuper => "the name super",
-            Form::NameTrait => "the name trait",
             Form::ExceptionClass => "exception class",
             Form::DictDisplay => "dict display",
             Form::ListDisplay => "list display",

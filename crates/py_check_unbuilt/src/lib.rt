@@ -1,13 +1,11 @@
-//! The forms of the language that have no typing rules yet: whether a module has one, which is the first, and on which line.
+//! The forms of the language that are not compiled yet: what they are called, and the lesser of two by their lines.
 //!
-//! `specs/Later.antt` says which they are. As forms get their rules, they go from there. `form` has what each form is called that
-//! is not built, also of those that are typed and not compiled.
+//! `specs/Forms.antt` has their names and `specs/Least.antt` the least of several. Which forms are not compiled is said where they
+//! would be (`ir_builder_supported`).
 #![tactic(auto)]
 
-mod expressions;
 mod form;
-mod statements;
+mod least;
 
-pub use expressions::lesser;
 pub use form::{Form, TypeKind, Unbuilt};
-pub use statements::later_form;
+pub use least::lesser;

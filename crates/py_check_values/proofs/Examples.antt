@@ -8,9 +8,9 @@ use Rattle.py_typed.specs.Expressions as node
 use Rattle.py_typed.specs.Expressions.{TypedExpr, typed, type_of, exprs_of}
 use Rattle.py_typed.specs.Statements.{LocalTarget}
 use Rattle.py_check_messages.specs.Seen.{is, silent, fails}
-use Rattle.py_check_messages.specs.Messages.{wrong_assignment, needs_annotation, cannot_unpack, cannot_assign, wrong_return, no_return_expected, return_outside, return_expected}
-use Rattle.py_check_values.specs.Aims.{Aim, held, first, barred}
-use Rattle.py_check_values.specs.Assignments.{assignment, unpacking_fault}
+use Rattle.py_check_messages.specs.Messages.{wrong_assignment, needs_annotation, no_attribute, cannot_unpack, cannot_assign, wrong_return, no_return_expected, return_outside, return_expected}
+use Rattle.py_check_values.specs.Aims.{Aim, held, first, barred, lacking}
+use Rattle.py_check_values.specs.Assignments.{assignment, lacking_fault, unpacking_fault}
 use Rattle.py_check_values.specs.Returns.{bare_return, value_return, outside, untyped, gives}
 
 abbrev place : Span
@@ -41,6 +41,14 @@ misfit = refl
 
 first_none : assignment [] (new_name (codes "x")) nothing ≡ Err (needs_annotation (codes "x"))
 first_none = refl
+
+-- `self.a = 1`, where nothing declares a
+undeclared : assignment [] (lacking (sort.Instance 0) (codes "a")) one ≡ Err (no_attribute [] (sort.Instance 0) (codes "a"))
+undeclared = refl
+
+-- of two such the first is told
+first_undeclared : lacking_fault [] (barred (codes "len") ∷ lacking (sort.Instance 0) (codes "a") ∷ lacking (sort.Instance 0) (codes "b") ∷ []) ≡ Some (no_attribute [] (sort.Instance 0) (codes "a"))
+first_undeclared = refl
 
 -- a tuple of two for two targets, and for three
 two_targets : unpacking_fault [] (of_type (Optional sort.Int) ∷ new_name (codes "b") ∷ []) (type_of pair) ≡ None

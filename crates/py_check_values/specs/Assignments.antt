@@ -2,8 +2,8 @@
 --
 -- A value is assigned to one target, whose type it fits, and is changed to that type. A variable without a type takes that of
 -- its first value, which is not None. Several targets take the items of a tuple of as many, each the item at its place; whether
--- these fit is not asked here. Names of functions, classes, imports and builtins are not assigned, and of items only those of
--- lists and dicts.
+-- these fit is not asked here. Names of functions, classes, imports and builtins are not assigned, of items only those of lists and
+-- dicts, and an attribute only where the class of the object has it.
 use Rattle.std.specs.Prelude.{ℕ, nat_eq, List, [], ◌∷◌, length, Option, Some, None, Result, if◌then◌else◌}
 use Rattle.std.specs.Option.{option_map}
 use Rattle.py_typed.specs.Sorts.{Sort, TupleOf, listed_sorts}
@@ -11,11 +11,11 @@ use Rattle.py_typed.specs.Classes.{ClassEntry}
 use Rattle.py_typed.specs.Fits.{fits, is_nothing}
 use Rattle.py_typed.specs.Expressions.{TypedExpr, type_of}
 use Rattle.py_check_messages.specs.Seen.{Message}
-use Rattle.py_check_messages.specs.Messages.{cannot_assign, index_target, cannot_unpack, needs_annotation, wrong_assignment}
+use Rattle.py_check_messages.specs.Messages.{cannot_assign, index_target, cannot_unpack, needs_annotation, no_attribute, wrong_assignment}
 use Rattle.py_check_coercions.specs.Values.{coerced}
 use Rattle.py_check_coercions.specs.Rows.{first_of}
 use Rattle.py_check_coercions.specs.Several.{unless}
-use Rattle.py_check_values.specs.Aims.{Aim, held, first, barred, unwritten, misplaced}
+use Rattle.py_check_values.specs.Aims.{Aim, held, first, barred, unwritten, lacking, misplaced}
 
 -- ---- one target
 
@@ -26,6 +26,7 @@ binding_fault classes (held target t) s = if fits classes s t then None else Som
 binding_fault classes (first target x) s = if is_nothing s then Some (needs_annotation x) else None
 binding_fault classes (barred x) s = Some (cannot_assign x)
 binding_fault classes (unwritten t) s = Some (index_target classes t)
+binding_fault classes (lacking t a) s = Some (no_attribute classes t a)
 binding_fault classes (misplaced t) s = Some (index_target classes t)
 
 -- the value as it is bound
@@ -37,6 +38,12 @@ abbrev pub assignment : List ClassEntry → Aim → TypedExpr → Result TypedEx
 assignment classes a e = unless (binding_fault classes a (type_of e)) (as_bound a e)
 
 -- ---- several targets
+
+-- the first attribute that nothing declares
+abbrev pub lacking_fault : List ClassEntry → List Aim → Option Message
+lacking_fault classes [] = None
+lacking_fault classes (lacking t x ∷ aims) = Some (no_attribute classes t x)
+lacking_fault classes (a ∷ aims) = lacking_fault classes aims
 
 -- the first name that cannot be assigned, and the first item that cannot
 abbrev pub first_barred : List Aim → Option (List ℕ)

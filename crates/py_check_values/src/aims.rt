@@ -13,6 +13,8 @@ pub enum Aim<'a> {
     Barred(&'a Name),
     /// An item of what has none that is assigned, by the type of that.
     Unwritten(Ty),
+    /// An attribute that nothing declares, of an object of this type.
+    Lacking(Ty, &'a Name),
     /// An expression of this type, which is no target.
     Misplaced(Ty),
 }

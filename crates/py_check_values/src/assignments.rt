@@ -11,7 +11,7 @@ ghost use Rattle.py_check_values.specs.Assignments as rule_of;
 use crate::aims::Aim;
 use py_check_coercions::coerced;
 use py_check_messages::{
-    cannot_assign, cannot_unpack, index_target, needs_annotation, wrong_assignment,
+    cannot_assign, cannot_unpack, index_target, needs_annotation, no_attribute, wrong_assignment,
 };
 use py_syntax::Span;
 use py_syntax_diagnostics::Diag;
@@ -48,6 +48,7 @@ fn as_bound(alloc: Global, aim: &Aim<'_>, e: Box<TExpr>) -> Result<Box<TExpr>, M
         Aim::First(_, _) => Ok(e),
         Aim::Barred(_) => Ok(e),
         Aim::Unwritten(_) => Ok(e),
+        Aim::Lacking(_, _) => Ok(e),
         Aim::Misplaced(_) => Ok(e),
     }
 }
@@ -78,9 +79,29 @@ pub fn binds(
         }
         Aim::Barred(x) => cannot_assign(alloc, span, x.as_str(), faults)?,
         Aim::Unwritten(t) => index_target(alloc, classes, span, t, faults)?,
+        Aim::Lacking(t, a) => no_attribute(alloc, classes, span, t, a.as_str(), faults)?,
         Aim::Misplaced(t) => index_target(alloc, classes, span, t, faults)?,
     }
     Ok(false)
+}
+
+/// Whether no target is an attribute that nothing declares; the first one that is so is said.
+pub fn are_declared(
+    alloc: Global,
+    classes: &Classes,
+    span: Span,
+    aims: &[Aim<'_>],
+    faults: &mut Many<Diag>,
+) -> Result<bool, Memory>
+    ensures { IfOk result (λ right. Finds right faults.old faults.new span (rule_of.lacking_fault (map class_entry classes.now.list) (map aim_seen aims.now))) }
+{
+    for aim in aims {
+        if let Aim::Lacking(t, a) = aim {
+            no_attribute(alloc, classes, span, t, a.as_str(), faults)?;
+            return Ok(false);
+        }
+    }
+    Ok(true)
 }
 
 /// Whether a value of a type is taken apart for several targets, whatever its items are; what is wrong is said.
@@ -142,6 +163,7 @@ fn unwritten_type<'a>(a: &'a Aim<'_>) -> Option<&'a Ty>
         Aim::Held(_, _) => None,
         Aim::First(_, _) => None,
         Aim::Barred(_) => None,
+        Aim::Lacking(_, _) => None,
     }
 }
 

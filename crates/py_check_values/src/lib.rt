@@ -10,5 +10,5 @@ mod assignments;
 mod returns;
 
 pub use aims::Aim;
-pub use assignments::{assigned, binds, items_for, unpacks};
+pub use assignments::{are_declared, assigned, binds, items_for, unpacks};
 pub use returns::{Returns, returned, returned_nothing};

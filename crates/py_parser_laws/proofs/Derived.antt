@@ -40,7 +40,7 @@ module _ (tests : Tests) where
   ArgPasses a = ExprPasses tests a.value
 
   abbrev TrailPasses : Trail → Type 0
-  TrailPasses (of_name name) = Unit {0}
+  TrailPasses (of_name name) = tests.name name ≡ true
   TrailPasses (of_args args) = AllByRecursion ArgPasses args
   TrailPasses (of_index i) = ExprPasses tests i
 
@@ -87,7 +87,7 @@ module _ (tests : Tests) where
   SymPasses BLOCK v = RowPasses v
   SymPasses FUNC v = FunctionPasses tests v.0
   SymPasses PARAM v = tests.name v.0 ≡ true
-  SymPasses CLASS v = SuitePasses tests v.0.body
+  SymPasses CLASS v = (tests.name v.0.name ≡ true) × SuitePasses tests v.0.body
   SymPasses CBLOCK v = RowPasses v
   SymPasses MEMBER v = RowPasses v
   SymPasses DECORATED v = StmtPasses tests v
@@ -171,7 +171,7 @@ module _ (tests : Tests) where
   act_more_passes SHIFT_MORE (sign, p) h = h.1
   act_more_passes SUM_MORE (sign, p) h = h.1
   act_more_passes TERM_MORE (sign, p) h = h.1
-  act_more_passes TRAILER (inl (dot, name)) h = tt
+  act_more_passes TRAILER (inl (dot, name)) h = h.1
   act_more_passes TRAILER (inr (inl (opens, (None, closes)))) h = tt
   act_more_passes TRAILER (inr (inl (opens, (Some (a, (args, b)), closes)))) h = (h.1.0.0, h.1.0.1)
   act_more_passes TRAILER (inr (inr (opens, (i, closes)))) h = h.1.0
@@ -183,7 +183,7 @@ module _ (tests : Tests) where
   grow_passes SHIFT_MORE v b h k = (k, h)
   grow_passes SUM_MORE v b h k = (k, h)
   grow_passes TERM_MORE v b h k = (k, h)
-  grow_passes TRAILER v (of_name name) h k = k
+  grow_passes TRAILER v (of_name name) h k = (h, k)
   grow_passes TRAILER v (of_args args) h k = (k, arguments_pass args h)
   grow_passes TRAILER v (of_index i) h k = (k, h)
 
@@ -295,7 +295,7 @@ module _ (tests : Tests) where
   act_passes j BLOCK (inr v) h = h
   act_passes j FUNC (word, (name, ((opens, (params, closes)), (ret, (colon, body))))) h = (h.1.0, params_pass params h.1.1.0.1.0, h.1.1.1.1.1.0, h.1.1.1.1.1.1)
   act_passes j PARAM (name, mark) h = h.0
-  act_passes j CLASS (word, (name, (bases, (colon, body)))) h = h.1.1.1.1.1
+  act_passes j CLASS (word, (name, (bases, (colon, body)))) h = (h.1.0, h.1.1.1.1.1)
   act_passes j CBLOCK (inl (line, (indent, (stmts, (others, dedent))))) h = rows_pass stmts others h.1.1.0 h.1.1.1.0
   act_passes j CBLOCK (inr v) h = h
   act_passes j MEMBER (inl f) h = (tt, (h, tt))

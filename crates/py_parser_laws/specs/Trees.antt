@@ -1,6 +1,6 @@
 -- Trees whose names, numbers and texts pass tests, and which have the parts that a text gives them: a body has a statement, an `if` a
--- test, a `try` an except clause or a `finally`, a comparison a second operand. Not looked at are the keys of arguments, names behind
--- a dot, what is imported, decorators, annotations and bases, the names in `global`, and the expressions in `except`.
+-- test, a `try` an except clause or a `finally`, a comparison a second operand. Not looked at are the keys of arguments, what is
+-- imported, decorators, annotations and bases, the names in `global`, and the expressions in `except`.
 use Rattle.std.specs.Prelude.{◌≡◌, ℕ, ℤ, Bool, true, List, [], ◌++◌, Option, Some, None}
 use Rattle.std.specs.List.{AllByRecursion}
 use Rattle.py_syntax.specs.declared.token.TokenKind.{TokenKind}
@@ -68,7 +68,7 @@ module _ (tests : Tests) where
     NodePasses (e.ListOf items) = ExprsPass items
     NodePasses (e.DictOf entries) = EntriesPass entries
     NodePasses (e.TupleOf items) = ExprsPass items
-    NodePasses (e.Attr a name) = ExprPasses a
+    NodePasses (e.Attr a name) = (tests.name name ≡ true) × ExprPasses a
     NodePasses (e.Index a i) = ExprPasses a × ExprPasses i
     NodePasses (e.Call callee more) = ExprPasses callee × ArgumentsPass more
     NodePasses _ = Unit {0}
@@ -122,7 +122,7 @@ module _ (tests : Tests) where
     ActPasses (s.For target a body) = ExprPasses target × ExprPasses a × IsFilled body × SuitePasses body
     ActPasses (s.Try body handlers last) = HasClause handlers last × IsFilled body × SuitePasses body × HandlersPass handlers × LastPasses last
     ActPasses (s.Def name params ret body marks) = (tests.name name ≡ true) × ParamsPass params × IsFilled body × SuitePasses body
-    ActPasses (s.ClassDef name bases body marks) = SuitePasses body
+    ActPasses (s.ClassDef name bases body marks) = (tests.name name ≡ true) × SuitePasses body
     ActPasses _ = Unit {0}
 
     pub SuitePasses : Suite → Type 0

@@ -14,6 +14,6 @@ returns c =
     let m = body_tree c.args.body.now in
     record {
       typed = c.in_ok-typed.ensures.typed ∙ ap (λ (k : Known). (block C outside nothing_around k m).got) c.in_ok-place.ensures;
-      told = c.in_ok-typed.ensures.told ∙ ap (λ (k : Known). c.args.faults.now ++ walk_along (classes_seen c.args.headers.now) C k [] 0 c.args.insides.now m) c.in_ok-place.ensures;
+      told = c.in_ok-typed.ensures.told ∙ ap (λ (k : Known). c.args.faults.now ++ walk_along (classes_seen c.args.tables) C k [] 0 c.args.insides.now m) c.in_ok-place.ensures;
       known = ap (λ (k : Known). k.types.globals) (c.in_ok-typed.ensures.known ∙ ap (λ k. block_after C k m) c.in_ok-place.ensures);
     }

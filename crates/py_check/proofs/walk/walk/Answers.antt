@@ -15,7 +15,7 @@ loop-s-preserved c =
     let s = c.s-item.result in
     let k = known_at c.loop-s.place in
     let k1 = known_at c.statement.new.place in
-    let classes = classes_seen c.args.classes.now in
+    let classes = classes_seen c.args.classes in
     record {
       typed = typed_step C xs i s c.loop-s-test.true c.s-item.is k k1 _ _ _ _ c.in_ok-one.ensures.known c.in_ok-one.ensures.told.0 c.in_ok-typed.ensures c.loop-s.invariant.typed;
       told = said_step C xs i s c.loop-s-test.true c.s-item.is classes k k1 _ _ _ _ _ _ _ _ _ _ c.in_ok-one.ensures.known c.in_ok-rest.ensures.names c.in_ok-rest.ensures.classes c.in_ok-rest.ensures.scopes c.in_ok-rest.ensures.told c.in_ok-one.ensures.told.1 c.loop-s.invariant.told;
@@ -30,6 +30,6 @@ returns c =
     let k = known_at c.loop-s.place in
     record {
       typed = typed_ends C xs i c.loop-s-test.false k (option_map (map typed_stmt) c.loop-s.typed) _ c.loop-s.invariant.typed;
-      told = said_ends C xs i c.loop-s-test.false (classes_seen c.args.classes.now) k _ _ _ _ _ c.loop-s.invariant.told;
+      told = said_ends C xs i c.loop-s-test.false (classes_seen c.args.classes) k _ _ _ _ _ c.loop-s.invariant.told;
       known = walk_ends C xs i c.loop-s-test.false k _ c.loop-s.invariant.known;
     }

@@ -5,16 +5,18 @@ use Rattle.py_check_coercions.specs.Boxes.{boxed}
 use Rattle.py_check_values.specs.Assignments.{assignment}
 use Rattle.py_check_values.specs.declared.aims.Aim as declared
 use Rattle.py_check_values.specs.Aims.{Aim, aim_seen}
-use Rattle.py_check_targets.specs.Targets.{annotation_fault}
+use Rattle.py_check_targets.specs.Targets.{annotation_fault, act_of, target_of}
 use Rattle.py_check_targets.specs.Views.{boxed_aim}
-use Rattle.py_check_assignments.proofs.AssignmentLemmas.{no_annotation_says, given_says}
+use Rattle.py_check_assignments.proofs.AssignmentLemmas.{wrong_says, given_says}
 use Rattle.py_check_assignments.proofs.annotations.given_all.Goals as goal
 
 pub returns-then-not-branch : goal.returns-then-not-branch
 returns-then-not-branch c =
     let right = c.in_ok-may_be_annotated.field-0 in
     let Found : declared.Aim → Type 0 = λ a. Finds right c.args.faults.now c.may_be_annotated.new.faults c.args.span (annotation_fault c.args.x.now c.args.bound (aim_seen a)) in
-    no_annotation_says (map class_entry c.args.classes.now.list) c.args.span (annotation_fault c.args.x.now c.args.bound (boxed_aim c.args.aim)) (boxed_aim c.args.aim) (boxed c.args.e) right c.args.faults.now c.may_be_annotated.new.faults
+    let classes = map class_entry c.args.classes.now.list in
+    let a = boxed_aim c.args.aim in
+    wrong_says c.args.span (annotation_fault c.args.x.now c.args.bound a) (act_of (target_of a) (assignment classes a (boxed c.args.e))) right c.args.faults.now c.may_be_annotated.new.faults
     (subst Found c.deref.ensures c.in_ok-may_be_annotated.ensures) c.if-not-branch.true
 
 pub returns : goal.returns

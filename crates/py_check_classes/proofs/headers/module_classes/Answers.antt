@@ -11,5 +11,6 @@ pub returns : goal.returns
 returns c =
     record {
       said = λ name. c.in_ok-said.ensures name ∙ ap (λ pairs. lookup (bytes_eq name) (numbered 0 pairs)) c.in_ok-outline.ensures.said;
-      headers = c.in_ok-headers.ensures ∙ headers_by (get bytes_eq c.in_ok-said.said) (trees c.args.definitions.now) c.in_ok-outline.outline.said.items c.in_ok-outline.ensures.said c.in_ok-said.ensures;
+      headers = c.in_ok-found.ensures.headers ∙ headers_by (get bytes_eq c.in_ok-said.said) (trees c.args.definitions.now) c.in_ok-outline.outline.said.items c.in_ok-outline.ensures.said c.in_ok-said.ensures;
+      kept = c.in_ok-found.ensures.kept;
     }

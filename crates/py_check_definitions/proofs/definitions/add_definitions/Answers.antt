@@ -9,7 +9,7 @@ pub loop-s-preserved : goal.loop-s-preserved
 loop-s-preserved c =
     let left = c.behind-rest.ensures ∙ ap (λ n. drop n c.loop-s.rest.now) c.in_ok-held.ensures.held in
     record {
-      told = walk_step c.args.definitions.now c.loop-s.s-index c.s-item.result c.loop-s-test.true c.s-item.is (classes_seen c.args.classes.now) (context c.args.scope.now) (known_at c.args.place.now) _ _ c.in_ok-held.ensures.names _ _ c.in_ok-held.ensures.classes _ _ left _ _ _ c.in_ok-add_definition.ensures c.loop-s.invariant.told;
+      told = walk_step c.args.definitions.now c.loop-s.s-index c.s-item.result c.loop-s-test.true c.s-item.is (classes_seen c.args.classes) (context c.args.scope.now) (known_at c.args.place.now) _ _ c.in_ok-held.ensures.names _ _ c.in_ok-held.ensures.classes _ _ left _ _ _ c.in_ok-add_definition.ensures c.loop-s.invariant.told;
       names = names_step c.args.definitions.now c.loop-s.s-index c.s-item.result c.loop-s-test.true c.s-item.is _ _ c.in_ok-held.ensures.names _ c.loop-s.invariant.names;
       classes = classes_step c.args.definitions.now c.loop-s.s-index c.s-item.result c.loop-s-test.true c.s-item.is _ _ c.in_ok-held.ensures.classes _ c.loop-s.invariant.classes;
       scopes = scopes_step c.args.definitions.now c.loop-s.s-index c.s-item.result c.loop-s-test.true c.s-item.is _ _ left _ c.loop-s.invariant.scopes;

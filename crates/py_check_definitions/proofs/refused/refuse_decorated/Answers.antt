@@ -1,7 +1,7 @@
 use Rattle.std.proofs.Common.{◌≡◌, ◌++◌, IfOk, sym, subst}
 use Rattle.py_syntax.specs.Statements.{FuncTree}
 use Rattle.py_binder.proofs.DefinitionLemmas.{func_tree_at}
-use Rattle.py_check_definitions.specs.Definitions.{decorated_said}
+use Rattle.py_check_definitions.specs.Refused.{decorated_said}
 use Rattle.py_check_definitions.proofs.refused.refuse_decorated.Goals as goal
 
 pub returns : goal.returns

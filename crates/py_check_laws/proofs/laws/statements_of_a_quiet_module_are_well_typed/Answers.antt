@@ -1,4 +1,4 @@
-use Rattle.py_check_laws.proofs.Described.{quiet_stands}
+use Rattle.py_check_laws.proofs.Standing.{quiet_stands}
 use Rattle.py_check_laws.proofs.laws.statements_of_a_quiet_module_are_well_typed.Goals as goal
 
 pub returns : goal.returns

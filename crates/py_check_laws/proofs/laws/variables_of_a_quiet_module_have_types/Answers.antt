@@ -1,4 +1,4 @@
-use Rattle.py_check_laws.proofs.Varied.{quiet_variables}
+use Rattle.py_check_laws.proofs.Reached.{quiet_variables}
 use Rattle.py_check_laws.proofs.laws.variables_of_a_quiet_module_have_types.Goals as goal
 
 pub returns : goal.returns

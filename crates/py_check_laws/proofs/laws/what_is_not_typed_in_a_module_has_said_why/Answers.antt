@@ -1,4 +1,4 @@
-use Rattle.py_check_laws.proofs.Modules.{quiet_module}
+use Rattle.py_check_laws.proofs.Reached.{quiet_module}
 use Rattle.py_check_laws.proofs.laws.what_is_not_typed_in_a_module_has_said_why.Goals as goal
 
 pub returns : goal.returns

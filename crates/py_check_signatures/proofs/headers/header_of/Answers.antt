@@ -8,7 +8,7 @@ use Rattle.py_check_signatures.proofs.headers.header_of.Goals as goal
 
 pub returns-clause-header : goal.returns-clause-header
 returns-clause-header c =
-    let P : FuncTree → Type 0 = λ t. IfOk c.read.result (λ h. header_sorts h ≡ header (context c.args.scope.now).meaning t) in
+    let P : FuncTree → Type 0 = λ t. IfOk c.read.result (λ h. header_sorts h ≡ header (context c.args.scope.now).meaning c.args.owner t) in
     subst P (sym (func_tree_at c.args.f.now)) c.read.ensures.header
 
 pub returns-clause-told : goal.returns-clause-told

@@ -1,0 +1,9 @@
+pub mod Rows
+pub mod Events
+pub mod Places
+pub mod Own
+pub mod Members
+pub mod Entries
+pub mod Typed
+pub mod Known
+pub mod Formed
