@@ -14,9 +14,9 @@ use Rattle.py_typed.specs.declared.statement.TStmtKind as act
 use Rattle.py_typed.specs.declared.checked.TFunc.{TFunc}
 use Rattle.py_typed.proofs.ExpressionLemmas.{typed_expr_at, typed_node-Compare}
 use Rattle.py_typed.proofs.StatementLemmas.{typed_stmt_at, typed_act-If}
-use Rattle.py_check_unbuilt.specs.declared.form.Form.{Form}
-use Rattle.py_check_unbuilt.specs.declared.form.Form.TheVariants as form
-use Rattle.py_check_unbuilt.specs.declared.form.TypeKind.{TypeKind}
+use Rattle.ir_builder_forms.specs.declared.form.Form.{Form}
+use Rattle.ir_builder_forms.specs.declared.form.Form.TheVariants as form
+use Rattle.ir_builder_forms.specs.declared.form.TypeKind.{TypeKind}
 use Rattle.ir_builder_supported.specs.Forms.{kind as sort_kind}
 use Rattle.ir_builder_supported.proofs.FormLemmas.{module_same}
 

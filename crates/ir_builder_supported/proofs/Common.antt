@@ -9,8 +9,8 @@ pub use Rattle.ir_builder_supported.specs.Least.{act_least, alone_least, arms_le
 pub use Rattle.ir_builder_supported.specs.Statements.{act_forms, alone_forms, are_scalars, arms_forms, class_form, def_line, def_lines, function_forms, function_lines, functions_forms, is_function, is_one, is_taken, is_updated, line_or_none, lines_held, returned_forms, statement_forms, suite_forms, takes_result, uncompiled_form}
 pub use Rattle.py_check_names.specs.Outline.{suite_definitions}
 pub use Rattle.py_check_names.specs.Walked.{trees}
-pub use Rattle.py_check_unbuilt.specs.Least.{least, lesser}
-pub use Rattle.py_check_unbuilt.specs.declared.form.Unbuilt.{Unbuilt}
+pub use Rattle.ir_builder_forms.specs.Least.{least, lesser}
+pub use Rattle.ir_builder_forms.specs.declared.form.Unbuilt.{Unbuilt}
 pub use Rattle.py_syntax.specs.Statements.{StmtTree, Suite, body_tree, module_tree, stmt_tree}
 pub use Rattle.py_syntax.specs.declared.token.Span.{Span}
 pub use Rattle.py_typed.proofs.FitLemmas.{and_left, and_right, one_type}

@@ -7,11 +7,11 @@ use Rattle.py_typed.specs.Sorts as sort
 use Rattle.py_typed.specs.Sorts.{Sort}
 use Rattle.py_typed.specs.Expressions.{TypedExpr, typed, TypedNode, Nothing, Local, Global, Truth, Compare, ListOf, DictOf, TupleOf, Attr, At, TupleAt, Call, Make, MakeExc, Method, SuperInit, Len, Append, Pop, Comparisons, no_comparisons, comparison_then, type_of}
 use Rattle.py_typed.specs.Statements.{Variable, TypedFunc, TypedTarget, LocalTarget, GlobalTarget, AttrTarget, ItemTarget}
-use Rattle.py_check_unbuilt.specs.declared.form.Form.{Form}
-use Rattle.py_check_unbuilt.specs.declared.form.Form.TheVariants as form
-use Rattle.py_check_unbuilt.specs.declared.form.TypeKind.{TypeKind}
-use Rattle.py_check_unbuilt.specs.declared.form.TypeKind.TheVariants as kinds
-use Rattle.py_check_unbuilt.specs.declared.form.Unbuilt.{Unbuilt}
+use Rattle.ir_builder_forms.specs.declared.form.Form.{Form}
+use Rattle.ir_builder_forms.specs.declared.form.Form.TheVariants as form
+use Rattle.ir_builder_forms.specs.declared.form.TypeKind.{TypeKind}
+use Rattle.ir_builder_forms.specs.declared.form.TypeKind.TheVariants as kinds
+use Rattle.ir_builder_forms.specs.declared.form.Unbuilt.{Unbuilt}
 use Rattle.ir_builder_expressions.specs.Parts.{is_scalar}
 
 -- a form on a line

@@ -9,9 +9,9 @@ use Rattle.py_typed.specs.Fits.{is_same_type}
 use Rattle.py_typed.specs.Expressions.{TypedExpr, typed, Print, type_of}
 use Rattle.py_typed.specs.Statements.{Variable, TypedFunc, TypedModule, TypedTarget, LocalTarget, GlobalTarget, TypedStmt, on_line, TypedAct, Do, Assign, Aug, Del, If, While, ForRange, ForList, ForDict, Try, Raise, Return, Break, Continue, Assert, Pass, TypedSuite, no_stmts, stmt_then, Arms, no_arms, arm_then}
 use Rattle.py_check_names.specs.Outline.{suite_definitions}
-use Rattle.py_check_unbuilt.specs.declared.form.Form.TheVariants as form
-use Rattle.py_check_unbuilt.specs.declared.form.Unbuilt.{Unbuilt}
-use Rattle.py_check_unbuilt.specs.Least.{least}
+use Rattle.ir_builder_forms.specs.declared.form.Form.TheVariants as form
+use Rattle.ir_builder_forms.specs.declared.form.Unbuilt.{Unbuilt}
+use Rattle.ir_builder_forms.specs.Least.{least}
 use Rattle.ir_builder_operations.specs.Operating.{is_arithmetic}
 use Rattle.ir_builder_expressions.specs.Parts.{is_int, is_i64, is_scalar, is_result}
 use Rattle.ir_builder_supported.specs.Forms.{unbuilt, expression_form, expression_at, targets_form, update_form, is_none, function_form}

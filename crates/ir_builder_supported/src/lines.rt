@@ -3,7 +3,7 @@
 //! Each function takes the first found so far, and gives the first with those of what it goes over. Those that go over statements
 //! take the variables of the function and of the module too.
 ghost use Rattle.std.specs.Prelude.{◌≡◌, ◌++◌, map, slice_get, Some, IfOk};
-ghost use Rattle.py_check_unbuilt.specs.Least.{lesser};
+ghost use Rattle.ir_builder_forms.specs.Least.{lesser};
 ghost use Rattle.py_syntax.specs.Statements.{module_tree, stmt_tree, body_tree};
 ghost use Rattle.py_check_names.specs.Walked.{trees};
 ghost use Rattle.py_typed.specs.Expressions.{typed_expr, exprs_of, comparisons_of, typed_comparison};
@@ -14,8 +14,8 @@ ghost use Rattle.ir_builder_supported.specs.Least as find;
 
 use crate::forms::{is_assigned, is_form, is_function, is_scalar, is_updated};
 use crate::naming::{assignment_form, expression_at, function_form, unbuilt, update_form};
+use ir_builder_forms::{Form, Unbuilt, lesser};
 use py_check_names::definitions_in;
-use py_check_unbuilt::{Form, Unbuilt, lesser};
 use py_syntax::{CmpOp, Module, Stmt, StmtKind};
 use py_typed::{Checked, TExpr, TFunc, TKind, TStmt, TStmtKind, Var};
 use std::alloc::Global;

@@ -6,7 +6,7 @@ ghost use Rattle.py_typed.specs.Statements.{typed_target, typed_func, variable};
 ghost use Rattle.ir_builder_supported.specs.Forms as spec;
 
 use crate::forms::is_scalar;
-use py_check_unbuilt::{Form, TypeKind, Unbuilt};
+use ir_builder_forms::{Form, TypeKind, Unbuilt};
 use py_syntax::CmpOp;
 use py_typed::{TExpr, TFunc, TKind, Target, Ty, Var};
 

@@ -2,7 +2,7 @@
 use Rattle.std.proofs.Common.{◌≡◌, refl, sym, ◌∙◌, ap, subst, ℕ, List, [], ◌∷◌, Option, Some, None, Result, Ok, Err}
 use Rattle.std.specs.Prelude.{IfOk}
 use Rattle.py_syntax.specs.Statements.{Suite}
-use Rattle.py_check_unbuilt.specs.declared.form.Unbuilt as built
+use Rattle.ir_builder_forms.specs.declared.form.Unbuilt as built
 use Rattle.py_typed.specs.Statements.{TypedModule}
 use Rattle.ir_builder_supported.specs.Statements.{uncompiled_form}
 use Rattle.py_parser_source.specs.declared.fault.SourceFault.{SourceFault}

@@ -2,7 +2,7 @@
 use Rattle.std.proofs.Common.{◌≡◌, refl, sym, ◌∙◌, ap, subst, ℕ, true, List, [], ◌∷◌, Option, Some, None, Result, Ok, Err}
 use Rattle.std.specs.Prelude.{if◌then◌else◌, IfOk}
 use Rattle.py_syntax.specs.Statements.{Suite}
-use Rattle.py_check_unbuilt.specs.declared.form.Unbuilt.{Unbuilt}
+use Rattle.ir_builder_forms.specs.declared.form.Unbuilt.{Unbuilt}
 use Rattle.py_typed.specs.Statements.{TypedModule}
 use Rattle.py_typed.specs.WellTypedModule.{is_well_typed}
 use Rattle.py_check.specs.Module.{diagnostics, typed}

@@ -5,8 +5,8 @@
 use Rattle.std.specs.Prelude.{ℕ, Bool, true, false, if◌then◌else◌, List, [], ◌∷◌, Option, Some, option_to_list, codes}
 use Rattle.std.specs.Option.{option_map}
 use Rattle.py_syntax.specs.Statements.{Suite}
-use Rattle.py_check_unbuilt.specs.declared.form.Unbuilt.{Unbuilt}
-use Rattle.py_check_unbuilt.specs.Forms.{form_text}
+use Rattle.ir_builder_forms.specs.declared.form.Unbuilt.{Unbuilt}
+use Rattle.ir_builder_forms.specs.Forms.{form_text}
 use Rattle.ir_builder_supported.specs.Statements.{uncompiled_form}
 use Rattle.py_parser_source.specs.Entries.{Entry, Telling}
 use Rattle.py_parser_source.specs.Faults as source

@@ -6,7 +6,7 @@ ghost use Rattle.mypyc_top_compiler.specs.Faults.{unbuilt_entry};
 ghost use Rattle.mypyc_top_compiler.specs.Diagnostics.{entry_text, errors_word, found_text, entries_text, note_text, notes_text};
 ghost use Rattle.mypyc_top_compiler.specs.Found.{entries_of};
 
-use py_check_unbuilt::Unbuilt;
+use ir_builder_forms::Unbuilt;
 use py_parser_source::SourceFault;
 use py_syntax_diagnostics::Diag;
 use std::alloc::Global;

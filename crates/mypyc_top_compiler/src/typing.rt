@@ -10,12 +10,12 @@ ghost use Rattle.mypyc_top_compiler.specs.Faults.{compiles, unbuilt_at, of_compi
 ghost use Rattle.mypyc_top_compiler.specs.Found.{Tells, Judges};
 
 use crate::faults::Faults;
+use ir_builder_forms::Unbuilt;
 use ir_builder_supported::uncompiled_form;
 use mypyc_top_words::Emit;
 use py_binder::bind;
 use py_check::{CheckError, check};
 use py_check_source_laws::quiet_files_are_well_typed;
-use py_check_unbuilt::Unbuilt;
 use py_parser_source::{SourceError, read_module};
 use py_syntax::Module;
 use py_typed::Checked;

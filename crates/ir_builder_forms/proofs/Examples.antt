@@ -1,10 +1,10 @@
 -- What some forms are called, and the least of a few.
 use Rattle.std.proofs.Common.{◌≡◌, refl, List, [], ◌∷◌, Some, None, codes}
-use Rattle.py_check_unbuilt.specs.declared.form.Form.TheVariants as form
-use Rattle.py_check_unbuilt.specs.declared.form.TypeKind.TheVariants as kind
-use Rattle.py_check_unbuilt.specs.declared.form.Unbuilt.{Unbuilt}
-use Rattle.py_check_unbuilt.specs.Forms.{form_text}
-use Rattle.py_check_unbuilt.specs.Least.{least}
+use Rattle.ir_builder_forms.specs.declared.form.Form.TheVariants as form
+use Rattle.ir_builder_forms.specs.declared.form.TypeKind.TheVariants as kind
+use Rattle.ir_builder_forms.specs.declared.form.Unbuilt.{Unbuilt}
+use Rattle.ir_builder_forms.specs.Forms.{form_text}
+use Rattle.ir_builder_forms.specs.Least.{least}
 
 called : form_text (form.Index kind.List) ≡ codes "index of a list"
 called = refl

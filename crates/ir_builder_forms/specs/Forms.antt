@@ -1,10 +1,10 @@
 -- What the forms are called that are not compiled yet: in the words of the profile, and a form that hangs on the type of something
 -- with the kind of the type behind them.
 use Rattle.std.specs.Prelude.{ℕ, List, [], ◌++◌, Option, Some, None, codes}
-use Rattle.py_check_unbuilt.specs.declared.form.Form.{Form}
-use Rattle.py_check_unbuilt.specs.declared.form.Form.TheVariants as form
-use Rattle.py_check_unbuilt.specs.declared.form.TypeKind.{TypeKind}
-use Rattle.py_check_unbuilt.specs.declared.form.TypeKind.TheVariants as kind
+use Rattle.ir_builder_forms.specs.declared.form.Form.{Form}
+use Rattle.ir_builder_forms.specs.declared.form.Form.TheVariants as form
+use Rattle.ir_builder_forms.specs.declared.form.TypeKind.{TypeKind}
+use Rattle.ir_builder_forms.specs.declared.form.TypeKind.TheVariants as kind
 
 -- the types of a kind
 abbrev pub kind_name : TypeKind → List ℕ

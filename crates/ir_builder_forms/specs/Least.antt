@@ -1,6 +1,6 @@
 -- The least of several forms that are not compiled: the one on the first line.
 use Rattle.std.specs.Prelude.{nat_lt, if◌then◌else◌, List, [], ◌∷◌, Option, Some, None}
-use Rattle.py_check_unbuilt.specs.declared.form.Unbuilt.{Unbuilt}
+use Rattle.ir_builder_forms.specs.declared.form.Unbuilt.{Unbuilt}
 
 -- the one on the lesser line, of a form and of one before it; on one line it is the one before
 abbrev pub lesser : Unbuilt → Option Unbuilt → Unbuilt

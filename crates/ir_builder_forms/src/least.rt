@@ -1,6 +1,6 @@
 //! The lesser of two forms that are not compiled.
 ghost use Rattle.std.specs.Prelude.{◌≡◌};
-ghost use Rattle.py_check_unbuilt.specs.Least as spec;
+ghost use Rattle.ir_builder_forms.specs.Least as spec;
 
 use crate::form::Unbuilt;
 

@@ -1,6 +1,6 @@
 //! The forms of the language that are not compiled yet, and what they are called.
 ghost use Rattle.std.specs.Prelude.{◌≡◌};
-ghost use Rattle.py_check_unbuilt.specs.Forms.{kind_name, form_words, form_kind};
+ghost use Rattle.ir_builder_forms.specs.Forms.{kind_name, form_words, form_kind};
 
 use std::fmt;
 
@@ -149,7 +149,7 @@ impl Form {
 
 impl fmt::Display for Form {
     ghost use Rattle.std.specs.Prelude.{Some};
-    ghost use Rattle.py_check_unbuilt.specs.Forms.{form_text};
+    ghost use Rattle.ir_builder_forms.specs.Forms.{form_text};
 
     ghost output = { λ form. Some (form_text form) };
 
