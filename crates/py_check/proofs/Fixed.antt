@@ -19,7 +19,7 @@ use Rattle.py_check_flow.specs.Bindings.{Binding, bound_names, target_bindings, 
 use Rattle.py_check_flow.specs.Closed.{is_closed}
 use Rattle.py_check_places.specs.Places.{Known, bind_variable, bind_name, bind_names, with_names, where_test, entering, Way, setting_out, behind_arm}
 use Rattle.py_check_places.specs.Shapes.{is_row, leaves, parts_of, bind_target}
-use Rattle.py_check_assignments.specs.Assignments.{value_for, assigns, annotates_name, value_sort, binds_annotated}
+use Rattle.py_check_assignments.specs.Assignments.{value_for, assigns, annotates_name, value_sort, other_sort, binds_annotated}
 use Rattle.py_check_loops.specs.Loops.{course}
 use Rattle.py_check_loops.specs.Heads.{some_items, for_head, in_for}
 use Rattle.py_check_exceptions.specs.Handlers.{handler_head, in_handler}
@@ -94,7 +94,7 @@ module _ (C : Context) (x : List ℕ) where
   set_target ok k target t there h = set_leaves ok k (leaves target) (parts_of (is_row target) (length (leaves target)) t) there (subst IsBound (target_leaves target) h)
 
   set_annotated : (k : Known) (span : Span) (o : Option (List ℕ)) (target mark : ExprTree) (v : Option ExprTree) → name_in target ≡ o → IsThere k → IsBound (marked o target mark) → IsSet (binds_annotated C k span o target mark v)
-  set_annotated k span None target mark v n there h = set_target false k target None there h
+  set_annotated k span None target mark v n there h = set_target false k target (other_sort C k target v) there h
   set_annotated k span (Some y) target mark v n there h =
       let ok = is_some (annotates_name C k span y mark v).got in
       let t = value_sort C k y v in

@@ -17,7 +17,7 @@ use Rattle.py_check_flow.specs.Closed.{is_closed}
 use Rattle.py_check_places.specs.Places.{Known, is_unset, fix, first_type, bind_variable, bind_name, bind_names, with_names, where_test, entering, Way, setting_out, behind_arm}
 use Rattle.py_check_places.specs.Shapes.{is_row, leaves, target_names, parts_of}
 use Rattle.py_check_places.specs.Shapes.{bind_target}
-use Rattle.py_check_assignments.specs.Assignments.{value_for, assigns, annotates_name, value_sort, binds_annotated}
+use Rattle.py_check_assignments.specs.Assignments.{value_for, assigns, annotates_name, value_sort, other_sort, binds_annotated}
 use Rattle.py_check_loops.specs.Loops.{course}
 use Rattle.py_check_loops.specs.Heads.{some_items, for_head, in_for}
 use Rattle.py_check_exceptions.specs.Handlers.{handler_head, in_handler}
@@ -139,7 +139,7 @@ module _ (C : Context) where
   follows_target ok k target t = follows_names ok k (target_names target) (parts_of (is_row target) (length (leaves target)) t)
 
   follows_annotated : (k : Known) (span : Span) (x : Option (List ℕ)) (target mark : ExprTree) (e : Option ExprTree) → Follows k.types (binds_annotated C k span x target mark e).types
-  follows_annotated k span None target mark e = follows_target false k target None
+  follows_annotated k span None target mark e = follows_target false k target (other_sort C k target e)
   follows_annotated k span (Some x) target mark e = follows_target (is_some (annotates_name C k span x mark e).got) k target (value_sort C k x e)
 
   mutual

@@ -7,7 +7,8 @@ use Rattle.std.specs.Prelude.{if◌then◌else◌}
 use Rattle.std.specs.Option.{option_map, option_zip}
 use Rattle.value_core.specs.declared.memory.Memory.{Memory}
 use Rattle.py_syntax.specs.declared.token.Span.{Span}
-use Rattle.py_syntax.specs.Expressions.{ExprTree}
+use Rattle.py_syntax.specs.Expressions as tree
+use Rattle.py_syntax.specs.Expressions.{ExprTree, at}
 use Rattle.py_syntax_diagnostics.specs.declared.diagnostic.Diag.{Diag}
 use Rattle.py_typed.specs.declared.types.Ty.{Ty}
 use Rattle.py_typed.specs.declared.expression.TExpr.{TExpr}
@@ -22,18 +23,19 @@ use Rattle.py_check_messages.proofs.RowLemmas.{two_parts}
 use Rattle.py_check_messages.specs.Messages.{no_target}
 use Rattle.py_check_annotations.specs.Annotations.{annotation}
 use Rattle.py_check_coercions.specs.Boxes.{boxed}
-use Rattle.py_check_coercions.specs.Several.{unless}
+use Rattle.py_check_coercions.specs.Several.{unless, with_part}
 use Rattle.py_check_values.specs.Assignments.{assignment, lacking_fault}
 use Rattle.py_check_context.specs.Context.{Context}
 use Rattle.py_check_places.specs.Places.{Known, is_bound}
-use Rattle.py_check_places.specs.Shapes.{is_row, is_flat}
+use Rattle.py_check_places.specs.Shapes.{is_row, is_flat, bind_target}
 use Rattle.py_check_values.specs.declared.aims.Aim as declared
 use Rattle.py_check_values.specs.Aims.{Aim, aim_seen}
+use Rattle.py_check_targets.specs.Attributes.{own_attribute}
 use Rattle.py_check_targets.specs.Targets.{fault_or, asked_sort, act_of, target_of, targets_of, are_placed, value_assigned, placed, assigned, given, given_after, name_aim, target_aims, aims_behind}
 use Rattle.py_check_targets.specs.Views.{boxed_aim, boxed_act, boxed_sort}
 use Rattle.py_check_targets.proofs.LookLemmas.{one_look}
 use Rattle.py_check_targets.proofs.SeenLemmas.{seen_of}
-use Rattle.py_check_assignments.specs.Assignments.{asked_for, value_for, assigns, annotated_value, gives_value}
+use Rattle.py_check_assignments.specs.Assignments.{asked_for, value_for, assigns, annotated_value, gives_value, annotates_other}
 use Rattle.py_check_assignments.specs.Views.{Shows}
 
 -- a rule of two parts, where both are typed
@@ -107,11 +109,14 @@ pub is_asked_for_so : (c : Context) (k : Known) (target : ExprTree) (r : Result 
 is_asked_for_so c k target (Ok asked) aims several row looked is = is_asked_for c k target asked aims several row looked is
 is_asked_for_so c k target (Err m) aims several row looked is = tt
 
+-- of targets and a value, each as it was looked at
+pub row_says : (span : Span) (f : List Aim × TypedExpr → Result TypedAct Message) (s : Seen (List Aim)) (v : Seen TypedExpr) (found : Option (List declared.Aim)) (e : Option (Box TExpr Global)) (r : Result (Option (Box TStmtKind Global)) Memory) (old mid next new : List Diag) → Tells (map aim_seen) found old mid s → Tells boxed e mid next v → IfOk r (λ t. Tells boxed_act t next new (ruled span f (option_zip (option_map (map aim_seen) found) (option_map boxed e)))) → IfOk r (λ t. Tells boxed_act t old new (rule span f (both s v)))
+row_says span f s v found e (Ok t) old mid next new told spoken h = two_parts span f (map aim_seen) boxed boxed_act s v found e t old mid next new told spoken h
+row_says span f s v found e (Err m) old mid next new told spoken h = tt
+
 -- a value whose diagnostics are put behind those of its targets
 pub behind_says : (span : Span) (f : List Aim × TypedExpr → Result TypedAct Message) (s : Seen (List Aim)) (found : Option (List declared.Aim)) (e : Option (Box TExpr Global)) (said : List Diag) (r : Result (Option (Box TStmtKind Global)) Memory) (old mid next new : List Diag) → Tells (map aim_seen) found old mid s → next ≡ mid ++ said → IfOk r (λ t. Tells boxed_act t next new (ruled span f (option_zip (option_map (map aim_seen) found) (option_map boxed e)))) → IfOk r (λ t. Tells boxed_act t old new (rule span f (both s (seen_of (option_map boxed e) said))))
-behind_says span f s found e said (Ok t) old mid next new told put h =
-    two_parts span f (map aim_seen) boxed boxed_act s (seen_of (option_map boxed e) said) found e t old mid next new told (refl, put) h
-behind_says span f s found e said (Err m) old mid next new told put h = tt
+behind_says span f s found e said r old mid next new told put h = row_says span f s (seen_of (option_map boxed e) said) found e r old mid next new told (refl, put) h
 
 -- several targets, that were looked at behind the value
 pub several_says : (c : Context) (k : Known) (span : Span) (target e : ExprTree) (v : Seen TypedExpr) (asked s : Option Sort) (t : Option (Box TStmtKind Global)) (old new : List Diag) → asked ≡ asked_for c k target → v ≡ value_for c k target e → s ≡ option_map type_of v.got → Tells boxed_act t old new (rule span (assigned c.classes target asked) (both (aims_behind c k target s) v)) → Tells boxed_act t old new (assigns c k span target e)
@@ -119,6 +124,18 @@ several_says c k span target e v asked s t old new sought is type h =
     let P : Option Sort → Seen TypedExpr → Option Sort → Type 0 = λ a w u. Tells boxed_act t old new (rule span (assigned c.classes target a) (both (aims_behind c k target u) w)) in
     let V = value_for c k target e in
     subst (λ a. P a V (option_map type_of V.got)) sought (subst (λ w. P asked w (option_map type_of w.got)) is (subst (λ u. P asked v u) type h))
+
+-- what is no name, with its annotation, looked at behind the value
+pub other_says : (c : Context) (k : Known) (span : Span) (target mark e : ExprTree) (v : Seen TypedExpr) (s : Option Sort) (old new : List Diag) → v ≡ value_for c k target e → s ≡ option_map type_of v.got → Tells boxed_act None old new (behind (both (both (aims_behind c k target s) (annotation c.meaning mark)) v) (λ p. with_part p (λ q. fails span no_target))) → Tells boxed_act None old new (annotates_other c k span target mark (Some e))
+other_says c k span target mark e v s old new is type h =
+    let P : Seen TypedExpr → Option Sort → Type 0 = λ w u. Tells boxed_act None old new (behind (both (both (aims_behind c k target u) (annotation c.meaning mark)) w) (λ p. with_part p (λ q. fails span no_target))) in
+    subst (λ w. P w (option_map type_of w.got)) is (subst (λ u. P v u) type h)
+
+-- an attribute of the object that is set up binds no name
+pub own_unbound : (c : Context) (k : Known) (target : ExprTree) (p : ExprTree × List ℕ) (t : Option Sort) → own_attribute c.inside target ≡ Some p → bind_target c false k target t ≡ k
+own_unbound c k (at (tree.Attr e a) span) p None h = refl
+own_unbound c k (at (tree.Attr e a) span) p (Some t) h = refl
+own_unbound c k _ p t h = absurd (cc)
 
 -- whatever a value was asked for, one target has only to take it
 abbrev taken : List ClassEntry → ExprTree → Bool → Option Sort → List Aim × TypedExpr → Result TypedAct Message

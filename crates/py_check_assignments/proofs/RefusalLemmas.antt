@@ -1,7 +1,7 @@
 -- What is said of parts that are refused where all of them are typed.
 use Rattle.std.proofs.Common.{◌≡◌, Bool, ◌&&◌, List, [], ◌∷◌, ◌++◌, Option, Some, None, Result, Ok, Err, IfOk, is_some, refl, ap, sym, ◌∙◌, append_assoc}
 use Rattle.std.specs.Prelude.{if◌then◌else◌}
-use Rattle.std.specs.Option.{option_zip}
+use Rattle.std.specs.Option.{option_map, option_zip}
 use Rattle.value_core.specs.declared.memory.Memory.{Memory}
 use Rattle.py_syntax.specs.declared.token.Span.{Span}
 use Rattle.py_syntax_diagnostics.specs.declared.diagnostic.Diag.{Diag}
@@ -16,6 +16,11 @@ use Rattle.py_check_assignments.specs.Views.{Shows}
 pub shown : {A B : Type 0} (view : B → A) (o : Option B) (typed : Bool) (old new : List Diag) (s : Seen A) → Tells view o old new s → typed ≡ is_some o → Shows typed old new s
 shown view None typed old new s told is = (is ∙ ap is_some told.0, told.1)
 shown view (Some x) typed old new s told is = (is ∙ ap is_some told.0, told.1)
+
+-- what was said of it is put behind the rest
+pub given_shown : {A B : Type 0} (view : B → A) (o : Option B) (typed : Bool) (said old new : List Diag) → typed ≡ is_some o → new ≡ old ++ said → Shows typed old new (record { got = option_map view o; said = said })
+given_shown view None typed said old new is put = (is, put)
+given_shown view (Some x) typed said old new is put = (is, put)
 
 joined : {A B : Type 0} (o : Option A) (p : Option B) (a b : Bool) → a ≡ is_some o → b ≡ is_some p → (a && b) ≡ is_some (option_zip o p)
 joined None p a b is_a is_b = ap (λ x. x && b) is_a

@@ -150,6 +150,21 @@ annotated_number = refl
 declared_again : (binds_annotated c start p (Some (codes "x")) (name (codes "x")) (name (codes "int")) None).names ≡ []
 declared_again = refl
 
+-- `(x, l[x]): int = 1, 1`: a row has no annotation, and behind its first target x is an int
+annotated_row : (annotates c start p None (pair (name (codes "x")) (at (tree.Index (name (codes "l")) (name (codes "x"))) p)) (name (codes "int")) (Some (pair one one))).said ≡ diag p no_target ∷ []
+annotated_row = refl
+
+-- behind `(x, y): int = v` x may be None, and y is not; behind `(x, y): int` nothing is known of them
+row_behind : (binds_annotated c start p None (pair (name (codes "x")) (name (codes "y"))) (name (codes "int")) (Some (name (codes "v")))).names ≡ 2 ∷ []
+row_behind = refl
+
+bare_row : (binds_annotated c start p None (pair (name (codes "x")) (name (codes "y"))) (name (codes "int")) None).names ≡ []
+bare_row = refl
+
+-- `x, l[x] += 1`: a tuple is not updated, and x counts as bound to what has no type
+updated_row : (updates c start p (pair (name (codes "x")) (at (tree.Index (name (codes "l")) (name (codes "x"))) p)) Add one).said ≡ diag p no_target ∷ []
+updated_row = refl
+
 -- ---- attributes
 
 abbrev q : Span

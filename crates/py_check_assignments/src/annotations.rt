@@ -1,5 +1,5 @@
 //! Assignments with an annotation.
-ghost use Rattle.std.specs.Prelude.{◌≡◌, map, if◌then◌else◌, Some, None, IfOk};
+ghost use Rattle.std.specs.Prelude.{◌≡◌, false, map, if◌then◌else◌, Some, None, IfOk};
 ghost use Rattle.std.specs.Option.{option_map, option_copied, option_zip};
 ghost use Rattle.py_syntax.specs.Expressions.{expr_tree};
 ghost use Rattle.py_syntax.specs.Statements.{maybe_expr};
@@ -9,27 +9,28 @@ ghost use Rattle.py_typed.specs.Expressions.{type_of};
 ghost use Rattle.py_typed.specs.Statements as acts;
 ghost use Rattle.py_check_context.specs.Context.{context, var_sort, var_of, wanted};
 ghost use Rattle.py_check_flow.specs.Bindings.{name_in};
-ghost use Rattle.py_check_messages.specs.Seen.{Tells, Finds, behind, judged, ruled, silent};
+ghost use Rattle.py_check_messages.specs.Seen.{Tells, Finds, behind, both, fails, judged, ruled, silent};
 ghost use Rattle.py_check_messages.specs.Messages as message;
 ghost use Rattle.py_check_annotations.specs.Annotations as marks;
 ghost use Rattle.py_check_coercions.specs.Boxes.{boxed};
-ghost use Rattle.py_check_coercions.specs.Several.{unless};
+ghost use Rattle.py_check_coercions.specs.Several.{unless, with_part};
 ghost use Rattle.py_check_places.specs.Places as places;
+ghost use Rattle.py_check_places.specs.Shapes as shapes;
 ghost use Rattle.py_check_targets.specs.Attributes as attributes;
 ghost use Rattle.py_check_targets.specs.Targets as rule_of;
 ghost use Rattle.py_check_assignments.specs.Assignments as rules_of;
 ghost use Rattle.py_check_places.specs.Views.{known_at};
 ghost use Rattle.py_check_values.specs.Aims.{aim_seen};
 ghost use Rattle.py_check_targets.specs.Views.{boxed_aim, boxed_act};
-ghost use Rattle.py_check_assignments.specs.Views.{Shows};
+ghost use Rattle.py_check_assignments.specs.Views.{Shows, given_seen};
 
-use crate::assignments::{Assignment, act_of, asked_for, kept, put_target, takes_value};
-use crate::parts::{has_aims, refuse, refuse_value};
+use crate::assignments::{Assignment, Given, act_of, given_value, kept, put_target, takes_value};
+use crate::parts::{has_aims, has_aims_behind, refuse, refuse_behind};
 use py_check_annotations::annotation;
 use py_check_context::{Context, Meaning, VarType, Want, meaning_of};
 use py_check_flow::name_in;
 use py_check_messages::{already_defined, cannot_assign};
-use py_check_places::{Place, bind_target, is_row};
+use py_check_places::{Place, bind_target, is_row, leaves};
 use py_check_targets::{
     OwnAttribute, asked_type, in_box, may_declare, name_aim, own_attribute, target_aims, typed_at,
     value_asked, value_type,
@@ -65,26 +66,23 @@ pub fn annotate(
             bound?;
             Ok(kind)
         }
-        None => {
-            let kind = annotates_at(alloc, scope, place, span, target, mark, e, faults)?;
-            bind_target(alloc, scope, place, false, target, None)?;
-            Ok(kind)
-        }
+        None => annotate_at(alloc, scope, place, span, target, mark, e, faults),
     }
 }
 
-// What is no name, with its annotation.
-fn annotates_at(
+// What is no name, with its annotation, and what is known behind it.
+fn annotate_at(
     alloc: Global,
     scope: &Context<'_>,
-    place: &Place,
+    place: &mut Place,
     span: Span,
     target: &Expr,
     mark: &Expr,
     e: &Option<Expr>,
     faults: &mut Many<Diag>,
 ) -> Result<Option<Box<TStmtKind>>, Memory>
-    ensures { IfOk result (λ t. Tells boxed_act t faults.old faults.new (rules_of.annotates_at (context scope.now) (known_at place.now) span (attributes.own_attribute (context scope.now).inside (expr_tree target.now)) (expr_tree target.now) (expr_tree mark.now) (maybe_expr e.now))) }
+    ensures told { IfOk result (λ t. Tells boxed_act t faults.old faults.new (rules_of.annotates_at (context scope.now) (known_at place.old) span (attributes.own_attribute (context scope.now).inside (expr_tree target.now)) (expr_tree target.now) (expr_tree mark.now) (maybe_expr e.now))) }
+    ensures known { IfOk result (λ t. known_at place.new ≡ shapes.bind_target (context scope.now) false (known_at place.old) (expr_tree target.now) (rules_of.other_sort (context scope.now) (known_at place.old) (expr_tree target.now) (maybe_expr e.now))) }
 {
     match own_attribute(scope, target) {
         Some(OwnAttribute { object: _, name }) => {
@@ -92,7 +90,10 @@ fn annotates_at(
             annotates_own(alloc, scope, place, span, own, mark, e, faults)
         }
         None => {
-            annotates_other(alloc, scope, place, span, target, mark, e, faults)?;
+            let value = annotates_other(alloc, scope, place, span, target, mark, e, faults)?;
+            let bound = bind_target(alloc, scope, place, false, target, value.as_ref());
+            drop(value);
+            bound?;
             Ok(None)
         }
     }
@@ -510,7 +511,7 @@ fn is_first(
     Ok(true)
 }
 
-// What is neither has no annotation; its value is still asked for the type that it has.
+// What is neither has no annotation. The type of what its names are bound to, where that has one.
 fn annotates_other(
     alloc: Global,
     scope: &Context<'_>,
@@ -520,20 +521,92 @@ fn annotates_other(
     mark: &Expr,
     e: &Option<Expr>,
     faults: &mut Many<Diag>,
+) -> Result<Option<Ty>, Memory>
+    ensures told { IfOk result (λ t. Tells boxed_act None faults.old faults.new (rules_of.annotates_other (context scope.now) (known_at place.now) span (expr_tree target.now) (expr_tree mark.now) (maybe_expr e.now))) }
+    ensures value { IfOk result (λ t. option_map sort t ≡ rules_of.other_sort (context scope.now) (known_at place.now) (expr_tree target.now) (maybe_expr e.now)) }
+{
+    match e {
+        None => {
+            declares_other(alloc, scope, place, span, target, mark, faults)?;
+            let value = nothings(alloc, target)?;
+            Ok(Some(value))
+        }
+        Some(e) => gives_other(alloc, scope, place, span, target, mark, e, faults),
+    }
+}
+
+fn declares_other(
+    alloc: Global,
+    scope: &Context<'_>,
+    place: &Place,
+    span: Span,
+    target: &Expr,
+    mark: &Expr,
+    faults: &mut Many<Diag>,
 ) -> Result<(), Memory>
-    ensures { IfOk result (λ done. Tells boxed_act None faults.old faults.new (rules_of.annotates_other (context scope.now) (known_at place.now) span (expr_tree target.now) (expr_tree mark.now) (maybe_expr e.now))) }
+    ensures { IfOk result (λ done. Tells boxed_act None faults.old faults.new (rules_of.annotates_other (context scope.now) (known_at place.now) span (expr_tree target.now) (expr_tree mark.now) None)) }
 {
     let placed = has_aims(alloc, scope, place, target, faults)?;
     let marked = is_type(alloc, scope, mark, faults)?;
     let complete = placed && marked;
-    match e {
-        None => refuse(alloc, span, complete, faults),
-        Some(e) => {
-            let asked = asked_for(alloc, scope, place, target)?;
-            let asked = asked.as_deref();
-            refuse_value(alloc, scope, place, span, complete, asked, e, faults)
+    refuse(alloc, span, complete, faults)
+}
+
+// As many times None's type as a target has single targets.
+fn nothings(alloc: Global, target: &Expr) -> Result<Ty, Memory>
+    ensures { IfOk result (λ t. sort t ≡ rules_of.nothings (expr_tree target.now)) }
+{
+    let targets = leaves(alloc, target)?;
+    let mut types = Many::new(alloc);
+    for _ in 0..targets.len() {
+        types.push(Ty::Nothing)?;
+    }
+    Ok(Ty::Tuple(types))
+}
+
+fn gives_other(
+    alloc: Global,
+    scope: &Context<'_>,
+    place: &Place,
+    span: Span,
+    target: &Expr,
+    mark: &Expr,
+    e: &Expr,
+    faults: &mut Many<Diag>,
+) -> Result<Option<Ty>, Memory>
+    ensures told { IfOk result (λ t. Tells boxed_act None faults.old faults.new (rules_of.annotates_other (context scope.now) (known_at place.now) span (expr_tree target.now) (expr_tree mark.now) (Some (expr_tree e.now)))) }
+    ensures value { IfOk result (λ t. option_map sort t ≡ option_map type_of (rules_of.value_for (context scope.now) (known_at place.now) (expr_tree target.now) (expr_tree e.now)).got) }
+{
+    let given = given_value(alloc, scope, place, target, e)?;
+    let value = value_type(alloc, &given.e)?;
+    let t = value.as_ref();
+    match refuse_given(alloc, scope, place, span, target, mark, given, t, faults) {
+        Ok(()) => Ok(value),
+        Err(memory) => {
+            drop(value);
+            Err(memory)
         }
     }
+}
+
+// A value, of this type if it has one, behind which its targets and their annotation are looked at.
+fn refuse_given(
+    alloc: Global,
+    scope: &Context<'_>,
+    place: &Place,
+    span: Span,
+    target: &Expr,
+    mark: &Expr,
+    given: Given,
+    t: Option<&Ty>,
+    faults: &mut Many<Diag>,
+) -> Result<(), Memory>
+    ensures { IfOk result (λ done. Tells boxed_act None faults.old faults.new (behind (both (both (rule_of.aims_behind (context scope.now) (known_at place.now) (expr_tree target.now) (option_map sort (option_copied t.entry))) (marks.annotation (context scope.now).meaning (expr_tree mark.now))) (given_seen given)) (λ p. with_part p (λ q. fails span message.no_target)))) }
+{
+    let placed = has_aims_behind(alloc, scope, place, target, t, faults)?;
+    let marked = is_type(alloc, scope, mark, faults)?;
+    let complete = placed && marked;
+    refuse_behind(alloc, span, complete, given, faults)
 }
 
 // Whether an annotation is a type; what is wrong is said.

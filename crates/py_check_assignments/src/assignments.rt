@@ -141,7 +141,8 @@ pub(crate) struct Given {
     pub(crate) said: Many<Diag>,
 }
 
-fn given_value(
+/// The value that is assigned to targets, and what was said of it.
+pub(crate) fn given_value(
     alloc: Global,
     scope: &Context<'_>,
     place: &Place,
@@ -157,8 +158,8 @@ fn given_value(
     Ok(Given { asked, e, said })
 }
 
-/// What targets ask for. What is wrong with them is said once the value is there.
-pub(crate) fn asked_for(
+// What targets ask for. What is wrong with them is said once the value is there.
+fn asked_for(
     alloc: Global,
     scope: &Context<'_>,
     place: &Place,

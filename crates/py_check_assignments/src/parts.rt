@@ -4,18 +4,19 @@ ghost use Rattle.std.specs.Option.{option_copied, option_map};
 ghost use Rattle.py_syntax.specs.Expressions.{expr_tree};
 ghost use Rattle.py_typed.specs.Sorts.{sort};
 ghost use Rattle.py_typed.specs.Statements.{TypedAct};
-ghost use Rattle.py_check_context.specs.Context.{context, wants_some};
+ghost use Rattle.py_check_context.specs.Context.{context};
 ghost use Rattle.py_check_messages.specs.Seen.{Tells, diag, fails};
 ghost use Rattle.py_check_messages.specs.Messages as message;
 ghost use Rattle.py_check_targets.specs.Targets as rule_of;
 ghost use Rattle.py_check_places.specs.Views.{known_at};
 ghost use Rattle.py_check_targets.specs.Views.{boxed_act};
-ghost use Rattle.py_check_assignments.specs.Views.{Shows};
+ghost use Rattle.py_check_assignments.specs.Views.{Shows, given_seen};
 
+use crate::assignments::Given;
 use py_check_context::Context;
 use py_check_messages::no_target;
 use py_check_places::Place;
-use py_check_targets::{target_aims, value_asked};
+use py_check_targets::{aims_behind, put_behind, target_aims};
 use py_syntax::{Expr, Span};
 use py_syntax_diagnostics::Diag;
 use py_typed::{TStmtKind, Ty};
@@ -36,19 +37,19 @@ pub(crate) fn has_aims(
     Ok(aims.is_some())
 }
 
-// Whether a value that is asked for this type, if for any, is typed; what is wrong with it is said.
-fn has_type(
+/// The same where a value of this type, if it has one, is bound to them one behind the other.
+pub(crate) fn has_aims_behind(
     alloc: Global,
     scope: &Context<'_>,
     place: &Place,
-    asked: Option<&Ty>,
-    e: &Expr,
+    target: &Expr,
+    t: Option<&Ty>,
     faults: &mut Many<Diag>,
 ) -> Result<bool, Memory>
-    ensures { IfOk result (λ typed. Shows typed faults.old faults.new (rule_of.typed_at (context scope.now) (known_at place.now) (wants_some (option_map sort (option_copied asked.entry))) (expr_tree e.now))) }
+    ensures { IfOk result (λ placed. Shows placed faults.old faults.new (rule_of.aims_behind (context scope.now) (known_at place.now) (expr_tree target.now) (option_map sort (option_copied t.entry)))) }
 {
-    let e = value_asked(alloc, scope, place, asked, e, faults)?;
-    Ok(e.is_some())
+    let aims = aims_behind(alloc, scope, place, target, t, faults)?;
+    Ok(aims.is_some())
 }
 
 /// Says that nothing is assigned here, where all parts are typed.
@@ -66,20 +67,21 @@ pub(crate) fn refuse(
     Ok(())
 }
 
-/// Says the same behind a value, which is asked for this type if for any, where the parts before it are typed or not.
-pub(crate) fn refuse_value(
+/// Says the same of a value that was typed before the parts that stand before it, which are typed or not.
+pub(crate) fn refuse_behind(
     alloc: Global,
-    scope: &Context<'_>,
-    place: &Place,
     span: Span,
     complete: bool,
-    asked: Option<&Ty>,
-    e: &Expr,
+    given: Given,
     faults: &mut Many<Diag>,
 ) -> Result<(), Memory>
-    ensures { IfOk result (λ done. faults.new ≡ faults.old ++ ((rule_of.typed_at (context scope.now) (known_at place.now) (wants_some (option_map sort (option_copied asked.entry))) (expr_tree e.now)).said ++ (if complete && is_some (rule_of.typed_at (context scope.now) (known_at place.now) (wants_some (option_map sort (option_copied asked.entry))) (expr_tree e.now)).got then diag span message.no_target ∷ [] else []))) }
+    ensures { IfOk result (λ done. faults.new ≡ faults.old ++ ((given_seen given).said ++ (if complete && is_some (given_seen given).got then diag span message.no_target ∷ [] else []))) }
 {
-    let typed = has_type(alloc, scope, place, asked, e, faults)?;
+    let Given { asked, e, said } = given;
+    drop(asked);
+    let typed = e.is_some();
+    drop(e);
+    put_behind(faults, said)?;
     let whole = complete && typed;
     refuse(alloc, span, whole, faults)
 }

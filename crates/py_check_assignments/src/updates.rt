@@ -1,5 +1,5 @@
 //! Operations with assignment.
-ghost use Rattle.std.specs.Prelude.{◌≡◌, false, map, None, Some, unwrap_or, IfOk};
+ghost use Rattle.std.specs.Prelude.{◌≡◌, false, map, None, Some, unwrap_or, Err, IfOk};
 ghost use Rattle.std.specs.Option.{option_map, option_zip};
 ghost use Rattle.py_syntax.specs.Expressions.{expr_tree};
 ghost use Rattle.py_typed.specs.Sorts.{sort};
@@ -9,7 +9,8 @@ ghost use Rattle.py_typed.specs.Statements as acts;
 ghost use Rattle.py_typed.specs.Statements.{typed_target};
 ghost use Rattle.py_check_context.specs.Context.{context};
 ghost use Rattle.py_check_flow.specs.Bindings as bindings;
-ghost use Rattle.py_check_messages.specs.Seen.{Tells, judged};
+ghost use Rattle.py_check_messages.specs.Seen.{Tells, judged, ruled};
+ghost use Rattle.py_check_messages.specs.Messages as message;
 ghost use Rattle.py_check_coercions.specs.Boxes.{boxed};
 ghost use Rattle.py_check_operators.specs.Operators as operators;
 ghost use Rattle.py_check_places.specs.Shapes as shapes;
@@ -19,18 +20,19 @@ ghost use Rattle.py_check_assignments.specs.Assignments as rules_of;
 ghost use Rattle.py_check_places.specs.Views.{known_at};
 ghost use Rattle.py_check_values.specs.Aims as aims;
 ghost use Rattle.py_check_values.specs.Aims.{aim_seen};
+ghost use Rattle.py_check_values.specs.Assignments as values;
 ghost use Rattle.py_check_targets.specs.Views.{boxed_aim, boxed_act, boxed_sort, own_seen};
 ghost use Rattle.py_check_assignments.specs.Views.{operands_seen};
 
 use crate::assignments::{is_placed, kept, written};
-use crate::parts::{has_aims, refuse_value, refused};
+use crate::parts::refused;
 use py_check_context::{Context, Meaning, Want, meaning_of};
 use py_check_flow::name_in;
 use py_check_messages::no_attribute;
 use py_check_operators::arithmetic_type;
 use py_check_places::{Place, bind_target, is_access, is_row};
-use py_check_targets::{OwnAttribute, lacking_in, name_aim, typed_at, value_aim};
-use py_check_values::{Aim, binds};
+use py_check_targets::{OwnAttribute, aims_behind, lacking_in, name_aim, typed_at, value_aim};
+use py_check_values::{Aim, are_declared, binds};
 use py_syntax::{BinOp, Expr, Span};
 use py_syntax_diagnostics::Diag;
 use py_typed::{Classes, TExpr, TStmtKind, Target, Ty};
@@ -144,9 +146,46 @@ fn update_row(
 ) -> Result<Option<Box<TStmtKind>>, Memory>
     ensures { IfOk result (λ t. Tells boxed_act t faults.old faults.new (rules_of.updates_row (context scope.now) (known_at place.now) span (expr_tree target.now) (expr_tree e.now))) }
 {
-    let placed = has_aims(alloc, scope, place, target, faults)?;
-    refuse_value(alloc, scope, place, span, placed, None, e, faults)?;
-    Ok(None)
+    let aims = aims_behind(alloc, scope, place, target, None, faults)?;
+    let e = typed_at(alloc, scope, place, Want::Free, e, faults)?;
+    refuse_row(alloc, scope.classes, span, aims, e, faults)
+}
+
+// The same where its targets and the operand are typed, or one of them is not.
+fn refuse_row(
+    alloc: Global,
+    classes: &Classes,
+    span: Span,
+    aims: Option<Many<Aim<'_>>>,
+    e: Option<Box<TExpr>>,
+    faults: &mut Many<Diag>,
+) -> Result<Option<Box<TStmtKind>>, Memory>
+    ensures { IfOk result (λ t. Tells boxed_act t faults.old faults.new (ruled span (rules_of.row_refused (map class_entry classes.now.list)) (option_zip (option_map (map aim_seen) aims.entry) (option_map boxed e)))) }
+{
+    let Some(aims) = aims else {
+        return Ok(None);
+    };
+    let Some(e) = e else {
+        return Ok(None);
+    };
+    drop(e);
+    refuse_aims(alloc, classes, span, aims.as_slice(), faults)
+}
+
+// The same of targets that are something.
+fn refuse_aims(
+    alloc: Global,
+    classes: &Classes,
+    span: Span,
+    aims: &[Aim<'_>],
+    faults: &mut Many<Diag>,
+) -> Result<Option<Box<TStmtKind>>, Memory>
+    ensures { IfOk result (λ t. Tells boxed_act t faults.old faults.new (judged span (targets.fault_or (values.lacking_fault (map class_entry classes.now.list) (map aim_seen aims.now)) (Err message.no_target)))) }
+{
+    if !are_declared(alloc, classes, span, aims, faults)? {
+        return Ok(None);
+    }
+    refused(alloc, span, faults)
 }
 
 // One that is read.
