@@ -1,8 +1,8 @@
 -- What is said of the statements of the body of a class, but for what its defs and its annotations say themselves (Python Language
 -- Reference, "Class definitions").
 --
--- A def, a name with an annotation and without a value, `pass`, and a text alone may stand there; every other statement has its one entry,
--- whatever is in it. A declaration that declares nothing, since its name is declared above it in the text of the class, is said to be,
+-- A def, a name with an annotation and without a value, `pass`, and a text alone may stand there. Of every other statement this alone is
+-- said, and nothing of its parts. A declaration that declares nothing, since its name is declared above it in the text of the class, is said to be,
 -- where its annotation has a type.
 use Rattle.std.specs.Prelude.{ℕ, ◌+◌, Bool, true, false, if◌then◌else◌, List, [], ◌∷◌, ◌++◌, None, is_some}
 use Rattle.py_syntax.specs.declared.token.Span.{Span}

@@ -4,7 +4,7 @@
 -- Its body defines methods, and declares attributes by annotations of names without a value. Its `__init__` declares attributes too, and
 -- sets them: there, an assignment to `a` of the first parameter, under any name of that, at any depth of the statements. What stands
 -- in the body of `__init__` comes behind the def of that. Nothing else in a class names a member.
-use Rattle.std.specs.Prelude.{ℕ, ◌+◌, Bool, false, ◌==◌, if◌then◌else◌, List, [], ◌∷◌, ◌++◌, length, Option, Some, None}
+use Rattle.std.specs.Prelude.{ℕ, ◌+◌, Bool, false, ◌==◌, if◌then◌else◌, List, [], ◌∷◌, ◌++◌, length, Option, Some, None, is_some}
 use Rattle.std.specs.List.{flat_map}
 use Rattle.std.specs.Map.{lookup}
 use Rattle.std.specs.Option.{option_or, option_map}
@@ -16,8 +16,12 @@ use Rattle.py_syntax.specs.Statements.{StmtTree, at, StmtNode, Assign, Annot, Au
 use Rattle.py_typed.specs.Sorts as sort
 use Rattle.py_typed.specs.Sorts.{Sort}
 use Rattle.py_check_flow.specs.Bindings.{name_in}
+use Rattle.py_check_names.specs.Builtins.{builtin_meaning}
 use Rattle.py_check_names.specs.Outline.{method_in}
 use Rattle.py_check_classes.specs.Bodies.{declared_name, defined_name, is_init}
+
+abbrev pub is_builtin_name : List ℕ → Bool
+is_builtin_name name = is_some (builtin_meaning name)
 
 -- what tells the type of an attribute that is set without an annotation: the object itself, a parameter by its annotation, which may be
 -- missing, or a literal of this type
@@ -35,7 +39,7 @@ pub data Deed : Type 0 where
   annotates : ExprTree → Deed
   -- `self.a = e` in `__init__`, where e tells the type
   gives : Source → Deed
-  -- every other assignment to `self.a` there: of another value, to several targets, or an augmented one
+  -- every other assignment to `self.a` there: of another value, to several targets, or an augmented one, also of several
   sets : Deed
 
 -- with its place: of a target that gives or sets its own, and of everything else that of the statement
@@ -103,8 +107,12 @@ module _ (self : List ℕ) (params : List (List ℕ × Option ExprTree)) where
   attribute_in (e.at (e.Attr of a) span) = if is_named self (name_in of) then Some a else None
   attribute_in _ = None
 
+  -- a parameter under the name of a builtin is never meant by it
   abbrev pub named_source : List ℕ → Option Source
-  named_source x = if bytes_eq x self then Some itself else option_map annotated (lookup (bytes_eq x) params)
+  named_source x =
+      if is_builtin_name x then None else
+      if bytes_eq x self then Some itself
+      else option_map annotated (lookup (bytes_eq x) params)
 
   -- what an expression tells of the type of what it is assigned to. A negative number is no literal
   abbrev pub source_in : ExprTree → Option Source
@@ -140,7 +148,7 @@ module _ (self : List ℕ) (params : List (List ℕ × Option ExprTree)) where
   abbrev pub act_events : Span → StmtNode → List Event
   act_events span (Assign target a) = assignment (attribute_in target) target a
   act_events span (Annot target mark a) = event_of (attribute_in target) (annotates mark) span
-  act_events span (Aug target op a) = set_in target
+  act_events span (Aug target op a) = targets_in target
   act_events span node = []
 
   -- what an assignment does

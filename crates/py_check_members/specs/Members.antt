@@ -11,8 +11,8 @@
 -- An attribute that `__init__` sets by any other assignment is unknown where nothing in the class declares it, and no class above has
 -- a member of its name. An attribute whose annotation or parameter has no type is declared, without a type.
 --
--- The members of a class stand in the order of what declares them in the text.
-use Rattle.std.specs.Prelude.{ℕ, ◌+◌, Bool, true, false, not, ◌&&◌, if◌then◌else◌, nat_lt, List, [], ◌∷◌, ◌++◌, length, map, drop, Option, Some, None, is_some, is_none, slice_get, codes}
+-- Members are listed by the places of their declarations.
+use Rattle.std.specs.Prelude.{ℕ, ◌+◌, Bool, true, false, not, ◌&&◌, if◌then◌else◌, nat_lt, List, [], ◌∷◌, ◌++◌, length, map, drop, Option, Some, None, is_none, slice_get, codes}
 use Rattle.std.specs.List.{list_any, filter_map, flat_map, position_from}
 use Rattle.std.specs.Map.{lookup}
 use Rattle.std.specs.Option.{option_map, option_and_then}
@@ -28,7 +28,6 @@ use Rattle.py_typed.specs.Order.{first_there, order, listed_order}
 use Rattle.py_check_context.specs.declared.scope.Meaning.{Meaning}
 use Rattle.py_check_context.specs.declared.scope.Meaning.TheVariants.{Unknown}
 use Rattle.py_check_context.specs.Members.{Member, attribute, untyped, unknown, method}
-use Rattle.py_check_names.specs.Builtins.{builtin_meaning}
 use Rattle.py_check_names.specs.Outline.{held_by}
 use Rattle.py_check_names.specs.Meanings.{meaning_in}
 use Rattle.py_check_annotations.specs.Annotations.{annotation}
@@ -37,12 +36,9 @@ use Rattle.py_check_classes.specs.declared.header.Header.TheVariants.{Typed}
 use Rattle.py_check_classes.specs.declared.header.Shape.{Shape}
 use Rattle.py_check_classes.specs.Headers.{has_type, entry}
 use Rattle.py_check_classes.specs.Names.{class_in}
-use Rattle.py_check_members.specs.Deeds.{Source, itself, annotated, literal, Deed, defines, declares, annotates, gives, sets, Event, init_function, class_events}
+use Rattle.py_check_members.specs.Deeds.{is_builtin_name, Source, itself, annotated, literal, Deed, defines, declares, annotates, gives, sets, Event, init_function, class_events}
 
 -- ---- the first deeds of a name
-
-abbrev pub is_builtin_name : List ℕ → Bool
-is_builtin_name name = is_some (builtin_meaning name)
 
 -- a def in the body whose name a method may have, or a declaration there
 abbrev pub is_of_body_by : List ℕ → Deed → Bool

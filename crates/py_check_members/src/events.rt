@@ -12,6 +12,7 @@ ghost use Rattle.py_check_classes.specs.Bodies as bodies;
 ghost use Rattle.py_check_members.specs.Views.{source_of, deed_of, event_of, events_of, function_parts};
 ghost use Rattle.py_check_members.specs.Deeds as spec;
 
+use crate::places::is_builtin_name;
 use crate::walk::assignments_in;
 use py_check_flow::name_in;
 use py_syntax::{Expr, ExprKind, Func, Span, Stmt, StmtKind};
@@ -270,7 +271,7 @@ fn add_assignment<'a>(
             let name = attribute_in(object, target);
             add_event(found, name, Deed::Annotates(mark), s.span)
         }
-        StmtKind::Aug(target, _, _) => add_set(found, object, target),
+        StmtKind::Aug(target, _, _) => add_targets(found, object, target),
         _ => Ok(()),
     }
 }
@@ -386,6 +387,9 @@ fn source_in<'a>(object: Object<'a>, e: &Expr) -> Option<Source<'a>>
 fn named_source<'a>(object: Object<'a>, name: &Name) -> Option<Source<'a>>
     ensures { option_map source_of result ≡ spec.named_source object.entry.name.now (map param_tree object.entry.params.now) name.now }
 {
+    if is_builtin_name(name) {
+        return None;
+    }
     if name == object.name {
         return Some(Source::Itself);
     }

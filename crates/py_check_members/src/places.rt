@@ -4,6 +4,7 @@ ghost use Rattle.std.specs.Option.{option_map, option_copied};
 ghost use Rattle.std.specs.Str.{bytes_eq};
 ghost use Rattle.indexmap.specs.IndexMap.{get};
 ghost use Rattle.py_check_members.specs.Views.{places_of, deed_of, event_of, events_of};
+ghost use Rattle.py_check_members.specs.Deeds.{is_builtin_name};
 ghost use Rattle.py_check_members.specs.Members as spec;
 ghost use Rattle.py_check_members.specs.Tables as tables;
 
@@ -90,7 +91,7 @@ fn is_of_body(event: &Event<'_>) -> bool
 }
 
 pub(crate) fn is_builtin_name(name: &Name) -> bool
-    ensures { result ≡ spec.is_builtin_name name.now }
+    ensures { result ≡ is_builtin_name name.now }
 {
     builtin_meaning(name).is_some()
 }

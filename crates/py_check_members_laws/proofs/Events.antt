@@ -17,7 +17,7 @@ use Rattle.py_typed.specs.Sorts.{Sort}
 use Rattle.py_check_flow.specs.Bindings.{name_in}
 use Rattle.py_check_names.specs.Outline.{method_in, methods_in}
 use Rattle.py_check_classes.specs.Bodies.{declared_name, defined_name, is_init, has_init}
-use Rattle.py_check_members.specs.Deeds.{Source, itself, annotated, literal, Deed, defines, declares, annotates, gives, sets, Event, event, attribute_in, source_in, assigned, event_of, set_in, targets_in, node_targets, row_targets, place_of, assignment, act_events, stmt_events, suite_assignments, init_events, init_function, is_number, method_events, member_events, body_events}
+use Rattle.py_check_members.specs.Deeds.{is_builtin_name, Source, itself, annotated, literal, Deed, defines, declares, annotates, gives, sets, Event, event, attribute_in, source_in, assigned, event_of, set_in, targets_in, node_targets, row_targets, place_of, assignment, act_events, stmt_events, suite_assignments, init_events, init_function, is_number, method_events, member_events, body_events}
 use Rattle.py_check_members.specs.Members.{is_of_init}
 use Rattle.py_check_members_laws.proofs.Rows.{both, at_back, zero_more, grouped}
 
@@ -57,17 +57,18 @@ module _ (P : Deed → Type 0) (each : OfAssignments P) where
   assigned_holds (Some x) h = each.given x (h x refl)
 
   module _ (self : List ℕ) (others : List (List ℕ × Option ExprTree)) where
-    one_source : (b : Bool) (o : Option (Option ExprTree)) (x : Source) → (if b then Some itself else option_map annotated o) ≡ Some x → is_source x ≡ true
-    one_source true o x h = ap is_source (sym (same_Some itself x h))
-    one_source false None x h = absurd (cc)
-    one_source false (Some mark) x h = ap is_source (sym (same_Some (annotated mark) x h))
+    one_source : (built b : Bool) (o : Option (Option ExprTree)) (x : Source) → (if built then None else (if b then Some itself else option_map annotated o)) ≡ Some x → is_source x ≡ true
+    one_source true b o x h = absurd (cc)
+    one_source false true o x h = ap is_source (sym (same_Some itself x h))
+    one_source false false None x h = absurd (cc)
+    one_source false false (Some mark) x h = ap is_source (sym (same_Some (annotated mark) x h))
 
     is_from : (a : ExprTree) (x : Source) → source_in self others a ≡ Some x → is_source x ≡ true
     is_from (e.at (e.Int n) span) x h = ap is_source (sym (same_Some (literal sort.Int) x h))
     is_from (e.at (e.Str text) span) x h = ap is_source (sym (same_Some (literal sort.Str) x h))
     is_from (e.at e.True span) x h = ap is_source (sym (same_Some (literal sort.Bool) x h))
     is_from (e.at e.False span) x h = ap is_source (sym (same_Some (literal sort.Bool) x h))
-    is_from (e.at (e.Name y) span) x h = one_source (bytes_eq y self) (lookup (bytes_eq y) others) x h
+    is_from (e.at (e.Name y) span) x h = one_source (is_builtin_name y) (bytes_eq y self) (lookup (bytes_eq y) others) x h
     is_from (e.at _ span) x h = absurd (cc)
 
     mutual
@@ -90,7 +91,7 @@ module _ (P : Deed → Type 0) (each : OfAssignments P) where
     act_holds : (span : Span) (node : StmtNode) → AllByRecursion Holds (act_events self others span node)
     act_holds span (s.Assign target a) = assignment_holds (attribute_in self others target) target a
     act_holds span (s.Annot target mark a) = marked_holds (attribute_in self others target) mark span
-    act_holds span (s.Aug target op a) = set_holds (attribute_in self others target) (place_of target)
+    act_holds span (s.Aug target op a) = targets_hold target
     act_holds span _ = tt
 
     stmt_holds : (x : StmtTree) → AllByRecursion Holds (stmt_events self others x)

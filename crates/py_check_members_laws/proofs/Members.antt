@@ -26,8 +26,8 @@ use Rattle.py_check_classes.specs.declared.header.Header.{Header}
 use Rattle.py_check_classes.specs.Names.{classes_in}
 use Rattle.py_check_classes.specs.Headers.{has_type}
 use Rattle.py_check_classes.specs.Bodies.{declared_name, defined_name, with_method, is_declared, declares_behind, has_attributes, is_init, has_init}
-use Rattle.py_check_members.specs.Deeds.{Deed, defines, declares, annotates, gives, sets, Event, event, event_of, taken_name, init_function, is_number, init_events, member_events, body_events, class_events}
-use Rattle.py_check_members.specs.Members.{is_builtin_name, is_of_body, is_of_init, is_of_body_by, Above, places, stands_before, is_annotation, deed_at, declares_by, is_unknown_by, member_by, made, made_from, each_once, Owns, own_at, row_of, above_in, row_above, ClassText, class_texts, inner_meaning, typed_own, own_behind, owns_behind, own_members}
+use Rattle.py_check_members.specs.Deeds.{is_builtin_name, Deed, defines, declares, annotates, gives, sets, Event, event, event_of, taken_name, init_function, is_number, init_events, member_events, body_events, class_events}
+use Rattle.py_check_members.specs.Members.{is_of_body, is_of_init, is_of_body_by, Above, places, stands_before, is_annotation, deed_at, declares_by, is_unknown_by, member_by, made, made_from, each_once, Owns, own_at, row_of, above_in, row_above, ClassText, class_texts, inner_meaning, typed_own, own_behind, owns_behind, own_members}
 use Rattle.py_check_definitions.specs.Owners.{typed_class, owners_from}
 use Rattle.py_check_members_laws.specs.Laws.{members_of, NamesDiffer, is_plain_method, PlainClassesHaveMethodsAlone, IsMethodOf, MethodsAreFunctions, is_name_new, with_name, are_defs_new, NewFunctionsAreMethods}
 use Rattle.py_check_members_laws.proofs.Rows.{none_more, zero_more, one_behind, clash, same_text, swapped, grouped, Behind, at_either, stands_in_front, both, once_differ, new_hold, Found, found_holds}

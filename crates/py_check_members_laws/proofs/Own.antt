@@ -11,8 +11,8 @@ use Rattle.std.specs.Str.{bytes_eq}
 use Rattle.py_typed.specs.Sorts.{Sort}
 use Rattle.py_check_context.specs.declared.scope.Meaning.{Meaning}
 use Rattle.py_check_context.specs.Members.{Member, attribute, untyped, unknown, method}
-use Rattle.py_check_members.specs.Deeds.{Deed, defines, declares, annotates, gives, sets, Event}
-use Rattle.py_check_members.specs.Members.{is_builtin_name, is_of_body_by, is_of_body, first_place, Places, places, stands_before, deed_at, is_definition, is_annotation, Above, declares_by, is_unknown_by, attribute_of, member_by, made_by, made, made_from, each_once}
+use Rattle.py_check_members.specs.Deeds.{is_builtin_name, Deed, defines, declares, annotates, gives, sets, Event}
+use Rattle.py_check_members.specs.Members.{is_of_body_by, is_of_body, first_place, Places, places, stands_before, deed_at, is_definition, is_annotation, Above, declares_by, is_unknown_by, attribute_of, member_by, made_by, made, made_from, each_once}
 use Rattle.py_check_members_laws.proofs.Rows.{clash, none_more, zero_more, one_behind, both, at_back, at_seam, same_text, text_is_itself, swapped, first_is_there, new_hold, once_first}
 
 no_method : (o : Option Sort) (f : ℕ) → attribute_of o ≡ method f → ⊥
