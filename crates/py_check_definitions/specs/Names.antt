@@ -1,7 +1,7 @@
 -- What a name means in a module or in a function (Python Language Reference, "Resolution of names").
 --
--- A name that a def, a class or an import has is what the first of these in the text says. A class is known by its number, in the order
--- of the text, where its header is right; else it is a class without a type.
+-- Defs, classes and imports give names a meaning; where several give one to the same name, the earliest counts. A class is known by its
+-- number, in the order of the text, where its header is right; else it is a class without a type.
 use Rattle.std.specs.Prelude.{ℕ, List, Option}
 use Rattle.std.specs.Option.{option_map}
 use Rattle.py_syntax.specs.Statements.{Suite, FuncTree}

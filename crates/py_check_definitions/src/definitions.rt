@@ -1,15 +1,17 @@
 //! What is said of definitions and imports where they stand.
 ghost use Rattle.std.specs.Prelude.{◌≡◌, ◌+◌, ◌++◌, length, map, drop, slice_get, IfOk};
 ghost use Rattle.std.specs.List.{flat_map};
-ghost use Rattle.std.specs.Option.{option_copied};
+ghost use Rattle.std.specs.Option.{option_copied, option_map};
 ghost use Rattle.std.specs.Str.{bytes_eq};
 ghost use Rattle.indexmap.specs.IndexSet.{insert_all};
+ghost use Rattle.py_syntax.specs.Expressions.{expr_tree};
 ghost use Rattle.py_syntax.specs.Statements.{stmt_tree, func_tree, class_tree};
 ghost use Rattle.py_check_context.specs.Context.{context};
 ghost use Rattle.py_check_names.specs.Walked.{trees, func_trees};
 ghost use Rattle.py_check_names.specs.Outline as outline;
 ghost use Rattle.py_check_classes.specs.Names.{class_in};
 ghost use Rattle.py_check_classes.specs.Views.{class_parts};
+ghost use Rattle.py_check_overrides.specs.Overrides as overrides;
 ghost use Rattle.py_check_overrides.specs.Overrides.{override_said};
 ghost use Rattle.py_check_overrides.specs.Views.{verdict};
 ghost use Rattle.py_check_places.specs.Views.{known_at};
@@ -24,14 +26,15 @@ use crate::owners::typed_class;
 use indexmap::IndexSet;
 use py_binder::Scope;
 use py_check_classes::{Header, add_header_said};
-use py_check_context::{Context, Meaning};
+use py_check_context::{Context, Meaning, meaning_of};
+use py_check_flow::name_in;
 use py_check_members::add_body_said;
 use py_check_messages::{outside_import, outside_profile};
 use py_check_names::{add_name, definitions_in, may_import_all, outline_of};
 use py_check_overrides::{Verdict, add_override_said};
 use py_check_places::Place;
 use py_check_signatures::{Owner, add_def_fault, header_of, is_new, own_count};
-use py_syntax::{Class, Func, Span, Stmt, StmtKind};
+use py_syntax::{Class, Expr, Func, Span, Stmt, StmtKind};
 use py_syntax_diagnostics::Diag;
 use std::alloc::Global;
 use value_core::{Many, Memory, Name};
@@ -285,7 +288,7 @@ fn add_class_parts(
     if !(marked && based) {
         return Ok(());
     }
-    add_whole(alloc, scope, classes, number, span, &tree.name, faults)
+    add_whole(alloc, scope, classes, number, span, tree, faults)
 }
 
 /// Adds what is said of the class of a number as a whole: of its header, and of its members.
@@ -295,13 +298,72 @@ fn add_whole(
     classes: ClassTables<'_>,
     number: usize,
     span: Span,
-    name: &Name,
+    tree: &Class,
     faults: &mut Many<Diag>,
 ) -> Result<(), Memory>
-    ensures { IfOk result (λ done. faults.new ≡ faults.old ++ classes_spec.whole_said (views.classes_seen classes.entry) (context scope.now).classes number span name.now) }
+    ensures { IfOk result (λ done. faults.new ≡ faults.old ++ classes_spec.whole_said (views.classes_seen classes.entry) (context scope.now) number span (class_parts tree.now)) }
 {
-    add_header(alloc, span, name, classes.headers.get(number), faults)?;
+    add_heading(alloc, scope, classes, number, span, tree, faults)?;
     add_members_said(alloc, scope, span, classes.verdicts, number, faults)
+}
+
+/// Adds what is said of its header, where each base that stands earlier passes.
+fn add_heading(
+    alloc: Global,
+    scope: &Context<'_>,
+    classes: ClassTables<'_>,
+    number: usize,
+    span: Span,
+    tree: &Class,
+    faults: &mut Many<Diag>,
+) -> Result<(), Memory>
+    ensures { IfOk result (λ done. faults.new ≡ faults.old ++ classes_spec.heading_said (views.classes_seen classes.entry) (context scope.now) number span (class_parts tree.now)) }
+{
+    if !bases_pass(scope, classes, number, tree.bases.as_slice()) {
+        return Ok(());
+    }
+    add_header(alloc, span, &tree.name, classes.headers.get(number), faults)
+}
+
+/// Whether each base that stands earlier passes the test that the definitions of its members agree.
+fn bases_pass(scope: &Context<'_>, classes: ClassTables<'_>, number: usize, bases: &[Expr]) -> bool
+    ensures { result ≡ classes_spec.bases_pass (views.classes_seen classes.entry) (context scope.now) number (map expr_tree bases.now) }
+{
+    for base in bases {
+        if !base_passes(scope, classes, number, name_in(base)) {
+            return false;
+        }
+    }
+    true
+}
+
+fn base_passes(
+    scope: &Context<'_>,
+    classes: ClassTables<'_>,
+    number: usize,
+    name: Option<&Name>,
+) -> bool
+    ensures { result ≡ classes_spec.base_passes (views.classes_seen classes.entry) (context scope.now) number (option_copied name.entry) }
+{
+    match name {
+        Some(x) => is_passed(classes, number, meaning_of(scope, x)),
+        None => true,
+    }
+}
+
+fn is_passed(classes: ClassTables<'_>, number: usize, meaning: Meaning) -> bool
+    ensures { result ≡ classes_spec.is_passed (views.classes_seen classes.entry) number meaning }
+{
+    match meaning {
+        Meaning::Class(b) => b >= number || passed(classes.verdicts.get(b)),
+        _ => true,
+    }
+}
+
+fn passed(found: Option<&Verdict<'_>>) -> bool
+    ensures { result ≡ overrides.passed (option_map verdict (option_copied found.entry)) }
+{
+    matches!(found, Some(Verdict::Passes))
 }
 
 /// Adds what comes of the test that the definitions of the members of the class of a number agree.

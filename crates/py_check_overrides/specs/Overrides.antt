@@ -1,8 +1,8 @@
 -- One signature for each member of a class (PEP 484 leaves overriding to the checker; mypyc's guide, "Native classes", asks for one
 -- signature): along the order of a class all definitions of one name agree with the first of them.
 --
--- The members of a class are its own ones, in the order of what declares them in the text, and then those of the classes above it
--- along its order. An attribute without a type and a method without a signature are members that are passed over: nothing is asked of
+-- The members of a class are its own ones, each at the place of its declaration, and behind them those of the classes above it along
+-- its order. An attribute without a type and a method without a signature are members that are passed over: nothing is asked of
 -- them. The first member that has another definition than its first one is told, with the first class along the order that has one.
 --
 -- This is asked of a class whose header is typed and each of whose bases passes. So where a base fails, nothing is said of the class,
