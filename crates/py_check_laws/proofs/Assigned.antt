@@ -14,7 +14,7 @@ use Rattle.py_typed.specs.Statements as act
 use Rattle.py_typed.specs.Statements.{TypedTarget, TypedAct}
 use Rattle.py_check_context.specs.Context.{Context}
 use Rattle.py_check_flow.specs.Bindings.{name_in, marked}
-use Rattle.py_check_messages.specs.Seen.{Message, Seen, rule}
+use Rattle.py_check_messages.specs.Seen.{Message, Seen, judged, rule, ruled}
 use Rattle.py_check_messages.specs.Messages.{no_target, cannot_assign, index_target}
 use Rattle.py_check_coercions.specs.Rows.{first_of}
 use Rattle.py_check_operators.specs.Operators.{arithmetic}
@@ -31,6 +31,7 @@ use Rattle.std.specs.List.{list_all}
 use Rattle.py_typed.proofs.FitLemmas.{and_right}
 use Rattle.py_check_targets.specs.Attributes.{own_attribute}
 use Rattle.py_check_context.specs.Members.{Inside}
+use Rattle.py_check_assignments.specs.Assignments.{row_refused}
 
 -- ---- targets
 
@@ -190,6 +191,18 @@ given_by classes (Some m) a v d h = absurd (cc)
 
 pub given_is : (classes : List ClassEntry) (x : List ℕ) (bound : Bool) (p : (Aim × Sort) × TypedExpr) (d : TypedAct) → given classes x bound p ≡ Ok d → Given classes p.0.0 p.1 d
 given_is classes x bound p d h = given_by classes (annotation_fault x bound p.0.0) p.0.0 p.1 d h
+
+-- several targets are not updated
+pub row_none : (classes : List ClassEntry) (span : Span) (o : Option (List Aim × TypedExpr)) → (ruled span (row_refused classes) o).got ≡ None
+row_none classes span None = refl
+row_none classes span (Some p) = by (lacking_fault classes p.0)
+  where
+    by : (o : Option Message) → (judged {A = TypedAct} span (fault_or o (Err no_target))).got ≡ None
+    by None = refl
+    by (Some m) = refl
+
+pub never_row : (classes : List ClassEntry) (span : Span) (s : Seen (List Aim × TypedExpr)) (d : TypedAct) → (rule span (row_refused classes) s).got ≡ Some d → ⊥
+never_row classes span s d h = let n = sym (row_none classes span s.got) ∙ h in cc
 
 -- an attribute that nothing declares is never updated
 pub never_lacking : (classes : List ClassEntry) (span : Span) (x : List ℕ) (s : Seen (TypedExpr × TypedExpr)) (d : TypedAct) → (rule span (updated_lacking classes x) s).got ≡ Some d → ⊥

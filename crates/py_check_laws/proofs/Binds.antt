@@ -45,7 +45,7 @@ use Rattle.py_check_statements.specs.declared.bodies.Around.{Around}
 use Rattle.py_check_laws.specs.Narrowing.{is_own, is_own_name, is_bare_stmt, is_bare_act, is_bare_suite, are_bare_arms, are_bare_handlers, is_bare_last}
 use Rattle.py_check.proofs.Bound.{named, leaf_bindings, target_leaves}
 use Rattle.py_check_laws.proofs.Given.{made_given, both_given, rule_given, row_given}
-use Rattle.py_check_laws.proofs.Assigned.{assigned_is, given_is, updated_is, own_unmarked, never_lacking}
+use Rattle.py_check_laws.proofs.Assigned.{assigned_is, given_is, updated_is, own_unmarked, never_lacking, never_row}
 use Rattle.py_check_laws.proofs.Names.{within_itself}
 use Rattle.py_check_laws.proofs.Looked.{looked_behind}
 use Rattle.py_check_laws.proofs.Aims.{AimAt, AimsOf}
@@ -129,7 +129,7 @@ module _ (C : Context) where
   annotated_binds k span None target mark e a n h = by (own_attribute C.inside target) refl h
     where
       by : (o : Option (ExprTree × List ℕ)) → own_attribute C.inside target ≡ o → (annotates_at C k span o target mark (Some e)).got ≡ Some a → Binds (marked (name_in target) target mark) (typed.bound_in a)
-      by None q g = absurd (no_part_given (both (both (target_aims C k target) (annotation C.meaning mark)) (value_for C k target e)).got span no_target a g)
+      by None q g = absurd (no_part_given (both (both (aims_behind C k target (option_map type_of (value_for C k target e).got)) (annotation C.meaning mark)) (value_for C k target e)).got span no_target a g)
       by (Some p) q g = subst (λ bs. Binds bs (typed.bound_in a)) (sym (own_unmarked C.inside target p mark q)) (binds_none a)
   annotated_binds k span (Some x) target mark e a n h =
       let parts = both (seen_aim (name_aim k x (C.meaning x))) (annotation C.meaning mark) in
@@ -158,7 +158,7 @@ module _ (C : Context) where
     where
       by : (b : Bool) → is_row target ≡ b → (o : Option (ExprTree × List ℕ)) → lacking_in C target ≡ o → (if b then updates_row C k span target e else updates_single C k span o target op e).got ≡ Some a → Binds (target_bindings target) (typed.bound_in a)
       by false q (Some p) l f = absurd (never_lacking C.classes span p.1 (both (typed_at C k free p.0) (typed_at C k free e)) a f)
-      by true q o l f = absurd (no_part_given (both (target_aims C k target) (typed_at C k free e)).got span no_target a f)
+      by true q o l f = absurd (never_row C.classes span (both (aims_behind C k target None) (typed_at C k free e)) a f)
       by false q None l f =
           let r = rule_given span (updated C.classes span op (read_aim C k (name_in target) (is_access target))) (both (typed_at C k free target) (typed_at C k free e)) a f in
           let b = both_given (typed_at C k free target) (typed_at C k free e) r.0 r.1 in

@@ -54,6 +54,10 @@ use Rattle.py_check_laws.proofs.Given.{some_of}
 use Rattle.py_check_laws.proofs.Plain.{plain_member_said, plain_members_said, plain_said, all_plain_said, IsPlainClass, ClassOf, AllClasses}
 use Rattle.py_check_laws.proofs.Signed.{owned_by, owned_then, is_owned, AllSigned}
 use Rattle.py_check_laws.proofs.Quieted.{top, quiet_walk, definitions, pairs, owners_many, typed_names, all_functions, signs}
+use Rattle.py_check_annotations.specs.Names.{is_untyped}
+use Rattle.py_check_classes.specs.Bodies.{defined_name}
+use Rattle.py_check_messages.specs.Messages.{already_defined}
+use Rattle.py_check_messages.specs.Seen.{diag}
 
 -- ---- rows
 
@@ -172,7 +176,7 @@ new_if : (span : Span) (fresh : Bool) (own : ℕ) (f : FuncTree) (h : HeaderSort
 new_if span true own f h t q = refl
 new_if span false own f h t q = absurd (by h.typed t q)
   where
-    by : (b : Bool) → b ≡ true → (if b && true then Rattle.py_check_messages.specs.Seen.diag span (Rattle.py_check_messages.specs.Messages.already_defined f.name) ∷ [] else []) ≡ [] → ⊥
+    by : (b : Bool) → b ≡ true → (if b && true then diag span (already_defined f.name) ∷ [] else []) ≡ [] → ⊥
     by true e r = cc
     by false e r = cc
 
@@ -180,7 +184,7 @@ with_same : (earlier : List (List ℕ)) (o : Option (List ℕ)) → with_taken e
 with_same earlier None = refl
 with_same earlier (Some x) = refl
 
-module _ (roles : Roles) (headers : List Header) (meanings : List ℕ → Meaning) (all : (x : List ℕ) → Rattle.py_check_annotations.specs.Names.is_untyped (meanings x) ≡ false) where
+module _ (roles : Roles) (headers : List Header) (meanings : List ℕ → Meaning) (all : (x : List ℕ) → is_untyped (meanings x) ≡ false) where
   abbrev Signs : List (FuncTree × Owner) → Type 0
   Signs ps = AllSigned meanings all roles ps
 
@@ -196,7 +200,7 @@ module _ (roles : Roles) (headers : List Header) (meanings : List ℕ → Meanin
   held whose body = zip (methods_in body) (map (λ f. whose) (methods_in body))
 
   one_new : (whose : Owner) (earlier : List (List ℕ)) (x : StmtTree) (more : Suite) → plain_member_said roles headers meanings whose earlier x ≡ [] → Signs (held whose (s.stmt_then x more))
-      → (is_name_new earlier (Rattle.py_check_classes.specs.Bodies.defined_name x) ≡ true) × Signs (held whose more)
+      → (is_name_new earlier (defined_name x) ≡ true) × Signs (held whose more)
   one_new whose earlier (s.at (s.Def name params ret body marks) span) more h a =
       let f : FuncTree = record { name = name; params = params; ret = ret; body = body; marks = marks } in
       (new_if span (is_new earlier name) (own_count (function_scope roles f)) f (header meanings whose f) a.here.types.typed h, a.rest)
@@ -207,7 +211,7 @@ module _ (roles : Roles) (headers : List Header) (meanings : List ℕ → Meanin
   members_new whose earlier (s.stmt_then x more) h a =
       let rest = plain_members_said roles headers meanings whose (with_taken earlier (taken_name x)) more in
       let one = one_new whose earlier x more (none_before (plain_member_said roles headers meanings whose earlier x) rest h) a in
-      and_from (is_name_new earlier (Rattle.py_check_classes.specs.Bodies.defined_name x)) (are_defs_new (with_name earlier (taken_name x)) more) one.0
+      and_from (is_name_new earlier (defined_name x)) (are_defs_new (with_name earlier (taken_name x)) more) one.0
       (ap (λ l. are_defs_new l more) (sym (with_same earlier (taken_name x))) ∙ members_new whose (with_taken earlier (taken_name x)) more (none_behind (plain_member_said roles headers meanings whose earlier x) rest h) one.1)
 
   class_new : (earlier : List (List ℕ)) (n : ℕ) (x : StmtTree) → plain_said roles headers meanings earlier n x ≡ [] → Signs (zip (held_by x) (owners_in headers n x)) → list_all (λ y. are_defs_new [] y.body) (class_in x) ≡ true

@@ -4,12 +4,11 @@ use Rattle.std.proofs.lemmas.Bool.{and_from, or_right, eq-eqb}
 use Rattle.std.proofs.lemmas.List.{length-map}
 use Rattle.std.proofs.lemmas.Option.{slice_get-map, slice_get_within}
 use Rattle.std.specs.Prelude.{is_some, codes, find, ◌==◌}
-use Rattle.std.specs.List.{list_all, flat_map, zip, AllByRecursion}
+use Rattle.std.specs.List.{list_all, flat_map, AllByRecursion}
 use Rattle.std.specs.Option.{option_map}
 use Rattle.std.specs.Str.{bytes_eq}
 use Rattle.py_syntax.specs.Expressions.{ExprTree}
 use Rattle.py_syntax.specs.Statements.{Suite, FuncTree}
-use Rattle.py_syntax_diagnostics.specs.declared.diagnostic.Diag.{Diag}
 use Rattle.py_binder.specs.Sights.{body_sights}
 use Rattle.py_binder.specs.Scope.{all_there, seen_there, Roles, param_names, module_role, function_role, module_scope, first_sights, functions}
 use Rattle.py_typed.specs.Sorts as sort
@@ -32,7 +31,7 @@ use Rattle.py_check_names.specs.Meanings.{is_own, own_names}
 use Rattle.py_check_names.specs.Outline.{suite_definitions}
 use Rattle.py_check_signatures.specs.declared.headers.Owner.{Owner}
 use Rattle.py_check_signatures.specs.declared.headers.Owner.TheVariants as owner
-use Rattle.py_check_signatures.specs.Headers.{param_types, types_at, marked, is_init, signature_of}
+use Rattle.py_check_signatures.specs.Headers.{param_types, marked, is_init, signature_of}
 use Rattle.py_check_signatures.specs.Definitions.{repeated, is_builtin_name, gives_value}
 use Rattle.py_check_places.specs.Places.{Known, is_unset}
 use Rattle.py_check_statements.specs.Bodies.{nothing_around}
@@ -60,7 +59,7 @@ use Rattle.py_check_laws.proofs.Varied as vary
 use Rattle.py_check_laws.proofs.Differ.{variables_differ}
 use Rattle.py_check_laws.proofs.NamedHere.{names_differ_here}
 use Rattle.py_check_laws.proofs.Formed.{variables_named, own_front, params_differ, at_front, param_start, mapped_none, filled_block}
-use Rattle.py_check_laws.proofs.Methods.{is_placed}
+use Rattle.py_check_laws.proofs.Methods.{is_placed, types_many}
 use Rattle.py_check_laws.proofs.FuncGood.{variables_good, IsGood, func_good}
 use Rattle.py_check_laws.proofs.Described.{Placed, result_value, function_stands, final_behind, gs_values, all_stand}
 use Rattle.py_check_laws.proofs.Classes as classes
@@ -85,19 +84,6 @@ owned_placed : (whose : Owner) → is_owned whose ≡ true → is_placed whose �
 owned_placed owner.Module h = refl
 owned_placed (owner.Class None) h = absurd (cc)
 owned_placed (owner.Class (Some c)) h = refl
-
--- ---- functions with their owners
-
-first_all : (test : FuncTree → Bool) (fs : List FuncTree) (os : List Owner) → list_all test fs ≡ true → list_all (λ (p : FuncTree × Owner). test p.0) (zip fs os) ≡ true
-first_all test [] os h = refl
-first_all test (x ∷ fs) [] h = refl
-first_all test (x ∷ fs) (o ∷ os) h = and_from (test x) (list_all (λ (p : FuncTree × Owner). test p.0) (zip fs os)) (and_left (test x) (list_all test fs) h) (first_all test fs os (and_right (test x) (list_all test fs) h))
-
-first_none : (of : FuncTree → List Diag) (fs : List FuncTree) (os : List Owner) → flat_map of fs ≡ [] → flat_map (λ (p : FuncTree × Owner). of p.0) (zip fs os) ≡ []
-first_none of [] os h = refl
-first_none of (x ∷ fs) [] h = refl
-first_none of (x ∷ fs) (o ∷ os) h =
-    ap (λ l. l ++ flat_map (λ (p : FuncTree × Owner). of p.0) (zip fs os)) (none_before (of x) (flat_map of fs) h) ∙ first_none of fs os (none_behind (of x) (flat_map of fs) h)
 
 module _ (is_identifier : List ℕ → Bool) (m : Suite) (nothing : said m ≡ []) where
   abbrev e : ModuleContext
@@ -192,13 +178,8 @@ module _ (is_identifier : List ℕ → Bool) (m : Suite) (nothing : said m ≡ [
         mapped_at of_own own j x.0.0 placed_own ∙ param_start (param_names f) hd.header.params j x.0.0 o (start_sort D.meaning (suite_bindings f.body) x.0.0) (params_differ f roles once plain sg.sound.1.few) name h in
         (follows_block D first f.body).locals.stays j (ap is_unset q ∙ given_set o) ∙ q
       where
-        as_many : (whose : Owner) (os : List (Option Sort)) → length (types_at whose os) ≡ length os
-        as_many owner.Module os = refl
-        as_many (owner.Class c) [] = refl
-        as_many (owner.Class c) (t ∷ os) = refl
-
         params_many : length hd.header.params ≡ length f.params
-        params_many = as_many p.1 (param_types meant f.params) ∙ length-map f.params (λ (z : List ℕ × Option ExprTree). (marked meant z.1).got)
+        params_many = types_many p.1 (param_types meant f.params) ∙ length-map f.params (λ (z : List ℕ × Option ExprTree). (marked meant z.1).got)
 
     result_good : is_result_type size F.ret ≡ true
     result_good = by hd.header.ret refl sg.types.ret
@@ -296,8 +277,8 @@ module _ (is_identifier : List ℕ → Bool) (m : Suite) (nothing : said m ≡ [
       length-map (headed_functions m) (λ (f : Headed). plain_signature (signature_of f.header)) ∙ sym (length-map (headed_functions m) (λ (f : Headed). typed_function (function_context e f) e.variables gs f)) in
       let held : (i : ℕ) (F : TypedFunc) → slice_get tree.funcs i ≡ Some F → IsHeld i F = classes.function_owned m nothing in
       let all = functions_good w 0 gs (vary.top_size m nothing reached inner) (vary.top_typed m nothing reached inner) gv (vary.global_has m nothing reached inner) ps (quiet.all_functions m nothing) (owners_placed m nothing) (quiet.bodies_quiet m nothing)
-      (final_behind m nothing reached inner K placed (inner_placed m nothing) (top_functions m nothing) (inner_functions m nothing)) (first_all (λ f. is_suite_written f.body) (functions m) (owners m) (and_right (is_suite_written m) bodies_written written))
-      (first_none inner_definitions_said (functions m) (owners m) (quiet.inner_quiet m nothing)) (and_right (all_have_types gs 0 e.variables) (are_own_typed e gs (headed_functions m)) have) parts.1 (λ j. ap (slice_get tree.classes.signatures) (nothing_first j))
+      (final_behind m nothing reached inner K placed (inner_placed m nothing) (top_functions m nothing) (inner_functions m nothing)) (quiet.zip_all (λ f. is_suite_written f.body) (functions m) (owners m) (and_right (is_suite_written m) bodies_written written))
+      (quiet.zip_first inner_definitions_said (functions m) (owners m) (quiet.owners_many m nothing) ∙ quiet.inner_quiet m nothing) (and_right (all_have_types gs 0 e.variables) (are_own_typed e gs (headed_functions m)) have) parts.1 (λ j. ap (slice_get tree.classes.signatures) (nothing_first j))
       (λ j F r. subst (λ n. IsHeld n F) (sym (nothing_first j)) (held j F r)) in
       let stand = all_stand m nothing reached inner K placed (inner_placed m nothing) (top_functions m nothing) (inner_functions m nothing) (owners_placed m nothing) written in
       seven (variables_typed is_identifier tree tree.globals) (all_differ (names_of tree.globals ++ behind)) (length tree.classes.signatures == length tree.funcs) (all_at 0 (class_typed is_identifier tree) tree.classes.classes) (all_at 0 (is_listed is_identifier tree) tree.funcs)

@@ -68,7 +68,7 @@ use Rattle.py_check_laws.proofs.Varied.{set_by}
 use Rattle.py_check_definitions.specs.Names.{known_in, module_meaning}
 use Rattle.py_check_definitions.specs.Owners.{owners}
 use Rattle.py_check_expressions_laws.proofs.Sound.{at_classes}
-use Rattle.py_syntax_diagnostics.specs.declared.diagnostic.Diag.{Diag}
+use Rattle.py_typed.specs.Narrowing.{is_in}
 
 -- ---- rows of variables
 
@@ -310,7 +310,7 @@ module _ (C : Context) (tree : TypedModule) (locals : List Variable) (init : Opt
         declared = d;
       } in
       let settled = settled_block C tree locals init r nothing_around start text end.types setting (follows_itself end.types) written ts got in
-      let all = stands_in here r nothing_around start text tree locals init result sc is (describes end.types d settled.valued) written pure ts got [] (λ x h. ap (λ l. Rattle.py_typed.specs.Narrowing.is_in l x) (sym none) ∙ h) in
+      let all = stands_in here r nothing_around start text tree locals init result sc is (describes end.types d settled.valued) written pure ts got [] (λ x h. ap (λ l. is_in l x) (sym none) ∙ h) in
       record { typed = all.0; values = settled.valued }
 
 -- ---- the whole
@@ -517,17 +517,6 @@ module _ (m : Suite) (nothing : said m ≡ []) (reach : InReach (quiet.top m not
   pub gs_values : is_suite_written m ≡ true → (i : ℕ) (t : Sort) → var_at gs i ≡ has t → IsValue classes_size t
   gs_values written = (top_stands written).values
 
-  first_all : (test : FuncTree → Bool) (fs : List FuncTree) (os : List Owner) → list_all test fs ≡ true → list_all (λ (p : FuncTree × Owner). test p.0) (zip fs os) ≡ true
-  first_all test [] os h = refl
-  first_all test (x ∷ fs) [] h = refl
-  first_all test (x ∷ fs) (o ∷ os) h = and_from (test x) (list_all (λ (p : FuncTree × Owner). test p.0) (zip fs os)) (and_left (test x) (list_all test fs) h) (first_all test fs os (and_right (test x) (list_all test fs) h))
-
-  first_none : (of : FuncTree → List Diag) (fs : List FuncTree) (os : List Owner) → flat_map of fs ≡ [] → flat_map (λ (p : FuncTree × Owner). of p.0) (zip fs os) ≡ []
-  first_none of [] os h = refl
-  first_none of (x ∷ fs) [] h = refl
-  first_none of (x ∷ fs) (o ∷ os) h =
-      ap (λ l. l ++ flat_map (λ (p : FuncTree × Owner). of p.0) (zip fs os)) (none_before (of x) (flat_map of fs) h) ∙ first_none of fs os (none_behind (of x) (flat_map of fs) h)
-
   -- THE STATEMENTS of the whole module stand
   pub all_stand : ArePlaced (quiet.pairs m nothing) → is_module_written m ≡ true → statements_stand tree ≡ true
   all_stand all written =
@@ -535,4 +524,4 @@ module _ (m : Suite) (nothing : said m ≡ []) (reach : InReach (quiet.top m not
       let s = top_stands (and_left (is_suite_written m) bodies_written written) in
       and_from (suite_typed tree [] None None [] false false tree.top) (list_all (body_stands tree) tree.funcs) s.typed
       (bodies_stand gs (vary.top_size m nothing reach inner_reach) (vary.top_typed m nothing reach inner_reach) s.values (vary.global_has m nothing reach inner_reach) (quiet.pairs m nothing) (quiet.all_functions m nothing) all (quiet.bodies_quiet m nothing) final_behind
-      (first_all (λ f. is_suite_written f.body) (functions m) (owners m) (and_right (is_suite_written m) bodies_written written)) (first_none inner_definitions_said (functions m) (owners m) (quiet.inner_quiet m nothing)))
+      (quiet.zip_all (λ f. is_suite_written f.body) (functions m) (owners m) (and_right (is_suite_written m) bodies_written written)) (quiet.zip_first inner_definitions_said (functions m) (owners m) (quiet.owners_many m nothing) ∙ quiet.inner_quiet m nothing))

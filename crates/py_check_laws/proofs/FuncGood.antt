@@ -22,7 +22,7 @@ use Rattle.py_check_context.specs.Context.{Context, VarSort, has, var_at}
 use Rattle.py_check_names.specs.Meanings.{own_names}
 use Rattle.py_check_signatures.specs.declared.headers.Owner.{Owner}
 use Rattle.py_check_signatures.specs.declared.headers.Owner.TheVariants as owner
-use Rattle.py_check_signatures.specs.Headers.{param_types, returned, types_at, is_init, return_at, signature_of}
+use Rattle.py_check_signatures.specs.Headers.{param_types, returned, is_init, return_at, signature_of, marked}
 use Rattle.py_check_signatures.specs.Definitions.{lacks_own, repeated, own_count, is_builtin_name}
 use Rattle.py_check_places.specs.Places.{Known}
 use Rattle.py_check_definitions.specs.Definitions.{Headed, headed}
@@ -31,7 +31,7 @@ use Rattle.py_check_definitions.specs.Variables.{typed_variables}
 use Rattle.py_check.specs.Module.{class_of, body_after, typed_function}
 use Rattle.py_check_laws.specs.Modules.{all_have_types, body_stands}
 use Rattle.py_check_laws.proofs.Formed.{variables_named, types_valued, variables_long, own_front, params_few, own_few, params_same, row_is_itself}
-use Rattle.py_check_laws.proofs.Methods.{is_placed, behind_own, Row, types_row, Given, signature_gives, parameters_are, init_good, init_returns}
+use Rattle.py_check_laws.proofs.Methods.{is_placed, behind_own, Row, types_row, Given, signature_gives, parameters_are, init_good, init_returns, types_many}
 
 thirteen : (a b c d e f g h i j k l m : Bool) → a ≡ true → b ≡ true → c ≡ true → d ≡ true → e ≡ true → f ≡ true → g ≡ true → h ≡ true → i ≡ true → j ≡ true → k ≡ true → l ≡ true → m ≡ true → (a && b && c && d && e && f && g && h && i && j && k && l && m) ≡ true
 thirteen true true true true true true true true true true true true true p0 p1 p2 p3 p4 p5 p6 p7 p8 p9 pa pb pc = refl
@@ -39,11 +39,6 @@ thirteen _ _ _ _ _ _ _ _ _ _ _ _ _ p0 p1 p2 p3 p4 p5 p6 p7 p8 p9 pa pb pc = absu
 
 three : (a b c : Bool) → a ≡ true → b ≡ true → c ≡ true → (a && b && c) ≡ true
 three a b c p q r = cc
-
-types_long : (whose : Owner) (os : List (Option Sort)) → length (types_at whose os) ≡ length os
-types_long owner.Module os = refl
-types_long (owner.Class c) [] = refl
-types_long (owner.Class c) (o ∷ os) = refl
 
 -- names and types of variables
 pub variables_good : (is_identifier : List ℕ → Bool) (tree : TypedModule) (types : List VarSort) (ns : List (List ℕ)) → list_all is_identifier ns ≡ true → all_differ ns ≡ true → all_have_types types 0 ns ≡ true → ((i : ℕ) (t : Sort) → var_at types i ≡ has t → is_value_type (length tree.classes.classes) t ≡ true) → variables_typed is_identifier tree (typed_variables types ns) ≡ true
@@ -79,7 +74,7 @@ module _ (roles : Roles) (meanings : List ℕ → Meaning) (p : FuncTree × Owne
     given = signature_gives hd.header s good.signed
 
     row : Row p.1 hd.header.params s.params
-    row = types_row p.1 p.0.params (param_types meanings p.0.params) s.params good.placed good.first (length-map p.0.params (λ (z : List ℕ × Option ExprTree). (Rattle.py_check_signatures.specs.Headers.marked meanings z.1).got)) given.params
+    row = types_row p.1 p.0.params (param_types meanings p.0.params) s.params good.placed good.first (length-map p.0.params (λ (z : List ℕ × Option ExprTree). (marked meanings z.1).got)) given.params
 
     long : length p.0.params ≡ length (param_names p.0)
     long = sym (length-map p.0.params (λ (z : List ℕ × Option ExprTree). z.0))
@@ -91,7 +86,7 @@ module _ (roles : Roles) (meanings : List ℕ → Meaning) (p : FuncTree × Owne
         ap (λ l. types_in (take (length p.0.params) (typed_variables last.types.locals l))) w.1
         ∙ ap (λ n. types_in (take n (typed_variables last.types.locals (param_names p.0 ++ w.0)))) long
         ∙ params_same (param_names p.0) w.0 hd.header.params last.types.locals 0 row.types
-        (types_long p.1 (param_types meanings p.0.params) ∙ length-map p.0.params (λ (z : List ℕ × Option ExprTree). (Rattle.py_check_signatures.specs.Headers.marked meanings z.1).got) ∙ long) row.all (λ j o h. ap (var_at last.types.locals) (no_more j) ∙ good.kept j o h)
+        (types_many p.1 (param_types meanings p.0.params) ∙ length-map p.0.params (λ (z : List ℕ × Option ExprTree). (marked meanings z.1).got) ∙ long) row.all (λ j o h. ap (var_at last.types.locals) (no_more j) ∙ good.kept j o h)
       where
         no_more : (j : ℕ) → 0 + j ≡ j
         no_more j = omega arith

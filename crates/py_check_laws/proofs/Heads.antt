@@ -29,8 +29,9 @@ use Rattle.py_check_classes.specs.Names.{classes_in, class_number, class_named, 
 use Rattle.py_check_classes.specs.Rows.{differ}
 use Rattle.py_check_classes.specs.Headers.{has_type, is_earlier, is_untyped as is_base_untyped, early_fault, order_fault, settled, bases_named, shape, header, headers_behind}
 use Rattle.py_check_classes.proofs.HeaderLemmas.{early_none}
+use Rattle.py_syntax_diagnostics.specs.declared.diagnostic.Diag.{Diag}
 use Rattle.py_check_overrides.specs.Overrides.{Clash, Verdict, fails, override_said}
-use Rattle.py_check_definitions.specs.Classes.{ModuleClasses, said_of_header, header_typed}
+use Rattle.py_check_definitions.specs.Classes.{ModuleClasses, heading_said, header_typed}
 use Rattle.py_check_definitions.specs.Decorators.{is_there, is_base_there, decorators_typed, parts_typed}
 use Rattle.py_check_expressions_laws.proofs.Known.{known_left, known_right, known_name}
 use Rattle.py_check_expressions_laws.proofs.Loud.{none_behind}
@@ -162,10 +163,10 @@ module _ (classes : ModuleClasses) (c : Context) (all : (x : List ℕ) → is_un
 -- ---- no class fails
 
 module _ (roles : Roles) (classes : ModuleClasses) (owns : List (List (List ℕ × Member))) (c : Context) (said : List ℕ → Option Meaning) (all : (x : List ℕ) → is_untyped (c.meaning x) ≡ false) where
-  told_none : (span : Span) (h : Option Header) (name : List ℕ) (v : Option Verdict) (b : Bool) → b ≡ true → (if b then said_of_header span name h ++ override_said c.classes span v else []) ≡ [] → (f : Clash) → v ≡ Some (fails f) → ⊥
-  told_none span h name v false t q f e = absurd (cc)
-  told_none span h name v true t q f e =
-      let none : override_said c.classes span v ≡ [] = none_behind (said_of_header span name h) (override_said c.classes span v) q in
+  told_none : (span : Span) (heading : List Diag) (v : Option Verdict) (b : Bool) → b ≡ true → (if b then heading ++ override_said c.classes span v else []) ≡ [] → (f : Clash) → v ≡ Some (fails f) → ⊥
+  told_none span heading v false t q f e = absurd (cc)
+  told_none span heading v true t q f e =
+      let none : override_said c.classes span v ≡ [] = none_behind heading (override_said c.classes span v) q in
       fault span f (sym (ap (override_said c.classes span) e) ∙ none)
     where
       fault : (span : Span) (f : Clash) → override_said c.classes span (Some (fails f)) ≡ [] → ⊥
@@ -176,7 +177,7 @@ module _ (roles : Roles) (classes : ModuleClasses) (owns : List (List (List ℕ 
   none_fails n (s.at (s.ClassDef name bases body marks) span ∷ ds) p q u k f low high e =
       let x : ClassTree = record { name = name; bases = bases; body = body; marks = marks } in
       by (k == n) refl
-      (told_none span (slice_get classes.headers n) name (slice_get classes.verdicts n) (header_typed classes c p.here.known x)
+      (told_none span (heading_said classes c n span x) (slice_get classes.verdicts n) (header_typed classes c p.here.known x)
       (head_typed classes c all p.here.known x span q.0.0 q.0.1 (known_left c.meaning (stmt_sights InModule (s.at (s.ClassDef name bases body marks) span)) (flat_map (stmt_sights InModule) ds) u)) p.here.head f)
       (none_fails (n + 1) ds p.rest q.1 (known_right c.meaning (stmt_sights InModule (s.at (s.ClassDef name bases body marks) span)) (flat_map (stmt_sights InModule) ds) u) k f)
     where

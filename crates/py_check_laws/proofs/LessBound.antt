@@ -15,12 +15,12 @@ use Rattle.py_typed.specs.Expressions.{TypedExpr, type_of}
 use Rattle.py_typed.specs.Statements as act
 use Rattle.py_typed.specs.Statements.{Variable, TypedModule, TypedTarget, TypedAct}
 use Rattle.py_typed.specs.Narrowing as telling
-use Rattle.py_typed.specs.Narrowing.{may_be_none, own_sort, after_target, after_parts, part_sorts}
+use Rattle.py_typed.specs.Narrowing.{own_sort, after_target, after_parts, part_sorts}
 use Rattle.py_typed.specs.WellTypedExpr.{stands}
 use Rattle.py_typed.proofs.FitLemmas.{fits_itself, and_left}
 use Rattle.py_check_context.specs.declared.scope.Meaning.{Meaning}
 use Rattle.py_check_context.specs.declared.scope.Meaning.TheVariants as meaning
-use Rattle.py_check_context.specs.Context.{Context, VarSorts, free}
+use Rattle.py_check_context.specs.Context.{Context, free}
 use Rattle.py_check_flow.specs.Bindings.{name_in}
 use Rattle.py_check_messages.specs.Seen.{both}
 use Rattle.py_check_messages.specs.Messages.{no_target}
@@ -31,7 +31,8 @@ use Rattle.py_check_values.specs.Assignments.{binding_fault, as_bound, items_for
 use Rattle.py_check_places.specs.Places.{Known, is_bound, variable_at, bind_variable, bind_name, bind_names}
 use Rattle.py_check_places.specs.Shapes.{is_row, leaves, target_names, bind_target, is_access}
 use Rattle.py_check_targets.specs.Targets.{target_of, targets_of, asked_by, assigned, annotation_fault, declared, given, updated, name_aim, seen_aim, read_aim, typed_at, target_aims, aims_behind, declared_own}
-use Rattle.py_check_assignments.specs.Assignments.{asked, value_for, assigns, binds, declares, annotated_value, gives_value, annotates, binds_annotated, updates_row, updates, asked_for, gives_own, annotates_at, updates_single}
+use Rattle.py_check_assignments.specs.Assignments.{asked, value_for, assigns, binds, declares, annotated_value, gives_value, annotates, other_sort, binds_annotated, updates_row, updates, asked_for, gives_own, annotates_at, updates_single}
+use Rattle.py_check_assignments.proofs.AssignmentLemmas.{own_unbound}
 use Rattle.py_check_expressions_laws.specs.WellTyped as law
 use Rattle.py_check_expressions_laws.specs.WellTyped.{Describes, Within}
 use Rattle.py_check_expressions_laws.proofs.Stands.{coerced_stands}
@@ -43,7 +44,7 @@ use Rattle.py_check_laws.specs.Variables.{sort_in}
 use Rattle.py_check_laws.specs.WellTyped.{are_targets, IsScope}
 use Rattle.py_check_laws.proofs.Given.{some_is, both_given, rule_given, unless_ok}
 use Rattle.py_check_laws.proofs.Looked.{LookedAt, looked_behind}
-use Rattle.py_check_laws.proofs.Assigned.{row_bound, items_are, BoundTo, as_value, assigned_is, given_is, updated_is, own_single, declared_own_is, never_lacking}
+use Rattle.py_check_laws.proofs.Assigned.{row_bound, items_are, BoundTo, as_value, assigned_is, given_is, updated_is, own_single, declared_own_is, never_lacking, never_row}
 use Rattle.py_check_laws.proofs.Whole.{bound_same}
 use Rattle.py_check_laws.proofs.Names.{within_itself, within_less}
 use Rattle.py_check_laws.proofs.Aims.{AimAt, aim_held, aim_first, first_name, held_aimed, first_aimed}
@@ -181,24 +182,19 @@ module _ (C : Context) (m : TypedModule) (locals : List Variable) (init : Option
       (less_one k target wt sc aim at_name v g.right (subst (λ (z : Known). Describes here z.types m locals init) p E) sv own))
 
   -- an attribute of the object that an `__init__` sets up
-  own_unbound : (k : Known) (target : ExprTree) (p : ExprTree × List ℕ) → own_attribute C.inside target ≡ Some p → bind_target here false k target None ≡ k
-  own_unbound k target p q =
-      let s = own_single C.inside target p q in
-      single_bound here false k target None s.0 ∙ ap (λ o. bind_name here false k o None) s.1
-
-  less_own : (k : Known) (span : Span) (p : ExprTree × List ℕ) (target mark e : ExprTree) → own_attribute C.inside target ≡ Some p → IsScope here k.types → law.is_written e ≡ true → Describes here (bind_target here false k target None).types m locals init → (a : TypedAct) → (gives_own here k span p.1 target mark e).got ≡ Some a → Less k.names (bind_target here false k target None).names a
+  less_own : (k : Known) (span : Span) (p : ExprTree × List ℕ) (target mark e : ExprTree) → own_attribute C.inside target ≡ Some p → IsScope here k.types → law.is_written e ≡ true → Describes here (bind_target here false k target (other_sort here k target (Some e))).types m locals init → (a : TypedAct) → (gives_own here k span p.1 target mark e).got ≡ Some a → Less k.names (bind_target here false k target (other_sort here k target (Some e))).names a
   less_own k span p target mark e o sc we E a h =
       let q = own_given C m locals init result k span p target mark e o a h in
       let g = q.3 in
       let v = q.1 in
       let s = own_single C.inside target p o in
       let wt = own_written C m locals init result target p o in
-      let same = own_unbound k target p o in
+      let same = own_unbound here k target p (other_sort here k target (Some e)) o in
       let named : bind_name here true k (name_in target) (Some (type_of v)) ≡ k = ap (λ z. bind_name here true k z (Some (type_of v))) s.1 in
       let D : Describes here k.types m locals init = subst (λ (z : Known). Describes here z.types m locals init) same E in
       let sv = single_stands C m locals init k D (target ∷ []) (and_from (law.is_written target) true wt refl) (g.aim ∷ []) None (record { here = g.here_it_is; rest = tt }) e we v (g.aim, refl, g.right) g.valued k.names (within_itself k.names) in
       let own = (keeps here k.types (asked_by (is_row target) (target_aims here k target).got) k.names e).each v q.2 in
-      subst (Less k.names (bind_target here false k target None).names) g.is
+      subst (Less k.names (bind_target here false k target (other_sort here k target (Some e))).names) g.is
       (subst (λ (z : Known). Less k.names z.names (act.Assign (target_of g.aim) (as_bound g.aim v))) (named ∙ sym same)
       (less_one k target wt sc g.aim g.here_it_is v g.right (subst (λ (z : Known). Describes here z.types m locals init) (sym named) D) sv own))
 
@@ -209,7 +205,7 @@ module _ (C : Context) (m : TypedModule) (locals : List Variable) (init : Option
   less_annotated k span None target mark e n sc we E a h = by (own_attribute C.inside target) refl h
     where
       by : (o : Option (ExprTree × List ℕ)) → own_attribute C.inside target ≡ o → (annotates_at here k span o target mark (Some e)).got ≡ Some a → Less k.names (binds_annotated here k span None target mark (Some e)).names a
-      by None q g = absurd (no_part_given (both (both (target_aims here k target) (annotation C.meaning mark)) (value_for here k target e)).got span no_target a g)
+      by None q g = absurd (no_part_given (both (both (aims_behind here k target (option_map type_of (value_for here k target e).got)) (annotation C.meaning mark)) (value_for here k target e)).got span no_target a g)
       by (Some p) q g = less_own k span p target mark e q sc we E a g
 
   other_kept : (ok : Bool) (k : Known) (n : Meaning) (t : Option Sort) → not (is_own n) ≡ true → (bind_variable ok k n t).names ≡ k.names
@@ -225,8 +221,8 @@ module _ (C : Context) (m : TypedModule) (locals : List Variable) (init : Option
       by None q g = absurd (no_part_given (both (target_aims here k target) (annotation C.meaning mark)).got span no_target a g)
       by (Some p) q g =
           let r = rule_given span (declared_own (declaring_fault C.inside p.1 span)) (both (target_aims here k target) (annotation C.meaning mark)) a g in
-          subst (Less k.names (bind_target here false k target None).names) (declared_own_is (declaring_fault C.inside p.1 span) r.0 a r.2)
-          (λ known w. subst (λ (z : Known). Within known z.names) (sym (own_unbound k target p q)) w)
+          subst (Less k.names (bind_target here false k target (other_sort here k target None)).names) (declared_own_is (declaring_fault C.inside p.1 span) r.0 a r.2)
+          (λ known w. subst (λ (z : Known). Within known z.names) (sym (own_unbound here k target p (other_sort here k target None) q)) w)
   less_bare k span (Some x) target mark n bare a h =
       let r = rule_given span (declared x (is_bound k (C.meaning x))) (both (seen_aim (name_aim k x (C.meaning x))) (annotation C.meaning mark)) a h in
       let q = unless_ok (annotation_fault x (is_bound k (C.meaning x)) r.0.0) act.Pass a r.2 in
@@ -256,7 +252,7 @@ module _ (C : Context) (m : TypedModule) (locals : List Variable) (init : Option
     where
       by : (b : Bool) → is_row target ≡ b → (x : Option (ExprTree × List ℕ)) → lacking_in here target ≡ x → (if b then updates_row here k span target e else updates_single here k span x target o e).got ≡ Some a → Less k.names (bind_target here false k target None).names a
       by false q (Some p) l f = absurd (never_lacking m.classes.classes span p.1 (both (typed_at here k free p.0) (typed_at here k free e)) a f)
-      by true q x l f = absurd (no_part_given (both (target_aims here k target) (typed_at here k free e)).got span no_target a f)
+      by true q x l f = absurd (never_row m.classes.classes span (both (aims_behind here k target None) (typed_at here k free e)) a f)
       by false q None l f =
           let r = rule_given span (updated m.classes.classes span o (read_aim here k (name_in target) (is_access target))) (both (typed_at here k free target) (typed_at here k free e)) a f in
           let b = both_given (typed_at here k free target) (typed_at here k free e) r.0 r.1 in

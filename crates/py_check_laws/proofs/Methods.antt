@@ -37,6 +37,12 @@ pub record Row (whose : Owner) (os : List (Option Sort)) (us : List Sort) : Type
   pub self : has_self (class_of whose) types ≡ true
   pub rest : behind_own (class_of whose) types ≡ us
 
+-- the first parameter of a method has its class as its type
+pub types_many : (whose : Owner) (types : List (Option Sort)) → length (types_at whose types) ≡ length types
+types_many owner.Module types = refl
+types_many (owner.Class c) [] = refl
+types_many (owner.Class c) (t ∷ types) = refl
+
 pub types_row : (whose : Owner) (params : List (List ℕ × Option ExprTree)) (os : List (Option Sort)) (us : List Sort) → is_placed whose ≡ true → lacks_own whose params ≡ false → length os ≡ length params → all_of (asked whose (types_at whose os)) ≡ Some us → Row whose (types_at whose os) us
 types_row owner.Module params os us p l n q = record { types = us; all = q; self = refl; rest = refl }
 types_row (owner.Class None) params os us p l n q = absurd (cc)

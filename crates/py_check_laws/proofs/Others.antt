@@ -21,7 +21,7 @@ use Rattle.py_check_calls.specs.Callees.{is_variable}
 use Rattle.py_check_places.specs.Places.{Known, is_unset, fix, first_type, bind_variable, bind_name, bind_names, with_names, where_test, entering, Way, setting_out, behind_arm}
 use Rattle.py_check_places.specs.Shapes.{is_row, leaves, parts_of}
 use Rattle.py_check_places.specs.Shapes.{bind_target}
-use Rattle.py_check_assignments.specs.Assignments.{value_for, assigns, annotates_name, value_sort, binds_annotated}
+use Rattle.py_check_assignments.specs.Assignments.{value_for, assigns, annotates_name, value_sort, other_sort, binds_annotated}
 use Rattle.py_check_loops.specs.Loops.{course}
 use Rattle.py_check_loops.specs.Heads.{some_items, for_head, in_for}
 use Rattle.py_check_exceptions.specs.Handlers.{handler_head, in_handler}
@@ -117,7 +117,7 @@ module _ (C : Context) (x : List ℕ) (V : VarSorts) (scope : IsScope C V) where
   other_target ok k target t h = other_leaves ok k (leaves target) (parts_of (is_row target) (length (leaves target)) t) (subst Absent (target_leaves target) h)
 
   other_annotated : (k : Known) (span : Span) (o : Option (List ℕ)) (target mark : ExprTree) (e : Option ExprTree) → name_in target ≡ o → Absent (marked o target mark) → seen (binds_annotated C k span o target mark e) ≡ seen k
-  other_annotated k span None target mark e n h = other_target false k target None h
+  other_annotated k span None target mark e n h = other_target false k target (other_sort C k target e) h
   other_annotated k span (Some y) target mark e n h =
       let ok = is_some (annotates_name C k span y mark e).got in
       let t = value_sort C k y e in

@@ -1,5 +1,6 @@
 -- What names mean in a module whose classes have types: a class is one of them, and a function one of the module's own.
 use Rattle.std.proofs.Common.{◌≡◌, ℕ, ◌+◌, Bool, true, false, cond, List, [], ◌∷◌, ◌++◌, map, length, Option, Some, None, refl, ap, sym, ◌∙◌, subst, if◌then◌else◌, unwrap_or}
+use Rattle.std.proofs.lemmas.Option.{same_Some}
 use Rattle.std.proofs.lemmas.List.{append_assoc, length-append}
 use Rattle.std.specs.Prelude.{slice_get}
 use Rattle.std.specs.List.{AllByRecursion}
@@ -95,7 +96,7 @@ module _ (headers : List Header) where
 
   pub known_class : (o : Option Meaning) (m : Meaning) → option_map (typed_meaning headers) o ≡ Some m → IsTypedClass m
   known_class None m h = absurd (cc)
-  known_class (Some n) m h = subst IsTypedClass (Rattle.std.proofs.lemmas.Option.same_Some (typed_meaning headers n) m h) (typed_class n)
+  known_class (Some n) m h = subst IsTypedClass (same_Some (typed_meaning headers n) m h) (typed_class n)
 
 -- ---- functions
 
@@ -177,4 +178,4 @@ module _ (headers : List Header) (whole : List Owner) where
       by None q r = absurd (cc)
       by (Some n) q r =
           let found = found_holds Holds (numbered 0 (said_from 0 ds)) x n (all_numbered 0 (said_from 0 ds) (all_said [] 0 0 ds e refl)) q in
-          subst IsOwnFunction (Rattle.std.proofs.lemmas.Option.same_Some (typed_meaning headers n) m r) (typed_function n found.holds)
+          subst IsOwnFunction (same_Some (typed_meaning headers n) m r) (typed_function n found.holds)

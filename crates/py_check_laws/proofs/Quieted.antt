@@ -42,10 +42,15 @@ zip_many [] ys e = refl
 zip_many (x ∷ xs) [] e = absurd (omega (arith, e))
 zip_many (x ∷ xs) (y ∷ ys) e = let rest = zip_many xs ys (omega (arith, e)) in omega (arith, rest)
 
-zip_first : {A B C : Type 0} (g : A → List C) (xs : List A) (ys : List B) → length xs ≡ length ys → flat_map (λ (p : A × B). g p.0) (zip xs ys) ≡ flat_map g xs
+pub zip_first : {A B C : Type 0} (g : A → List C) (xs : List A) (ys : List B) → length xs ≡ length ys → flat_map (λ (p : A × B). g p.0) (zip xs ys) ≡ flat_map g xs
 zip_first g [] ys e = refl
 zip_first g (x ∷ xs) [] e = absurd (omega (arith, e))
 zip_first g (x ∷ xs) (y ∷ ys) e = ap (λ l. g x ++ l) (zip_first g xs ys (omega (arith, e)))
+
+pub zip_all : {A B : Type 0} (test : A → Bool) (xs : List A) (ys : List B) → list_all test xs ≡ true → list_all (λ (p : A × B). test p.0) (zip xs ys) ≡ true
+zip_all test [] ys h = refl
+zip_all test (x ∷ xs) [] h = refl
+zip_all {A = A} {B = B} test (x ∷ xs) (y ∷ ys) h = and_from (test x) (list_all (λ (p : A × B). test p.0) (zip xs ys)) (and_left (test x) (list_all test xs) h) (zip_all test xs ys (and_right (test x) (list_all test xs) h))
 
 zip_second : {A B : Type 0} (test : B → Bool) (xs : List A) (ys : List B) → list_all test ys ≡ true → list_all (λ (p : A × B). test p.1) (zip xs ys) ≡ true
 zip_second test [] ys h = refl

@@ -33,22 +33,23 @@ use Rattle.py_check_values.specs.Assignments.{binding_fault, items_for}
 use Rattle.py_check_places.specs.Places.{Known, with_names, is_unset, fix, first_type, bind_variable, bind_name, bind_names, where_test, entering, Way, setting_out, behind_arm}
 use Rattle.py_check_places.specs.Shapes.{is_row, is_flat, leaves, target_names, bind_target}
 use Rattle.py_check_targets.specs.Targets.{variable_aim, name_aim, targets_of, assigned, target_aims, aims_behind}
-use Rattle.py_check_assignments.specs.Assignments.{value_for, assigns, binds, annotates_name, annotates, value_sort, binds_annotated, asked_for, annotates_at}
+use Rattle.py_check_assignments.specs.Assignments.{value_for, assigns, binds, annotates_name, annotates, value_sort, other_sort, binds_annotated, asked_for, annotates_at}
+use Rattle.py_check_assignments.proofs.AssignmentLemmas.{own_unbound}
 use Rattle.py_check_loops.specs.Loops.{Course, course, head, loop_of}
 use Rattle.py_check_loops.specs.Heads.{some_items, for_head, in_for}
 use Rattle.py_check_exceptions.specs.Handlers.{handler_head, in_handler}
 use Rattle.py_check_statements.specs.Bodies.{is_definition, around_loop, around_clause, is_last, clause_of, present, try_of, condition, outside_try, after, node_after, block_after, arms_after, handlers_after, last_after, statement, node_statement, block, branches, clauses, maybe_block}
 use Rattle.py_check_statements.specs.declared.bodies.Around.{Around}
 use Rattle.py_check_expressions_laws.specs.WellTyped as law
-use Rattle.py_check_expressions_laws.specs.WellTyped.{IsDeclared, Describes, Within}
+use Rattle.py_check_expressions_laws.specs.WellTyped.{Describes}
 use Rattle.py_check_expressions_laws.proofs.Types.{clash}
 use Rattle.py_check_expressions_laws.proofs.Inside.{either}
 use Rattle.py_check_laws.proofs.Looked.{LookedAt, looked_behind}
-use Rattle.py_check_laws.specs.WellTyped.{is_filled, maybe_written, are_targets, is_stmt_written, is_act_written, is_suite_written, are_arms_written, has_clause, are_handlers_written, is_last_written, IsScope}
+use Rattle.py_check_laws.specs.WellTyped.{is_filled, are_targets, is_stmt_written, is_act_written, is_suite_written, are_arms_written, has_clause, are_handlers_written, is_last_written, IsScope}
 use Rattle.py_check_laws.proofs.Given.{some_is, made_given, both_given, rule_given, row_given}
 use Rattle.py_check.proofs.Bound.{single_bound, name_no_row, closed_variable}
 use Rattle.py_check.proofs.Kept.{fix_cases, Follows, follows_on, follows_name, follows_target, follows_stmt, follows_block, follows_arms, follows_clauses, follows_last, is_open, bind_set}
-use Rattle.py_check_laws.proofs.Assigned.{row_bound, items_are, BoundTo, assigned_is, head_is, own_single, own_unmarked}
+use Rattle.py_check_laws.proofs.Assigned.{row_bound, items_are, BoundTo, assigned_is, head_is, own_unmarked}
 use Rattle.py_check_laws.proofs.Whole.{definition_after, bound_same}
 use Rattle.py_check_laws.proofs.Aims.{AimAt, AimsOf}
 use Rattle.py_check_laws.proofs.Shapes.{definition_shape, no_part_given}
@@ -228,13 +229,12 @@ module _ (C : Context) (m : TypedModule) (locals : List Variable) (init : Option
   settled_annotated k D s span target mark e (Some x) n h a g = settled_name k D s (is_some (annotates_name here k span x mark e).got) target mark x (value_sort here k x e) n h
   settled_annotated k D s span target mark e None n h a g = by (own_attribute C.inside target) refl e g
     where
-      by : (o : Option (ExprTree × List ℕ)) → own_attribute C.inside target ≡ o → (e : Option ExprTree) → (annotates_at here k span o target mark e).got ≡ Some a → Settled (bind_target here false k target None).types (marked (name_in target) target mark)
+      by : (o : Option (ExprTree × List ℕ)) → own_attribute C.inside target ≡ o → (e : Option ExprTree) → (annotates_at here k span o target mark e).got ≡ Some a → Settled (bind_target here false k target (other_sort here k target e)).types (marked (name_in target) target mark)
       by None q None g = absurd (no_part_given (both (target_aims here k target) (annotation C.meaning mark)).got span no_target a g)
-      by None q (Some e) g = absurd (no_part_given (both (both (target_aims here k target) (annotation C.meaning mark)) (value_for here k target e)).got span no_target a g)
+      by None q (Some e) g = absurd (no_part_given (both (both (aims_behind here k target (option_map type_of (value_for here k target e).got)) (annotation C.meaning mark)) (value_for here k target e)).got span no_target a g)
       by (Some p) q e g =
-          let s = own_single C.inside target p q in
-          let same : bind_target here false k target None ≡ k = single_bound here false k target None s.0 ∙ ap (λ o. bind_name here false k o None) s.1 in
-          subst (λ bs. Settled (bind_target here false k target None).types bs) (sym (own_unmarked C.inside target p mark q))
+          let same = own_unbound here k target p (other_sort here k target e) q in
+          subst (λ bs. Settled (bind_target here false k target (other_sort here k target e)).types bs) (sym (own_unmarked C.inside target p mark q))
           (record { valued = subst (λ (z : Known). Valued size z.types) (sym same) (valued_here k.types D); closed = tt })
 
   settled_update : (k : Known) → Describes here k.types m locals init → IsScope here k.types → (target : ExprTree) → Settled (bind_target here false k target None).types (target_bindings target)

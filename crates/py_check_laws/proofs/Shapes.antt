@@ -51,7 +51,7 @@ use Rattle.py_check_laws.proofs.Deleted.{deleted_item}
 use Rattle.std.specs.Option.{option_map}
 use Rattle.py_check_laws.proofs.Looked.{looked_behind}
 use Rattle.py_check_laws.proofs.Given.{made_given, both_given, rule_given, row_given, unless_ok}
-use Rattle.py_check_laws.proofs.Assigned.{assigned_is, given_is, updated_is, head_is, own_single, declared_own_is, given_own_is, never_lacking}
+use Rattle.py_check_laws.proofs.Assigned.{assigned_is, given_is, updated_is, head_is, own_single, declared_own_is, given_own_is, never_lacking, never_row}
 use Rattle.py_check_laws.proofs.Names.{within_itself}
 use Rattle.py_check_laws.proofs.Aims.{AimAt, AimsOf, Held, held_local, held_global, held_item, aim_held, First, first_local, first_global, aim_first, OtherAt, held_attribute, aims_are}
 use Rattle.py_check_laws.proofs.Exceptions.{Raised, raised_on, raised_class, raised_value, raise_given, assert_given, NameAt, head_given}
@@ -248,7 +248,7 @@ module _ (C : Context) where
     where
       by : (o : Option (ExprTree × List ℕ)) → own_attribute C.inside target ≡ o → (e : Option ExprTree) → (annotates_at C k span o target mark e).got ≡ Some a → ActShape (node.Annot target mark e) a
       by None q None g = absurd (no_part_given (both (target_aims C k target) (annotation C.meaning mark)).got span no_target a g)
-      by None q (Some e) g = absurd (no_part_given (both (both (target_aims C k target) (annotation C.meaning mark)) (value_for C k target e)).got span no_target a g)
+      by None q (Some e) g = absurd (no_part_given (both (both (aims_behind C k target (option_map type_of (value_for C k target e).got)) (annotation C.meaning mark)) (value_for C k target e)).got span no_target a g)
       by (Some p) q e g = own_shape k span p target mark e a q g
 
   one_bound : (t : TypedTarget) (more l : List TypedTarget) (ys : List ℕ) → l ≡ t ∷ more → Within (bound_by_all l) ys → Within (bound_by t) ys
@@ -273,7 +273,7 @@ module _ (C : Context) where
   updates_shape k span target op e a h = by (is_row target) refl (lacking_in C target) refl h
     where
       by : (b : Bool) → is_row target ≡ b → (o : Option (ExprTree × List ℕ)) → lacking_in C target ≡ o → (if b then updates_row C k span target e else updates_single C k span o target op e).got ≡ Some a → ActShape (node.Aug target op e) a
-      by true q o l f = absurd (no_part_given (both (target_aims C k target) (typed_at C k free e)).got span no_target a f)
+      by true q o l f = absurd (never_row C.classes span (both (aims_behind C k target None) (typed_at C k free e)) a f)
       by false q None l f = update_shape k span target op e a q l f
       by false q (Some p) l f = absurd (never_lacking C.classes span p.1 (both (typed_at C k free p.0) (typed_at C k free e)) a f)
 

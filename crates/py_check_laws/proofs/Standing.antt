@@ -22,10 +22,10 @@ use Rattle.py_check_names.specs.Meanings.{variables, meaning_in}
 use Rattle.py_check_signatures.specs.declared.headers.Owner.{Owner}
 use Rattle.py_check_signatures.specs.declared.headers.Owner.TheVariants as owner
 use Rattle.py_check_signatures.specs.Headers.{header, signature_of, is_init, none_returned, returned, return_at}
-use Rattle.py_check_classes.specs.Names.{classes_in}
+use Rattle.py_check_classes.specs.Names.{classes_in, said_of_names}
 use Rattle.py_check_classes.specs.Headers.{has_type}
 use Rattle.py_check_classes.proofs.HeaderLemmas.{headers_sound}
-use Rattle.py_check_members.specs.Members.{own_member, inner_meaning, ClassText, class_texts, entries_from}
+use Rattle.py_check_members.specs.Members.{own_member, inner_meaning, ClassText, class_texts, scope_meaning}
 use Rattle.py_check_definitions.specs.Definitions.{Headed, headed, headed_functions, signatures}
 use Rattle.py_check_definitions.specs.Names.{known_in, module_meaning}
 use Rattle.py_check_definitions.specs.Owners.{owners_from, owners}
@@ -46,7 +46,8 @@ use Rattle.py_check_laws.proofs.Bodied.{nothing_placed}
 use Rattle.py_check_laws.proofs.Reached.{reach, inner_reach}
 use Rattle.py_check_laws.proofs.Described.{ClassesStand, Placed, all_stand}
 use Rattle.py_check_laws.proofs.Placed.{meaning_holds, IsTypedClass, class_names, known_class, IsOwnFunction, function_names, known_function}
-use Rattle.py_check_laws.proofs.Classes.{ds, hs, os, meant, roles, e, named, inner, tree, gs, as_typed, classes_typed, pair_at, has_classes, member_voiced, init_voiced, behind_voiced, inside_voiced}
+use Rattle.py_check_laws.proofs.Classes.{ds, hs, os, meant, roles, e, named, inner, tree, as_typed, classes_typed, pair_at, has_classes, class_of_owner, zip_second_there}
+use Rattle.py_check_classes.specs.declared.header.Header.{Header}
 
 below : (a b : ℕ) → a < b → nat_lt a b ≡ true
 below a b h = grind (arith, nat_tests, h)
@@ -78,13 +79,13 @@ module _ (m : Suite) (nothing : said m ≡ []) where
   typed_there : (i : ℕ) → has_type (slice_get (hs m nothing) i) ≡ true → nat_lt i size ≡ true
   typed_there i h = below i size (subst (λ k. i < k) (sym many_classes) (by (slice_get (hs m nothing) i) refl h))
     where
-      by : (o : Option Rattle.py_check_classes.specs.declared.header.Header.Header) → slice_get (hs m nothing) i ≡ o → has_type o ≡ true → i < length (hs m nothing)
+      by : (o : Option Header) → slice_get (hs m nothing) i ≡ o → has_type o ≡ true → i < length (hs m nothing)
       by None q r = absurd (cc)
       by (Some x) q r = slice_get_within (hs m nothing) i x q
 
   class_in_scope : (outer : List (List ℕ)) (inside : Scope) (x : List ℕ) → IsTypedClass (hs m nothing) (meaning_in (known_in m) outer inside x)
   class_in_scope outer inside x =
-      meaning_holds (IsTypedClass (hs m nothing)) (class_names (hs m nothing)) (known_in m) (λ y n h. known_class (hs m nothing) (Rattle.py_check_classes.specs.Names.said_of_names (ds m nothing) y) n h) outer inside x
+      meaning_holds (IsTypedClass (hs m nothing)) (class_names (hs m nothing)) (known_in m) (λ y n h. known_class (hs m nothing) (said_of_names (ds m nothing) y) n h) outer inside x
 
   pub top_placed : (x : List ℕ) (i : ℕ) → module_meaning m x ≡ meaning.Class i → nat_lt i size ≡ true
   top_placed x i h = typed_there i (class_in_scope (variables (module_scope m)) (module_scope m) x i h)
@@ -98,7 +99,7 @@ module _ (m : Suite) (nothing : said m ≡ []) where
 
   own_is_function : (i : ℕ) → slice_get (owners m) i ≡ Some owner.Module → is_function (slice_get (typed m).funcs i) ≡ true
   own_is_function i h =
-      let f = Rattle.py_check_laws.proofs.Classes.zip_second_there (functions m) (owners m) i owner.Module (quiet.owners_many m nothing) h in
+      let f = zip_second_there (functions m) (owners m) i owner.Module (quiet.owners_many m nothing) h in
       let there : slice_get (headed_functions m) i ≡ Some (headed (roles m nothing) (meant m nothing) (f.0, owner.Module)) =
       slice_get-map (headed (roles m nothing) (meant m nothing)) (quiet.pairs m nothing) i ∙ ap (option_map (headed (roles m nothing) (meant m nothing))) f.1 in
       ap is_function (slice_get-map (as_typed m nothing) (headed_functions m) i ∙ ap (option_map (as_typed m nothing)) there)
@@ -112,7 +113,7 @@ module _ (m : Suite) (nothing : said m ≡ []) where
   -- the class of each method is one of the module's
   owner_placed : (whose : Owner) → (i : ℕ) → slice_get (owners_from (hs m nothing) 0 (ds m nothing)) i ≡ Some whose → Placed size (module_meaning m) top_placed whose
   owner_placed owner.Module i h = tt
-  owner_placed (owner.Class o) i h = λ c q. typed_there c (Rattle.py_check_laws.proofs.Classes.class_of_owner (hs m nothing) 0 (ds m nothing) i o h c q)
+  owner_placed (owner.Class o) i h = λ c q. typed_there c (class_of_owner (hs m nothing) 0 (ds m nothing) i o h c q)
 
   all_placed : (fs : List FuncTree) (row : List Owner) → ((i : ℕ) (whose : Owner) → slice_get row i ≡ Some whose → Placed size (module_meaning m) top_placed whose) → AllByRecursion (λ (p : FuncTree × Owner). Placed size (module_meaning m) top_placed p.1) (zip fs row)
   all_placed [] row h = tt
@@ -128,7 +129,7 @@ module _ (m : Suite) (nothing : said m ≡ []) where
   inner_class None x c h = absurd (cc)
   inner_class (Some f) x c h = by (slice_get (map (function_scope (roles m nothing)) (functions m)) f) h
     where
-      by : (o : Option Scope) → Rattle.py_check_members.specs.Members.scope_meaning (known_in m) (variables (module_scope m)) o x ≡ meaning.Class c → nat_lt c size ≡ true
+      by : (o : Option Scope) → scope_meaning (known_in m) (variables (module_scope m)) o x ≡ meaning.Class c → nat_lt c size ≡ true
       by None q = absurd (cc)
       by (Some inside) q = typed_there c (class_in_scope (variables (module_scope m)) inside x c q)
 

@@ -13,7 +13,7 @@ use Rattle.py_typed.specs.Fits.{is_nothing, number_join}
 use Rattle.py_typed.specs.Expressions as expr
 use Rattle.py_typed.specs.Expressions.{TypedExpr, typed, type_of}
 use Rattle.py_typed.specs.Statements as act
-use Rattle.py_typed.specs.Statements.{TypedTarget, TypedAct}
+use Rattle.py_typed.specs.Statements.{TypedAct}
 use Rattle.py_check_context.specs.Context as wanted
 use Rattle.py_check_context.specs.Context.{Context, free}
 use Rattle.py_check_flow.specs.Bindings.{name_in}
@@ -28,7 +28,7 @@ use Rattle.py_check_values.specs.Returns.{ReturnSort, due, value_return, bare_re
 use Rattle.py_check_places.specs.Places.{Known, is_bound, entering}
 use Rattle.py_check_places.specs.Shapes.{is_row, is_item, is_access, is_flat, bind_target}
 use Rattle.py_check_targets.specs.Targets.{assigned, declared, given, declared_own, given_own, of_operation, updated, updated_lacking, name_aim, seen_aim, read_aim, typed_at, target_aims, aims_behind, targets_of}
-use Rattle.py_check_assignments.specs.Assignments.{value_for, assigns, annotated_value, annotates_name, annotates_other, annotates_own, annotates_at, annotates, updates_row, updates_single, updates, asked_for}
+use Rattle.py_check_assignments.specs.Assignments.{value_for, assigns, annotated_value, annotates_name, annotates_other, annotates_own, annotates_at, annotates, updates_row, updates_single, updates, asked_for, row_refused}
 use Rattle.py_check_targets.specs.Attributes.{own_attribute, lacking_in, declares_at}
 use Rattle.py_check_operators.specs.Operators.{op_text, is_concat, is_numeric}
 use Rattle.py_check_loops.specs.Loops.{Course, course, head}
@@ -128,9 +128,11 @@ module _ (C : Context) where
       let parts = both (target_aims C k target) (annotation C.meaning mark) in
       refused_layer no_target parts (quiet_both (target_aims C k target) (annotation C.meaning mark) (quiet_targets C k target) (quiet_annotation C.meaning mark))
   other_layer k target mark (Some e) =
-      let front = both (target_aims C k target) (annotation C.meaning mark) in
-      refused_layer no_target (both front (value_for C k target e))
-      (quiet_both front (value_for C k target e) (quiet_both (target_aims C k target) (annotation C.meaning mark) (quiet_targets C k target) (quiet_annotation C.meaning mark)) (quiet_typing C k.types _ k.names e))
+      let value = value_for C k target e in
+      let targets = aims_behind C k target (option_map type_of value.got) in
+      let front = both targets (annotation C.meaning mark) in
+      refused_layer no_target (both front value)
+      (quiet_both front value (quiet_both targets (annotation C.meaning mark) (quiet_behind_value C k target (option_map type_of value.got)) (quiet_annotation C.meaning mark)) (quiet_typing C k.types _ k.names e))
 
   -- what is wrong with the annotation of an attribute, where the statement declares it or not
   abbrev fault_by : List ℕ → Bool → Option Message
@@ -167,7 +169,9 @@ module _ (C : Context) where
   update_layer k target op e = by (is_row target) (lacking_in C target)
     where
       by : (b : Bool) (o : Option (ExprTree × List ℕ)) → Layer (λ place. (if b then updates_row C k place target e else updates_single C k place o target op e).said)
-      by true o = refused_layer no_target (both (target_aims C k target) (typed_at C k free e)) (quiet_both (target_aims C k target) (typed_at C k free e) (quiet_targets C k target) (quiet_typing C k.types free k.names e))
+      by true o =
+          rule_layer (λ place. row_refused C.classes) (both (aims_behind C k target None) (typed_at C k free e))
+          (quiet_both (aims_behind C k target None) (typed_at C k free e) (quiet_behind_value C k target None) (quiet_typing C k.types free k.names e)) (λ p place other. refl)
       by false None =
           rule_layer (λ place. updated C.classes place op (read_aim C k (name_in target) (is_access target))) (both (typed_at C k free target) (typed_at C k free e))
           (quiet_both (typed_at C k free target) (typed_at C k free e) (quiet_typing C k.types free k.names target) (quiet_typing C k.types free k.names e)) (same_updated op (read_aim C k (name_in target) (is_access target)))

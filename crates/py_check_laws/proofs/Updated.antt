@@ -16,7 +16,7 @@ use Rattle.py_typed.specs.Fits.{is_same_type, is_nothing, is_number, number_join
 use Rattle.py_typed.specs.Expressions as expr
 use Rattle.py_typed.specs.Expressions.{TypedExpr, TypedNode, typed, type_of}
 use Rattle.py_typed.specs.Statements as act
-use Rattle.py_typed.specs.Statements.{Variable, TypedModule, TypedTarget, LocalTarget, GlobalTarget, ItemTarget, TypedAct}
+use Rattle.py_typed.specs.Statements.{Variable, TypedModule, TypedTarget, LocalTarget, GlobalTarget, TypedAct}
 use Rattle.py_typed.specs.Narrowing.{is_in, may_be_none}
 use Rattle.py_typed.specs.WellTypedExpr.{stands, is_result_type, is_type, are_texts, are_numbers, operation_sort, reads_as, is_none_literal}
 use Rattle.py_typed.specs.WellTyped as stmt
@@ -25,7 +25,7 @@ use Rattle.py_check_context.specs.declared.scope.Meaning.{Meaning}
 use Rattle.py_check_context.specs.declared.scope.Meaning.TheVariants as meaning
 use Rattle.py_check_context.specs.Context.{Context, VarSort, unset, untyped, has, var_at, free, wants}
 use Rattle.py_check_flow.specs.Bindings.{name_in}
-use Rattle.py_check_messages.specs.Seen.{Seen, both, judged, behind, rule, made}
+use Rattle.py_check_messages.specs.Seen.{Seen, both, behind}
 use Rattle.py_check_messages.specs.Messages.{no_target}
 use Rattle.py_check_annotations.specs.Annotations.{annotation}
 use Rattle.py_check_coercions.specs.Values.{coerced}
@@ -38,8 +38,9 @@ use Rattle.py_check_values.specs.Aims.{Aim, held, first, barred, unwritten, misp
 use Rattle.py_check_values.specs.Assignments.{binding_fault, as_bound}
 use Rattle.py_check_places.specs.Places.{Known, is_bound, variable_at, bind_variable, bind_name}
 use Rattle.py_check_places.specs.Shapes.{is_row, bind_target, is_access}
-use Rattle.py_check_targets.specs.Targets.{target_of, variable_aim, name_aim, seen_aim, asked_by, declared, given, annotation_fault, read_aim, updated, typed_at, target_aims, declared_own}
-use Rattle.py_check_assignments.specs.Assignments.{value_for, asked, annotated_value, declares, gives_value, annotates_name, annotates, binds_annotated, updates_row, updates_one, updates, annotates_own, annotates_at, updates_single}
+use Rattle.py_check_targets.specs.Targets.{aims_behind, target_of, variable_aim, name_aim, seen_aim, asked_by, declared, given, annotation_fault, read_aim, updated, typed_at, target_aims, declared_own}
+use Rattle.py_check_assignments.specs.Assignments.{value_for, asked, annotated_value, declares, gives_value, annotates_name, annotates, other_sort, binds_annotated, updates_row, updates_one, updates, annotates_own, annotates_at, updates_single}
+use Rattle.py_check_assignments.proofs.AssignmentLemmas.{own_unbound}
 use Rattle.py_check_statements.specs.Bodies.{return_wanted, returns}
 use Rattle.py_check_expressions_laws.specs.WellTyped as law
 use Rattle.py_check_expressions_laws.specs.WellTyped.{Describes, Within}
@@ -52,14 +53,14 @@ use Rattle.py_check_laws.specs.WellTyped.{maybe_written, IsScope, IsResult}
 use Rattle.py_check_laws.proofs.Given.{done, ok_same, some_is, judged_given, both_given, rule_given, made_given, part_given, unless_ok}
 use Rattle.py_check.proofs.Bound.{name_no_row, single_bound}
 use Rattle.py_check.proofs.Kept.{follows_target, is_open}
-use Rattle.py_check_laws.proofs.Assigned.{given_is, updated_is, own_single, declared_own_is, never_lacking}
+use Rattle.py_check_laws.proofs.Assigned.{given_is, updated_is, own_single, declared_own_is, never_lacking, never_row}
 use Rattle.py_check_laws.proofs.Whole.{read_set, bound_same}
 use Rattle.py_check_laws.proofs.Names.{within_less}
 use Rattle.py_check_laws.proofs.Aims.{AimAt, Held, held_local, held_global, held_item, aim_held, aim_first, first_name, held_aimed, aimed_bound, held_attribute}
 use Rattle.py_check_laws.proofs.Literals.{heads}
 use Rattle.py_check_laws.proofs.Shapes.{no_part_given, read_aim_at}
 use Rattle.py_check_laws.proofs.Values.{scene, fault_fits, single_stands, stands_free, attribute_at_place}
-use Rattle.py_check_laws.proofs.Targets.{TargetStands, held_stands, first_open}
+use Rattle.py_check_laws.proofs.Targets.{held_stands, first_open}
 use Rattle.py_check_laws.proofs.Bound.{described_before, Good, good_one, own_given, own_written, name_written}
 use Rattle.py_check_targets.specs.Attributes.{own_attribute, lacking_in, declaring_fault}
 
@@ -196,28 +197,23 @@ module _ (C : Context) (m : TypedModule) (locals : List Variable) (init : Option
       (good_one C m locals init result loops handling k target wt sc aim at_name v g.right (subst (λ (z : Known). Describes here z.types m locals init) p E) others w sv))
 
   -- an attribute of the object that an `__init__` sets up
-  own_unbound : (k : Known) (target : ExprTree) (p : ExprTree × List ℕ) → own_attribute C.inside target ≡ Some p → bind_target here false k target None ≡ k
-  own_unbound k target p q =
-      let s = own_single C.inside target p q in
-      single_bound here false k target None s.0 ∙ ap (λ o. bind_name here false k o None) s.1
-
-  good_own : (loops handling : Bool) (k : Known) (span : Span) (p : ExprTree × List ℕ) (target mark : ExprTree) (e : Option ExprTree) → own_attribute C.inside target ≡ Some p → IsScope here k.types → maybe_written e ≡ true → Describes here (bind_target here false k target None).types m locals init → (a : TypedAct) → (annotates_own here k span p.1 target mark e).got ≡ Some a
-      → (others : List ℕ) → Within k.names others → Fine loops handling others (bind_target here false k target None).names a
+  good_own : (loops handling : Bool) (k : Known) (span : Span) (p : ExprTree × List ℕ) (target mark : ExprTree) (e : Option ExprTree) → own_attribute C.inside target ≡ Some p → IsScope here k.types → maybe_written e ≡ true → Describes here (bind_target here false k target (other_sort here k target e)).types m locals init → (a : TypedAct) → (annotates_own here k span p.1 target mark e).got ≡ Some a
+      → (others : List ℕ) → Within k.names others → Fine loops handling others (bind_target here false k target (other_sort here k target e)).names a
   good_own loops handling k span p target mark None o sc we E a h others w =
       let r = rule_given span (declared_own (declaring_fault C.inside p.1 span)) (both (target_aims here k target) (annotation C.meaning mark)) a h in
-      subst (Fine loops handling others (bind_target here false k target None).names) (declared_own_is (declaring_fault C.inside p.1 span) r.0 a r.2)
-      (record { typed = refl; names = subst (λ (z : Known). Within z.names others) (sym (own_unbound k target p o)) w })
+      subst (Fine loops handling others (bind_target here false k target (other_sort here k target None)).names) (declared_own_is (declaring_fault C.inside p.1 span) r.0 a r.2)
+      (record { typed = refl; names = subst (λ (z : Known). Within z.names others) (sym (own_unbound here k target p (other_sort here k target None) o)) w })
   good_own loops handling k span p target mark (Some e) o sc we E a h others w =
       let q = own_given C m locals init result k span p target mark e o a h in
       let g = q.3 in
       let v = q.1 in
       let s = own_single C.inside target p o in
       let wt = own_written C m locals init result target p o in
-      let same = own_unbound k target p o in
+      let same = own_unbound here k target p (other_sort here k target (Some e)) o in
       let named : bind_name here true k (name_in target) (Some (type_of v)) ≡ k = ap (λ z. bind_name here true k z (Some (type_of v))) s.1 in
       let D : Describes here k.types m locals init = subst (λ (z : Known). Describes here z.types m locals init) same E in
       let sv = single_stands C m locals init k D (target ∷ []) (and_from (law.is_written target) true wt refl) (g.aim ∷ []) None (record { here = g.here_it_is; rest = tt }) e we v (g.aim, refl, g.right) g.valued others w in
-      subst (Fine loops handling others (bind_target here false k target None).names) g.is
+      subst (Fine loops handling others (bind_target here false k target (other_sort here k target (Some e))).names) g.is
       (subst (λ (z : Known). Fine loops handling others z.names (act.Assign (target_of g.aim) (as_bound g.aim v))) (named ∙ sym same)
       (good_one C m locals init result loops handling k target wt sc g.aim g.here_it_is v g.right (subst (λ (z : Known). Describes here z.types m locals init) (sym named) D) others w sv))
 
@@ -227,9 +223,9 @@ module _ (C : Context) (m : TypedModule) (locals : List Variable) (init : Option
   good_annotated loops handling k span (Some x) target mark e n sc we E a h others w = good_name loops handling k span x target mark e n sc we E a h others w
   good_annotated loops handling k span None target mark e n sc we E a h others w = by (own_attribute C.inside target) refl e we E h
     where
-      by : (o : Option (ExprTree × List ℕ)) → own_attribute C.inside target ≡ o → (e : Option ExprTree) → maybe_written e ≡ true → Describes here (bind_target here false k target None).types m locals init → (annotates_at here k span o target mark e).got ≡ Some a → Fine loops handling others (bind_target here false k target None).names a
+      by : (o : Option (ExprTree × List ℕ)) → own_attribute C.inside target ≡ o → (e : Option ExprTree) → maybe_written e ≡ true → Describes here (bind_target here false k target (other_sort here k target e)).types m locals init → (annotates_at here k span o target mark e).got ≡ Some a → Fine loops handling others (bind_target here false k target (other_sort here k target e)).names a
       by None q None we E g = absurd (no_part_given (both (target_aims here k target) (annotation C.meaning mark)).got span no_target a g)
-      by None q (Some e) we E g = absurd (no_part_given (both (both (target_aims here k target) (annotation C.meaning mark)) (value_for here k target e)).got span no_target a g)
+      by None q (Some e) we E g = absurd (no_part_given (both (both (aims_behind here k target (option_map type_of (value_for here k target e).got)) (annotation C.meaning mark)) (value_for here k target e)).got span no_target a g)
       by (Some p) q e we E g = good_own loops handling k span p target mark e q sc we E a g others w
 
   -- ---- operations with assignment
@@ -303,7 +299,7 @@ module _ (C : Context) (m : TypedModule) (locals : List Variable) (init : Option
     where
       by : Describes here k.types m locals init → (b : Bool) → is_row target ≡ b → (x : Option (ExprTree × List ℕ)) → lacking_in here target ≡ x → (if b then updates_row here k span target e else updates_single here k span x target o e).got ≡ Some a → Fine loops handling others (bind_target here false k target None).names a
       by D false q (Some p) l f = absurd (never_lacking m.classes.classes span p.1 (both (typed_at here k free p.0) (typed_at here k free e)) a f)
-      by D true q x l f = absurd (no_part_given (both (target_aims here k target) (typed_at here k free e)).got span no_target a f)
+      by D true q x l f = absurd (never_row m.classes.classes span (both (aims_behind here k target None) (typed_at here k free e)) a f)
       by D false q None l f = good_one_update loops handling k span target o e q l wt we D a f others w
 
   -- ---- returns

@@ -18,7 +18,7 @@ use Rattle.py_check_flow.specs.Bindings.{suite_bindings}
 use Rattle.py_check_annotations.specs.Names.{is_untyped}
 use Rattle.py_check_signatures.specs.declared.headers.Owner.{Owner}
 use Rattle.py_check_signatures.specs.declared.headers.Owner.TheVariants as owner
-use Rattle.py_check_signatures.specs.Headers.{types_at, param_types, marked}
+use Rattle.py_check_signatures.specs.Headers.{param_types, marked}
 use Rattle.py_check_names.specs.Meanings.{is_own, own_names}
 use Rattle.py_check_places.specs.Places.{Known, is_unset}
 use Rattle.py_check_statements.specs.Bodies.{nothing_around, block_after}
@@ -45,6 +45,7 @@ use Rattle.py_check_laws.proofs.KnownParts.{AreKnown}
 use Rattle.py_check_laws.proofs.Whole.{InReach, quiet_block}
 use Rattle.py_check_laws.proofs.Quieted as quiet
 use Rattle.py_check_laws.proofs.Modules as whole
+use Rattle.py_check_laws.proofs.Methods.{types_many}
 
 -- ---- single variables
 
@@ -76,11 +77,6 @@ pub kept_has : (xs ys : List VarSort) → Kept xs ys → (i : ℕ) → has_type 
 kept_has xs ys k i h = ap has_type (k.stays i (set_by (var_at xs i) h)) ∙ h
 
 -- ---- functions
-
-types_many : (whose : Owner) (types : List (Option Sort)) → length (types_at whose types) ≡ length types
-types_many owner.Module types = refl
-types_many (owner.Class c) [] = refl
-types_many (owner.Class c) (t ∷ types) = refl
 
 module _ (e : ModuleContext) (roles : Roles) (meanings : List ℕ → Meaning) (all : (x : List ℕ) → is_untyped (meanings x) ≡ false) (reach : (p : FuncTree × Owner) → IsSigned meanings all roles p → InReach (function_context e (headed roles meanings p)))
     (inner : (p : FuncTree × Owner) (x : List ℕ) → is_untyped ((function_context e (headed roles meanings p)).meaning x) ≡ false) (known : (p : FuncTree × Owner) → function_faults roles p.0 ≡ [] → AreKnown (function_context e (headed roles meanings p)).meaning (body_sights p.0)) (n : ℕ) (fine : Fine e.said e.variables n roles)

@@ -42,7 +42,7 @@ use Rattle.py_check_places.specs.Places.{Known, is_unset, fix, is_bound, bind_va
 use Rattle.py_check_places.specs.Shapes.{is_row, is_item, is_flat, leaves, target_names, bind_target, parts_of, is_access}
 use Rattle.py_check_values.specs.Aims.{Aim}
 use Rattle.py_check_targets.specs.Targets.{name_aim, variable_aim, seen_aim, value_aim, read_aim, targets_of, assigned, declared, given, updated, typed_at, single_aim, aims, target_aims, next_part, more_parts, beyond, aims_behind, other_aim, declared_own, given_own}
-use Rattle.py_check_assignments.specs.Assignments.{value_for, assigns, binds, declares, annotated_value, gives_value, annotates_name, annotates_other, annotates, binds_annotated, updates_one, updates_row, updates, asked_for, annotates_own, annotates_at, updates_single}
+use Rattle.py_check_assignments.specs.Assignments.{value_for, assigns, binds, declares, annotated_value, gives_value, annotates_name, annotates_other, annotates, other_sort, binds_annotated, updates_one, updates_row, updates, asked_for, annotates_own, annotates_at, updates_single, row_refused}
 use Rattle.py_check_loops.specs.Loops.{value, range_call, is_range_name, range_arguments, span_of, course_by, course, head, loop_of}
 use Rattle.py_check_loops.specs.Heads.{some_items, for_head, in_for}
 use Rattle.py_check_statements.specs.Deletions.{deletion}
@@ -59,7 +59,8 @@ use Rattle.py_check_laws.specs.Statements.{is_judged}
 use Rattle.py_check_laws.proofs.Given.{some_is, rule_given, both_given, made_given}
 use Rattle.py_check.proofs.Bound.{single_bound, name_no_row}
 use Rattle.py_check.proofs.Kept.{fix_cases, is_open, bind_set}
-use Rattle.py_check_laws.proofs.Assigned.{row_bound, items_are, BoundTo, assigned_is, head_is, own_single}
+use Rattle.py_check_assignments.proofs.AssignmentLemmas.{own_unbound}
+use Rattle.py_check_laws.proofs.Assigned.{row_bound, items_are, BoundTo, assigned_is, head_is, row_none}
 use Rattle.py_check_expressions_laws.proofs.Known.{known_left, known_right, known_name}
 use Rattle.py_check_laws.proofs.KnownParts.{AreKnown, target_read, leaves_read}
 use Rattle.py_check_laws.proofs.Annotated.{loud_if, loud_annotation}
@@ -285,15 +286,16 @@ module _ (C : Context) where
         let more = (reads Annotation mark ++ maybe_reads Value None) in
         loud_behind a (λ p. with_part p (λ q. fails span no_target)) (loud_marked_target k all target mark (front (target_sights target) more u) (front (reads Annotation mark) [] (back (target_sights target) more u))) (λ q. loud_fails span no_target)
     loud_other k all span target mark (Some e) u =
-        let a = both (target_aims C k target) (annotation C.meaning mark) in
-        let b = both a (value_for C k target e) in
+        let V = value_for C k target e in
+        let targets = aims_behind C k target (option_map type_of V.got) in
+        let a = both targets (annotation C.meaning mark) in
         let more = (reads Annotation mark ++ reads Value e) in
-        loud_behind b (λ p. with_part p (λ q. fails span no_target))
-        (loud_both a (value_for C k target e) (loud_marked_target k all target mark (front (target_sights target) more u) (front (reads Annotation mark) (reads Value e) (back (target_sights target) more u))) (loud_value k all _ e (back (reads Annotation mark) (reads Value e) (back (target_sights target) more u)))) (λ q. loud_fails span no_target)
+        loud_behind (both a V) (λ p. with_part p (λ q. fails span no_target))
+        (loud_both a V (loud_both targets (annotation C.meaning mark) (loud_late k all target (option_map type_of V.got) (front (target_sights target) more u)) (loud_annotation C.meaning meanings_typed mark (front (reads Annotation mark) (reads Value e) (back (target_sights target) more u)))) (loud_value k all _ e (back (reads Annotation mark) (reads Value e) (back (target_sights target) more u)))) (λ q. loud_fails span no_target)
 
     other_never : (k : Known) (span : Span) (target mark : ExprTree) (e : Option ExprTree) → (annotates_other C k span target mark e).got ≡ None
     other_never k span target mark None = no_part (both (target_aims C k target) (annotation C.meaning mark)).got span no_target
-    other_never k span target mark (Some e) = no_part (both (both (target_aims C k target) (annotation C.meaning mark)) (value_for C k target e)).got span no_target
+    other_never k span target mark (Some e) = no_part (both (both (aims_behind C k target (option_map type_of (value_for C k target e).got)) (annotation C.meaning mark)) (value_for C k target e)).got span no_target
 
     loud_own : (k : Known) → AllTyped k.types → (span : Span) (a : List ℕ) (target mark : ExprTree) (e : Option ExprTree) → AreKnown C.meaning (target_sights target ++ (reads Annotation mark ++ maybe_reads Value e)) → IsLoud (annotates_own C k span a target mark e)
     loud_own k all span a target mark None u =
@@ -315,7 +317,7 @@ module _ (C : Context) where
 
     loud_row_update : (k : Known) → AllTyped k.types → (span : Span) (target e : ExprTree) → AreKnown C.meaning (target_sights target ++ reads Value e) → IsLoud (updates_row C k span target e)
     loud_row_update k all span target e u =
-        loud_behind (both (target_aims C k target) (typed_at C k free e)) (λ p. with_part p (λ q. fails span no_target)) (loud_both (target_aims C k target) (typed_at C k free e) (loud_targets k all target (front (target_sights target) (reads Value e) u)) (loud_value k all free e (back (target_sights target) (reads Value e) u))) (λ q. loud_fails span no_target)
+        loud_rule span (row_refused C.classes) (both (aims_behind C k target None) (typed_at C k free e)) (loud_both (aims_behind C k target None) (typed_at C k free e) (loud_late k all target None (front (target_sights target) (reads Value e) u)) (loud_value k all free e (back (target_sights target) (reads Value e) u)))
 
     loud_one_update : (k : Known) → AllTyped k.types → (span : Span) (target : ExprTree) (op : BinOp) (e : ExprTree) → AreKnown C.meaning (target_sights target ++ reads Value e) → IsLoud (updates_one C k span target op e)
     loud_one_update k all span target op e u =
@@ -445,11 +447,10 @@ module _ (C : Context) where
     quiet_annotated : (k : Known) → AllTyped k.types → (span : Span) (x : Option (List ℕ)) (target mark : ExprTree) (e : Option ExprTree) → name_in target ≡ x → AreKnown C.meaning (target_sights target ++ (reads Annotation mark ++ maybe_reads Value e)) → (annotates C k span x target mark e).said ≡ [] → AllTyped (binds_annotated C k span x target mark e).types
     quiet_annotated k all span None target mark e n u h = by (own_attribute C.inside target) refl h
       where
-        by : (o : Option (ExprTree × List ℕ)) → own_attribute C.inside target ≡ o → (annotates_at C k span o target mark e).said ≡ [] → AllTyped (bind_target C false k target None).types
+        by : (o : Option (ExprTree × List ℕ)) → own_attribute C.inside target ≡ o → (annotates_at C k span o target mark e).said ≡ [] → AllTyped (bind_target C false k target (other_sort C k target e)).types
         by None q g = absurd ((loud_other k all span target mark e u).says (other_never k span target mark e) g)
         by (Some p) q g =
-            let s = own_single C.inside target p q in
-            subst (λ (l : Known). AllTyped l.types) (sym (single_bound C false k target None s.0 ∙ ap (λ o. bind_name C false k o None) s.1)) all
+            subst (λ (l : Known). AllTyped l.types) (sym (own_unbound C k target p (other_sort C k target e) q)) all
     quiet_annotated k all span (Some x) target mark e n u h = quiet_name k all span x target mark e n (back (target_sights target) (reads Annotation mark ++ maybe_reads Value e) u) h
 
     kept_name : (k : Known) → AllTyped k.types → (x : Option (List ℕ)) → ((y : List ℕ) → x ≡ Some y → is_open k.types (C.meaning y) ≡ false) → AllTyped (bind_name C false k x None).types
@@ -467,7 +468,7 @@ module _ (C : Context) where
     quiet_update k all span target op e u h = by (is_row target) refl h
       where
         by : (b : Bool) → is_row target ≡ b → (if b then updates_row C k span target e else updates_single C k span (lacking_in C target) target op e).said ≡ [] → AllTyped (bind_target C false k target None).types
-        by true q f = absurd ((loud_row_update k all span target e u).says (no_part (both (target_aims C k target) (typed_at C k free e)).got span no_target) f)
+        by true q f = absurd ((loud_row_update k all span target e u).says (row_none C.classes span (both (aims_behind C k target None) (typed_at C k free e)).got) f)
         by false q f = quiet_one k all span target op e q u (ap (λ o. (updates_single C k span o target op e).said) (sym (none_lacks target)) ∙ f)
 
     quiet_head : (k : Known) → AllTyped k.types → (s : StmtTree) (span : Span) (target e : ExprTree) → AreKnown C.meaning (target_sights target) → AreKnown C.meaning (reads Value e) → (for_head C k s span target e).said ≡ [] → AllTyped (in_for C k s span target e).types

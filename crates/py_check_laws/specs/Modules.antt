@@ -8,6 +8,7 @@ use Rattle.py_typed.specs.Statements.{TypedFunc, TypedModule}
 use Rattle.py_typed.specs.WellTyped.{suite_typed, all_differ}
 use Rattle.py_typed.specs.WellTypedModule.{names_of, is_well_typed}
 use Rattle.py_typed.specs.WellTypedExpr.{init_class}
+use Rattle.class_layout.specs.Laws.{HaveLayout}
 use Rattle.py_check_context.specs.Context.{VarSort, has, var_at}
 use Rattle.py_check_names.specs.Meanings.{variables, own_names}
 use Rattle.py_check_signatures.specs.Headers.{signature_of}
@@ -109,3 +110,7 @@ are_names_written is_identifier m =
 -- where nothing is said of a module that a text can write, its typed tree is a well typed module
 abbrev pub QuietModuleIsWellTyped : Type 0
 QuietModuleIsWellTyped = (is_identifier : List ℕ → Bool) (m : Suite) → diagnostics m ≡ [] → is_module_written m ≡ true → are_names_written is_identifier m ≡ true → is_well_typed is_identifier (typed m) ≡ true
+
+-- and its classes have a layout: each has an order, and along it all definitions of a member agree
+abbrev pub QuietModuleHasLayout : Type 0
+QuietModuleHasLayout = (is_identifier : List ℕ → Bool) (m : Suite) → diagnostics m ≡ [] → is_module_written m ≡ true → are_names_written is_identifier m ≡ true → HaveLayout (typed m).classes

@@ -1,6 +1,6 @@
 //! The laws. The calls do nothing.
 ghost use Rattle.py_check_laws.specs.Entries.{StatementOwnOrOfParts};
-ghost use Rattle.py_check_laws.specs.Modules.{QuietModuleIsTyped, QuietModuleIsWellTyped, QuietModuleNamesDiffer, QuietModuleStands, QuietModuleTypesVariables};
+ghost use Rattle.py_check_laws.specs.Modules.{QuietModuleHasLayout, QuietModuleIsTyped, QuietModuleIsWellTyped, QuietModuleNamesDiffer, QuietModuleStands, QuietModuleTypesVariables};
 ghost use Rattle.py_check_laws.specs.Narrowing.{ForBodyKnowsNoMore, TestKnowsNoMore, TypedBlockKnowsNoMore, WhileBodyKnowsNoMore};
 ghost use Rattle.py_check_laws.specs.Statements.{QuietBlockIsTyped, TypedBlockIsWellTyped};
 ghost use Rattle.py_check_laws.specs.Variables.{AnnotationsGiveTypes, BindingsGiveTypes, BodiesFixNothing, FirstAssignmentsGiveTypes, ModuleFixesTypes, OnlyBindingsGiveTypes, TypesStay};
@@ -103,4 +103,9 @@ pub fn names_of_a_quiet_module_differ()
 /// The typed tree of a module of which nothing is said is a well typed module.
 pub fn a_quiet_module_is_well_typed()
     ensures { QuietModuleIsWellTyped }
+{}
+
+/// The classes of a module of which nothing is said have a layout: `layout` of `class_layout` fails for want of memory alone.
+pub fn classes_of_a_quiet_module_have_a_layout()
+    ensures { QuietModuleHasLayout }
 {}
