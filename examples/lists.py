@@ -18,8 +18,8 @@ def first_above(numbers: List[int], bound: Optional[int]) -> Optional[int]:
 
 def words_of(text: str) -> List[str]:
     found: List[str] = []
-    word = ""
     i = 0
+    word = ""
     while i < len(text):
         if text[i] == " " or text[i] == "\t":
             if word != "":
