@@ -154,7 +154,7 @@ module _ (tests : Tests) where
     act_events_pass : (span : Span) (node : StmtNode) → ActPasses tests node → EventsPass (act_events self others span node)
     act_events_pass span (s.Assign target a) h = assignment_passes (attribute_in self others target) target a (attribute_passes target h.0) h.0
     act_events_pass span (s.Annot target mark a) h = event_passes (attribute_in self others target) (annotates mark) span (attribute_passes target h.0)
-    act_events_pass span (s.Aug target op a) h = set_passes target h.0
+    act_events_pass span (s.Aug target op a) h = targets_pass target h.0
     act_events_pass span _ h = tt
 
     stmt_events_pass : (x : StmtTree) → StmtPasses tests x → EventsPass (stmt_events self others x)
