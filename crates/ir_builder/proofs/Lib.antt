@@ -1,3 +1,4 @@
+pub mod ClosedLemmas
 pub mod RegisterLemmas
 pub mod FillLemmas
 pub mod BodyLemmas

@@ -1,5 +1,4 @@
 pub mod Settings
-pub mod Watching
 pub mod Placing
 pub mod Calling
 pub mod Coming

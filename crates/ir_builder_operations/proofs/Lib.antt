@@ -1,3 +1,4 @@
+pub mod RangeLemmas
 pub mod TextLemmas
 pub mod KindLemmas
 pub mod PartLemmas

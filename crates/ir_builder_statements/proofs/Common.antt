@@ -5,7 +5,7 @@ pub use Rattle.ir_builder_expressions.specs.Emitting.{Emits, EmitsAll, EmitsTwo,
 pub use Rattle.ir_builder_expressions.specs.Parts.{is_scalar}
 pub use Rattle.ir_builder_expressions.specs.Suiting.{ArgumentsSuit, SomeSuit, Suits}
 pub use Rattle.ir_builder_expressions.specs.declared.applying.Binary.{Binary}
-pub use Rattle.ir_builder_frames.proofs.GlobalLemmas.{write_fits}
+pub use Rattle.ir_builder_frames.proofs.GlobalLemmas.{set_gives, write_fits}
 pub use Rattle.ir_builder_frames.proofs.HeldLemmas.{either_way, extends_refl, extends_trans, get_below, ok_map, on_ok_map, type_kept}
 pub use Rattle.ir_builder_frames.proofs.MatchLemmas.{computes_of, made_computes, room_on}
 pub use Rattle.ir_builder_frames.proofs.PatchLemmas.{patches, with_last_length}

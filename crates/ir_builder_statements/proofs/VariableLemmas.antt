@@ -11,6 +11,9 @@ use Rattle.ir_builder_expressions.specs.Reading.{setting_in}
 pub type_by : (b : Building) (r : ℕ) (t u : Sort) → t ≡ u → HasType b r (rtype_of t) → HasType b r (rtype_of u)
 type_by b r t u e h = let P : Sort → Type 0 = λ z. HasType b r (rtype_of z) in subst P e h
 
+sets_by : (x : Setting) (target : TypedTarget) (r : ℕ) (t u : Sort) (b c : Building) → t ≡ u → Sets x target t r b c → Sets x target u r b c
+sets_by x target r t u b c e h = let P : Sort → Type 0 = λ z. Sets x target z r b c in subst P e h
+
 -- ---- a variable of the function is set
 
 pub parameter_sets : {line : ℕ} (frame : Frame) (k : ℕ) (r : Reg) (b c : Building) → k < frame.locals.params → Pushes b c (Move record { 0 = k } r) line → SetsLocal frame k r.0 b c
@@ -89,7 +92,7 @@ module _ (m : TypedModule) (frame : Frame) (t : Target) (r : Reg) (b c : Buildin
   local_set k is q =
       let P : Target → Type 0 = λ z. SetsVariable m frame (typed_target z) r.0 b c in
       subst P (sym is)
-      (λ vs u room v type. q (setting_in m vs frame) v.0 refl room v.1 (type_by b r.0 u v.0.1 (sym v.2) type))
+      (λ vs u room v type. sets_by (setting_in m vs frame) (LocalTarget k) r.0 v.0.1 u b c v.2 (q (setting_in m vs frame) v.0 refl room v.1 (type_by b r.0 u v.0.1 (sym v.2) type)))
 
   pub global_takes : (i : ℕ) → t ≡ declared.Global i → TakesRegister m frame (typed_target t) r.0 b → TakesGlobal m i r.0 b
   global_takes i is h =
@@ -102,4 +105,4 @@ module _ (m : TypedModule) (frame : Frame) (t : Target) (r : Reg) (b c : Buildin
   global_put i is q =
       let P : Target → Type 0 = λ z. SetsVariable m frame (typed_target z) r.0 b c in
       subst P (sym is)
-      (λ vs u room v type. q (setting_in m vs frame) v.0 refl v.1 (type_by b r.0 u v.0.1 (sym v.2) type))
+      (λ vs u room v type. sets_by (setting_in m vs frame) (GlobalTarget i) r.0 v.0.1 u b c v.2 (q (setting_in m vs frame) v.0 refl v.1 (type_by b r.0 u v.0.1 (sym v.2) type)))

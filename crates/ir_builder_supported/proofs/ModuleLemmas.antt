@@ -88,6 +88,7 @@ module _ (m : TypedModule) where
     pub name : is_identifier f.name ≡ true
     pub variables : variables_typed is_identifier m f.locals ≡ true
     pub signature : signature_fits (slice_get m.classes.signatures n) f ≡ true
+    pub ends : ends_well f ≡ true
     pub body : suite_typed m f.locals (init_class f) (Some f.ret) [] false false f.body ≡ true
 
   parts : (n : ℕ) (f : TypedFunc) → func_typed is_identifier m n f ≡ true → Parts n f
@@ -99,6 +100,7 @@ module _ (m : TypedModule) where
         name = and_left _ _ (and_left _ _ (and_left _ _ (and_left _ _ five)));
         variables = and_right _ _ five;
         signature = and_right _ _ eight;
+        ends = and_right _ _ twelve;
         body = and_right _ _ h;
       }
 
@@ -131,9 +133,12 @@ module _ (m : TypedModule) where
         record {
           name = p.name;
           parameters = leb-true f.params (length f.locals) (and_left (nat_le f.params (length f.locals)) (are_scalars f.locals && is_result f.ret) row);
+          scalars = scalars;
           identifiers = and_left _ _ (and_left _ _ p.variables);
           differ = sym (one_test (names_of f.locals)) ∙ and_right _ _ (and_left _ _ p.variables);
+          result = and_right (are_scalars f.locals) (is_result f.ret) types;
           body = suite_suits m f.locals (init_class f) scalars (all_signed f.locals (init_class f)) (Some f.ret) [] false false f.body p.body form.1;
+          ends = or_cases (is_nothing f.ret) (is_closed f.body) p.ends;
         }
 
     module_suits : suite_forms [] m.globals m.top ≡ [] → ModuleSuits m
@@ -145,7 +150,6 @@ module _ (m : TypedModule) where
         let functions = flat_map (own_name is_identifier m) m.funcs in
         let classes = map (λ (c : ClassEntry). c.name) m.classes.classes in
         record {
-          well_typed = typed;
           functions = function_suits;
           differ =
               sym (one_test (map (λ (f : TypedFunc). f.name) m.funcs))
