@@ -8,7 +8,7 @@
 -- The typed tree has every function, class and variable at its number. Where something is wrong there is no answer with a tree, and
 -- what has no type stands in it as what says nothing: a body without statements, a signature without parameters, a class without
 -- members, a variable that is None.
-use Rattle.std.specs.Prelude.{ℕ, ◌+◌, List, [], ◌∷◌, ◌++◌, map, length, Option, Some, None, unwrap_or, slice_get}
+use Rattle.std.specs.Prelude.{ℕ, ◌+◌, false, List, [], ◌∷◌, ◌++◌, map, length, Option, Some, None, unwrap_or, slice_get}
 use Rattle.std.specs.List.{flat_map}
 use Rattle.std.specs.Option.{option_and_then}
 use Rattle.py_syntax.specs.declared.token.Span.{Span}
@@ -62,6 +62,7 @@ plain_signature s = unwrap_or s (record { params = []; ret = sort.Nothing })
 abbrev pub class_of : Owner → Option ℕ
 class_of owner.Module = None
 class_of (owner.Class c) = c
+class_of owner.UntypedTrait = None
 
 -- a function, the types of its own variables behind its body, and its statements, if they are typed
 abbrev pub function_by : Headed → List VarSort → Option (List TypedStmt) → TypedFunc
@@ -146,10 +147,15 @@ method_inside w f class = record {
   next_init = option_and_then w.next_init class;
 }
 
+-- a trait without a type has no `__init__`: what is named so is a method like others
+abbrev pub trait_inside : Headed → Inside
+trait_inside f = record { class = None; first = first_name f.tree.params; is_init = false; declaring = λ name. None; next_init = None }
+
 -- the method that a function is
 abbrev pub inside_by : MembersKnown → Headed → Owner → Option Inside
 inside_by w f owner.Module = None
 inside_by w f (owner.Class c) = Some (method_inside w f c)
+inside_by w f owner.UntypedTrait = Some (trait_inside f)
 
 abbrev pub function_context : ModuleContext → Headed → Context
 function_context e f = context_at e (inside_by e.members f f.header.owner) f.inside

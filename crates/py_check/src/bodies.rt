@@ -67,14 +67,23 @@ fn typed_function(
     ensures known { IfOk result (λ t. (known_at place.new).types.globals ≡ (spec.body_after (spec.function_context (views.module_context_of module_context.now) (headed_of f.now)) module_context.now.known.now.variables.keys (known_at place.old).types.globals (headed_of f.now)).types.globals) }
 {
     let names = names_in(alloc, module_context.known, f.inside)?;
+    let first = first_name(f.tree.params.as_slice());
+    // A trait without a type has no `__init__`: what is named so is a method like others.
     let inside = match f.header.owner {
         Owner::Module => None,
         Owner::Class(class) => Some(py_check_context::Inside {
             class,
-            first: first_name(f.tree.params.as_slice()),
+            first,
             is_init: is_init(f.header.owner, &f.tree.name),
             declaring: declaring_of(module_context, class),
             next_init: next_init_of(module_context.members, class),
+        }),
+        Owner::UntypedTrait => Some(py_check_context::Inside {
+            class: None,
+            first,
+            is_init: false,
+            declaring: module_context.nothing,
+            next_init: None,
         }),
     };
     let scope = Context {
@@ -202,7 +211,7 @@ fn class_of(owner: Owner) -> Option<usize>
     ensures { result ≡ spec.class_of owner }
 {
     match owner {
-        Owner::Module => None,
+        Owner::Module | Owner::UntypedTrait => None,
         Owner::Class(class) => class,
     }
 }

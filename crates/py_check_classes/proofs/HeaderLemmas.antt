@@ -14,13 +14,13 @@ use Rattle.py_typed.specs.Order.{order, listed_order}
 use Rattle.py_typed.proofs.FitLemmas.{and_left, and_right}
 use Rattle.py_check_context.specs.declared.scope.Meaning.{Meaning}
 use Rattle.py_check_classes.specs.declared.header.Header.{Header}
-use Rattle.py_check_classes.specs.declared.header.Header.TheVariants.{Typed, Refused, Silent}
+use Rattle.py_check_classes.specs.declared.header.Header.TheVariants.{Typed, Untyped}
 use Rattle.py_check_classes.specs.declared.header.Shape.{Shape}
 use Rattle.py_check_classes.specs.declared.header.HeaderFault.{HeaderFault}
 use Rattle.py_check_classes.specs.declared.header.HeaderFault.TheVariants.{NoOrder}
 use Rattle.py_check_classes.specs.Names.{is_new, are_decorators}
 use Rattle.py_check_classes.specs.Rows.{those_there, differ}
-use Rattle.py_check_classes.specs.Headers.{has_type, is_a_trait, lacks_type, entry, is_earlier, is_untyped, are_bases, are_traits, bases_fit, body_fits, order_behind, early_fault, order_fault, settled, bases_named, shape, fault, header, headers_behind}
+use Rattle.py_check_classes.specs.Headers.{has_type, is_a_trait, lacks_type, entry, is_earlier, is_untyped, are_bases, are_traits, bases_fit, body_fits, order_behind, early_fault, order_fault, without_type, settled, bases_named, shape, fault, header, headers_behind}
 use Rattle.py_check_classes.specs.Kept.{kept_order, AreKept}
 use Rattle.py_check_classes.specs.Views.{class_parts}
 use Rattle.py_check_classes.specs.Laws.{IsSound, AreSound}
@@ -57,8 +57,7 @@ those_below n (Some b ∷ more) l =
 is_there : (o : Option Header) → is_some o ≡ true → lacks_type o ≡ false → has_type o ≡ true
 is_there None s l = absurd (cc)
 is_there (Some (Typed t)) s l = refl
-is_there (Some (Refused f)) s l = absurd (cc)
-is_there (Some Silent) s l = absurd (cc)
+is_there (Some (Untyped u)) s l = absurd (cc)
 
 some_below : {A : Type 0} (xs : List A) (i : ℕ) → i < length xs → is_some (slice_get xs i) ≡ true
 some_below [] i l = absurd (omega (arith, l))
@@ -161,15 +160,15 @@ module _ (said : List ℕ → Option Meaning) (hs : List Header) (falls : (c : �
       last : (b : Bool) → is_some (order_behind hs (shape said c)) ≡ b → list_any (is_untyped hs) (bases_named said c) ≡ false → early_fault hs (is_new said (length hs) c.name) (are_decorators said c.marks) (bases_named said c) (shape said c) c.body ≡ None
           → IsNext hs (settled (shape said c) (if b then None else Some NoOrder))
       last true q u none = typed_next u none q
-      last false q u none = untyped_next (Refused NoOrder) refl (λ s e. cc)
+      last false q u none = untyped_next (without_type (shape said c).is_trait (Some NoOrder)) refl (λ s e. cc)
 
       then_order : (o : Option HeaderFault) → early_fault hs (is_new said (length hs) c.name) (are_decorators said c.marks) (bases_named said c) (shape said c) c.body ≡ o → list_any (is_untyped hs) (bases_named said c) ≡ false
           → IsNext hs (settled (shape said c) (option_or o (order_fault hs (shape said c))))
       then_order None q u = last (is_some (order_behind hs (shape said c))) refl u q
-      then_order (Some f) q u = untyped_next (Refused f) refl (λ s e. cc)
+      then_order (Some f) q u = untyped_next (without_type (shape said c).is_trait (Some f)) refl (λ s e. cc)
 
-      by : (b : Bool) → list_any (is_untyped hs) (bases_named said c) ≡ b → IsNext hs (if b then Silent else settled (shape said c) (fault said hs c))
-      by true u = untyped_next Silent refl (λ s e. cc)
+      by : (b : Bool) → list_any (is_untyped hs) (bases_named said c) ≡ b → IsNext hs (if b then without_type (shape said c).is_trait None else settled (shape said c) (fault said hs c))
+      by true u = untyped_next (without_type (shape said c).is_trait None) refl (λ s e. cc)
       by false u = then_order (early_fault hs (is_new said (length hs) c.name) (are_decorators said c.marks) (bases_named said c) (shape said c) c.body) refl u
 
 -- what is kept, with one more

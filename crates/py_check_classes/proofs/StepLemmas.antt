@@ -18,13 +18,13 @@ use Rattle.py_check_names.specs.Walked.{trees}
 use Rattle.py_check_names.proofs.OutlineLemmas.{trees_at}
 use Rattle.class_layout.specs.Merging.{are_below, behind}
 use Rattle.py_check_classes.specs.declared.header.Header.{Header}
-use Rattle.py_check_classes.specs.declared.header.Header.TheVariants.{Typed, Refused, Silent}
+use Rattle.py_check_classes.specs.declared.header.Header.TheVariants.{Typed}
 use Rattle.py_check_classes.specs.declared.header.Shape.{Shape}
 use Rattle.py_check_classes.specs.declared.header.HeaderFault.{HeaderFault}
 use Rattle.py_check_classes.specs.declared.header.HeaderFault.TheVariants.{NoOrder}
 use Rattle.py_check_classes.specs.Names.{is_new, are_decorators, is_trait_mark, numbered, class_in, classes_in}
 use Rattle.py_check_classes.specs.Rows.{those_there, differ}
-use Rattle.py_check_classes.specs.Headers.{entry, is_earlier, is_untyped, order_behind, early_fault, order_fault, settled, bases_named, shape, header, headers_behind, headers}
+use Rattle.py_check_classes.specs.Headers.{entry, is_earlier, is_untyped, order_behind, early_fault, order_fault, without_type, settled, bases_named, shape, header, headers_behind, headers}
 use Rattle.py_check_classes.specs.Kept.{kept_order, AreKept, only_one, or_alone, kept_in, rows_above}
 use Rattle.py_check_classes.specs.Views.{class_parts}
 use Rattle.py_check_classes.proofs.OrderLemmas.{base_below, row_on, row_end, order_new, rows_below}
@@ -78,7 +78,7 @@ module _ (hs : List Header) (orders : List (List ℕ)) (k : AreKept (map entry h
 pub ordered_some : (hs : List Header) (s : Shape) (row : List ℕ) → Some row ≡ order_behind hs s → Typed s ≡ settled s (order_fault hs s)
 ordered_some hs s row e = ap (λ o. settled s (if is_some o then None else Some NoOrder)) e
 
-pub ordered_none : (hs : List Header) (s : Shape) → None ≡ order_behind hs s → Refused NoOrder ≡ settled s (order_fault hs s)
+pub ordered_none : (hs : List Header) (s : Shape) → None ≡ order_behind hs s → without_type s.is_trait (Some NoOrder) ≡ settled s (order_fault hs s)
 ordered_none hs s e = ap (λ o. settled s (if is_some o then None else Some NoOrder)) e
 
 -- what is kept of a class without bases that count
@@ -100,8 +100,11 @@ same_shape s t p q =
     first ∙ ap (λ bs. record t { bases = bs }) q
 
 module _ (said : List ℕ → Option Meaning) (hs : List Header) (x : ClassTree) (named : List (Option ℕ)) (are : named ≡ bases_named said x) where
-  pub silent_header : (h : Header) → true ≡ list_any (is_untyped hs) named → h ≡ Silent → h ≡ header said hs x
-  silent_header h t e = e ∙ ap (λ b. if b then Silent else settled (shape said x) (option_or (early_fault hs (is_new said (length hs) x.name) (are_decorators said x.marks) (bases_named said x) (shape said x) x.body) (order_fault hs (shape said x)))) (t ∙ ap (list_any (is_untyped hs)) are)
+  pub silent_header : (h : Header) (kind : Bool) → kind ≡ is_trait_mark said x.marks → true ≡ list_any (is_untyped hs) named → h ≡ without_type kind None → h ≡ header said hs x
+  silent_header h kind k t e =
+      e
+      ∙ ap (λ b. without_type b None) k
+      ∙ ap (λ b. if b then without_type (is_trait_mark said x.marks) None else settled (shape said x) (option_or (early_fault hs (is_new said (length hs) x.name) (are_decorators said x.marks) (bases_named said x) (shape said x) x.body) (order_fault hs (shape said x)))) (t ∙ ap (list_any (is_untyped hs)) are)
 
   module _ (s : Shape) (kind : s.is_trait ≡ is_trait_mark said x.marks) (bases : s.bases ≡ those_there named) (typed : false ≡ list_any (is_untyped hs) named) where
     is_shape : s ≡ shape said x
@@ -112,7 +115,7 @@ module _ (said : List ℕ → Option Meaning) (hs : List Header) (x : ClassTree)
         e
         ∙ ap (λ z. settled s (option_or z (order_fault hs s))) (f ∙ ap (λ a. early_fault hs a marked named s x.body) p ∙ ap (λ a. early_fault hs (is_new said (length hs) x.name) a named s x.body) q ∙ ap (λ a. early_fault hs (is_new said (length hs) x.name) (are_decorators said x.marks) a s x.body) are)
         ∙ ap (λ z. settled z (option_or (early_fault hs (is_new said (length hs) x.name) (are_decorators said x.marks) (bases_named said x) z x.body) (order_fault hs z))) is_shape
-        ∙ ap (λ b. if b then Silent else settled (shape said x) (option_or (early_fault hs (is_new said (length hs) x.name) (are_decorators said x.marks) (bases_named said x) (shape said x) x.body) (order_fault hs (shape said x)))) (typed ∙ ap (list_any (is_untyped hs)) are)
+        ∙ ap (λ b. if b then without_type (is_trait_mark said x.marks) None else settled (shape said x) (option_or (early_fault hs (is_new said (length hs) x.name) (are_decorators said x.marks) (bases_named said x) (shape said x) x.body) (order_fault hs (shape said x)))) (typed ∙ ap (list_any (is_untyped hs)) are)
 
 -- ---- one class more
 

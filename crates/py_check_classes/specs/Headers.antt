@@ -25,7 +25,7 @@ use Rattle.py_check_messages.specs.Seen.{Message, diag}
 use Rattle.py_check_messages.specs.Messages as message
 use Rattle.py_check_names.specs.Outline.{suite_definitions}
 use Rattle.py_check_classes.specs.declared.header.Header.{Header}
-use Rattle.py_check_classes.specs.declared.header.Header.TheVariants.{Typed, Refused, Silent}
+use Rattle.py_check_classes.specs.declared.header.Header.TheVariants.{Typed, Untyped}
 use Rattle.py_check_classes.specs.declared.header.Shape.{Shape}
 use Rattle.py_check_classes.specs.declared.header.HeaderFault.{HeaderFault}
 use Rattle.py_check_classes.specs.declared.header.HeaderFault.TheVariants.{AlreadyDefined, OutsideProfile, InvalidBase, InvalidBases, NoOrder}
@@ -47,8 +47,11 @@ is_a_trait _ = false
 abbrev pub lacks_type : Option Header → Bool
 lacks_type None = false
 lacks_type (Some (Typed s)) = false
-lacks_type (Some (Refused f)) = true
-lacks_type (Some Silent) = true
+lacks_type (Some (Untyped u)) = true
+
+abbrev pub is_untyped_trait : Option Header → Bool
+is_untyped_trait (Some (Untyped u)) = u.is_trait
+is_untyped_trait _ = false
 
 -- a class as the definition of orders sees it, which asks for bases alone
 abbrev pub bare : Bool → List ℕ → ClassEntry
@@ -56,8 +59,7 @@ bare trait bases = record { name = []; is_trait = trait; bases = bases; attribut
 
 abbrev pub entry : Header → ClassEntry
 entry (Typed s) = bare s.is_trait s.bases
-entry (Refused f) = bare false []
-entry Silent = bare false []
+entry (Untyped u) = bare false []
 
 -- ---- bases
 
@@ -107,9 +109,13 @@ module _ (before : List Header) where
 
 -- ---- the header of a class
 
+-- without a type, marked `trait` or not, for this fault, or for want of a base with a type
+abbrev pub without_type : Bool → Option HeaderFault → Header
+without_type trait fault = Untyped (record { is_trait = trait; fault = fault })
+
 abbrev pub settled : Shape → Option HeaderFault → Header
 settled s None = Typed s
-settled s (Some f) = Refused f
+settled s (Some f) = without_type s.is_trait (Some f)
 
 -- where definitions and imports say this of names
 module _ (said : List ℕ → Option Meaning) where
@@ -130,7 +136,7 @@ module _ (said : List ℕ → Option Meaning) where
 
     -- THE HEADER of a class
     abbrev pub header : ClassTree → Header
-    header c = if list_any (is_untyped before) (bases_named c) then Silent else settled (shape c) (fault c)
+    header c = if list_any (is_untyped before) (bases_named c) then without_type (shape c).is_trait None else settled (shape c) (fault c)
 
   -- the headers of classes in a row, each behind those before it
   abbrev pub headers_behind : List Header → List ClassTree → List Header
@@ -153,11 +159,14 @@ fault_message name InvalidBase = message.invalid_base
 fault_message name InvalidBases = message.invalid_bases name
 fault_message name NoOrder = message.no_order name
 
+abbrev pub fault_said : Span → List ℕ → Option HeaderFault → List Diag
+fault_said span name None = []
+fault_said span name (Some f) = diag span (fault_message name f) ∷ []
+
 -- what is said of a class, where its decorators and its bases are typed
 abbrev pub header_said : Span → List ℕ → Header → List Diag
 header_said span name (Typed s) = []
-header_said span name (Refused f) = diag span (fault_message name f) ∷ []
-header_said span name Silent = []
+header_said span name (Untyped u) = fault_said span name u.fault
 
 -- a class is known by its number where it has a type
 abbrev pub typed_meaning : List Header → Meaning → Meaning

@@ -67,8 +67,7 @@ fn lacks_type(header: Option<&Header>) -> bool
     match header {
         None => false,
         Some(Header::Typed(_)) => false,
-        Some(Header::Refused(_)) => true,
-        Some(Header::Silent) => true,
+        Some(Header::Untyped(_)) => true,
     }
 }
 
@@ -169,8 +168,7 @@ fn is_a_trait(header: Option<&Header>) -> bool
     match header {
         None => false,
         Some(Header::Typed(shape)) => shape.is_trait,
-        Some(Header::Refused(_)) => false,
-        Some(Header::Silent) => false,
+        Some(Header::Untyped(_)) => false,
     }
 }
 

@@ -6,10 +6,8 @@ use value_core::Many;
 pub enum Header {
     /// The class has a type.
     Typed(Shape),
-    /// It has none, for this fault.
-    Refused(HeaderFault),
-    /// It has none, since a base has none, and nothing is said of it.
-    Silent,
+    /// It has none.
+    Untyped(Untyped),
 }
 
 /// Of what kind a class is, and its bases by their numbers.
@@ -17,6 +15,15 @@ pub enum Header {
 pub struct Shape {
     pub is_trait: bool,
     pub bases: Many<usize>,
+}
+
+/// A class without a type.
+#[derive(Clone, Copy)]
+pub struct Untyped {
+    /// It is marked `trait`.
+    pub is_trait: bool,
+    /// What is wrong with its header. There is nothing where a base has no type, and then nothing is said of it.
+    pub fault: Option<HeaderFault>,
 }
 
 /// What is wrong with the header of a class.

@@ -11,7 +11,7 @@ ghost use Rattle.py_check_classes.specs.Kept as kept;
 ghost use Rattle.py_check_classes.specs.Views as views;
 
 use crate::conditions::{early_fault, has_untyped, those_there};
-use crate::header::{Header, HeaderFault, Shape};
+use crate::header::{Header, HeaderFault, Shape, Untyped};
 use crate::names::{are_decorators, classes_named, is_new, is_trait_mark, numbered_names};
 use crate::orders::order_of;
 use indexmap::IndexMap;
@@ -129,18 +129,18 @@ fn header_of(
     let body = c.body.as_slice();
     let numbers = classes_named(alloc, said, bases)?;
     let named = numbers.as_slice();
+    let is_trait = is_trait_mark(said, marks);
     let untyped = has_untyped(headers, named);
     if untyped {
-        return Ok(without_order(alloc, Header::Silent));
+        return Ok(without_type(alloc, is_trait, None));
     }
-    let is_trait = is_trait_mark(said, marks);
     let bases = those_there(alloc, named)?;
     let shape = Shape { is_trait, bases };
     let new = is_new(said, headers.len(), &c.name);
     let marked = are_decorators(said, marks);
     let early = early_fault(alloc, headers, new, marked, named, &shape, body)?;
     match early {
-        Some(fault) => Ok(without_order(alloc, Header::Refused(fault))),
+        Some(fault) => Ok(without_type(alloc, is_trait, Some(fault))),
         None => ordered(alloc, headers, orders, shape),
     }
 }
@@ -157,6 +157,7 @@ fn ordered(
     ensures header { IfOk result (λ found. found.header ≡ spec.settled shape (spec.order_fault headers.now shape)) }
     ensures order { IfOk result (λ found. found.order ≡ kept.kept_order (map spec.entry headers.now ++ spec.entry found.header ∷ []) (length headers.now)) }
 {
+    let is_trait = shape.is_trait;
     let count = shape.bases.len();
     if count < 2 {
         return Ok(without_order(alloc, Header::Typed(shape)));
@@ -167,8 +168,15 @@ fn ordered(
             header: Header::Typed(shape),
             order,
         }),
-        None => Ok(without_order(alloc, Header::Refused(HeaderFault::NoOrder))),
+        None => Ok(without_type(alloc, is_trait, Some(HeaderFault::NoOrder))),
     }
+}
+
+fn without_type(alloc: Global, is_trait: bool, fault: Option<HeaderFault>) -> Found
+    ensures header { result.header ≡ spec.without_type is_trait fault }
+    ensures order { result.order ≡ [] }
+{
+    without_order(alloc, Header::Untyped(Untyped { is_trait, fault }))
 }
 
 fn without_order(alloc: Global, header: Header) -> Found

@@ -15,9 +15,9 @@ mod names;
 mod orders;
 mod say;
 
-pub use header::{Header, HeaderFault, Shape};
+pub use header::{Header, HeaderFault, Shape, Untyped};
 pub use headers::{ModuleClasses, module_classes};
 pub use laws::{headers_are_sound, orders_hang_on_bases};
 pub use names::with_number;
 pub use orders::order_row;
-pub use say::{add_header_said, has_type, typed_meaning};
+pub use say::{add_header_said, has_type, is_untyped_trait, typed_meaning};

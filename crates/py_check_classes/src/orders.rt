@@ -111,8 +111,7 @@ fn bases_at(headers: &[Header], class: usize) -> &[usize]
 {
     match headers.get(class) {
         Some(Header::Typed(shape)) => shape.bases.as_slice(),
-        Some(Header::Refused(_)) => &[],
-        Some(Header::Silent) => &[],
+        Some(Header::Untyped(_)) => &[],
         None => &[],
     }
 }

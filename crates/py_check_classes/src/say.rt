@@ -24,8 +24,10 @@ pub fn add_header_said(
 {
     match header {
         Header::Typed(_) => Ok(()),
-        Header::Refused(fault) => add_fault(alloc, span, name, *fault, faults),
-        Header::Silent => Ok(()),
+        Header::Untyped(class) => match class.fault {
+            Some(fault) => add_fault(alloc, span, name, fault, faults),
+            None => Ok(()),
+        },
     }
 }
 
@@ -70,7 +72,17 @@ pub fn has_type(header: Option<&Header>) -> bool
     match header {
         None => false,
         Some(Header::Typed(_)) => true,
-        Some(Header::Refused(_)) => false,
-        Some(Header::Silent) => false,
+        Some(Header::Untyped(_)) => false,
+    }
+}
+
+/// Whether a class of this header is marked `trait` and has no type.
+pub fn is_untyped_trait(header: Option<&Header>) -> bool
+    ensures { result ≡ spec.is_untyped_trait (option_copied header.entry) }
+{
+    match header {
+        None => false,
+        Some(Header::Typed(_)) => false,
+        Some(Header::Untyped(class)) => class.is_trait,
     }
 }

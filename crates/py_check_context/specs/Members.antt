@@ -12,6 +12,8 @@ use Rattle.py_check_context.specs.declared.members.Member.TheVariants as case
 use Rattle.py_check_context.specs.declared.members.Above.{Above}
 use Rattle.py_check_context.specs.declared.members.Above.TheVariants.{Nothing, Base, Row}
 use Rattle.py_check_context.specs.declared.members.ClassMembers.{ClassMembers}
+use Rattle.py_check_context.specs.declared.members.Asked.{Asked}
+use Rattle.py_check_context.specs.declared.members.Asked.TheVariants.{Declared, Any}
 use Rattle.py_check_context.specs.declared.members.Inside as declared_inside
 
 -- a member of a class: an attribute of a type, one that is declared without a type, one that `__init__` sets and nothing declares,
@@ -55,12 +57,25 @@ module _ {A : Type 0} (own : ClassMembers → Option A) (classes : List ClassMem
 abbrev pub own_member : List ℕ → ClassMembers → Option Member
 own_member name c = option_map member (get bytes_eq c.own name)
 
+-- an attribute that nothing declares is no definition of its name
+abbrev pub declared_of : Member → Option Member
+declared_of (unknown place) = None
+declared_of m = Some m
+
+abbrev pub own_asked : Asked → List ℕ → ClassMembers → Option Member
+own_asked Declared name c = option_and_then declared_of (own_member name c)
+own_asked Any name c = own_member name c
+
 abbrev pub own_init : ClassMembers → Option ℕ
 own_init c = c.init
 
--- THE MEMBER of a class: the number of a base is below that of its class, so no more levels stand above it
+-- the number of a base is below that of its class, so no more levels stand above it
+abbrev pub first_in : List ClassMembers → ℕ → Asked → List ℕ → Option Member
+first_in classes c asked name = along (own_asked asked name) classes c c
+
+-- THE MEMBER of a class: the first that is declared, and where none is the first attribute that nothing declares
 abbrev pub member_in : List ClassMembers → ℕ → List ℕ → Option Member
-member_in classes c name = along (own_member name) classes c c
+member_in classes c name = option_or (first_in classes c Declared name) (first_in classes c Any name)
 
 -- THE `__init__` of a class: the function of the first method of that name
 abbrev pub init_in : List ClassMembers → ℕ → Option ℕ
@@ -72,9 +87,9 @@ init_behind classes c = behind own_init classes (init_in classes) (above_of (sli
 
 -- ---- methods
 
--- a method, by its class, where that has a type; its first parameter, where it has one; and whether it is an `__init__`, with the
--- place of each statement in it that declares an attribute by an annotation, and the function of the next `__init__` behind its
--- class along the order of that, if there is one
+-- a method, by its class, where that has a type; its first parameter, where it has one; and whether it is the `__init__` of a class
+-- that is no trait, with the place of each statement in it that declares an attribute by an annotation, and the function of the next
+-- `__init__` behind its class along the order of that, if there is one
 pub record Inside : Type 0 where
   pub class : Option ℕ
   pub first : Option (List ℕ)

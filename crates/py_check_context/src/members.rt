@@ -48,7 +48,7 @@ pub struct Inside<'a> {
     pub class: Option<usize>,
     /// The name of its first parameter, where it has one.
     pub first: Option<&'a Name>,
-    /// It is an `__init__`.
+    /// It is the `__init__` of a class that is no trait.
     pub is_init: bool,
     /// Of each attribute that it declares by an annotation the place of that statement.
     pub declaring: &'a IndexMap<Name, Span>,
@@ -56,40 +56,93 @@ pub struct Inside<'a> {
     pub next_init: Option<usize>,
 }
 
-/// What the class of a number has under a name: its own member, or else the first above it.
+/// What of a class's own members is asked for.
+#[derive(Clone, Copy)]
+pub(crate) enum Asked {
+    /// One that is declared.
+    Declared,
+    /// Any, also an attribute that nothing declares.
+    Any,
+}
+
+/// What the class of a number has under a name: the first member along its order that is declared, or else the first attribute there
+/// that nothing declares.
 pub fn member_in<'a>(classes: &'a [ClassMembers], c: usize, name: &Name) -> Option<&'a Member>
     ensures { option_map spec.member (option_copied result) ≡ spec.member_in classes.now c name.now }
+{
+    match first_in(classes, c, Asked::Declared, name) {
+        Some(member) => Some(member),
+        None => first_in(classes, c, Asked::Any, name),
+    }
+}
+
+/// What is asked for in the class of a number, or else in the first above it that has it.
+fn first_in<'a>(
+    classes: &'a [ClassMembers],
+    c: usize,
+    asked: Asked,
+    name: &Name,
+) -> Option<&'a Member>
+    ensures { option_map spec.member (option_copied result) ≡ spec.first_in classes.now c asked name.now }
 {
     let mut at = c;
     for level in 0..c {
         let class = classes.get(at)?;
-        if let Some(member) = class.own.get(name) {
+        if let Some(member) = own_asked(class, asked, name) {
             return Some(member);
         }
         match &class.above {
             Above::Nothing => return None,
             Above::Base(base) => at = *base,
-            Above::Row(row) => return member_in_row(classes, row.as_slice(), name),
+            Above::Row(row) => return first_in_row(classes, row.as_slice(), asked, name),
         }
     }
-    own_member(classes, at, name)
+    asked_at(classes, at, asked, name)
 }
 
-fn member_in_row<'a>(classes: &'a [ClassMembers], row: &[usize], name: &Name) -> Option<&'a Member>
-    ensures { option_map spec.member (option_copied result) ≡ first_there (spec.own_of (spec.own_member name.now) classes.now) row.now }
+fn first_in_row<'a>(
+    classes: &'a [ClassMembers],
+    row: &[usize],
+    asked: Asked,
+    name: &Name,
+) -> Option<&'a Member>
+    ensures { option_map spec.member (option_copied result) ≡ first_there (spec.own_of (spec.own_asked asked name.now) classes.now) row.now }
 {
     for c in row {
-        if let Some(member) = own_member(classes, *c, name) {
+        if let Some(member) = asked_at(classes, *c, asked, name) {
             return Some(member);
         }
     }
     None
 }
 
-fn own_member<'a>(classes: &'a [ClassMembers], c: usize, name: &Name) -> Option<&'a Member>
-    ensures { option_map spec.member (option_copied result) ≡ spec.own_of (spec.own_member name.now) classes.now c }
+fn asked_at<'a>(
+    classes: &'a [ClassMembers],
+    c: usize,
+    asked: Asked,
+    name: &Name,
+) -> Option<&'a Member>
+    ensures { option_map spec.member (option_copied result) ≡ spec.own_of (spec.own_asked asked name.now) classes.now c }
 {
-    classes.get(c)?.own.get(name)
+    own_asked(classes.get(c)?, asked, name)
+}
+
+fn own_asked<'a>(class: &'a ClassMembers, asked: Asked, name: &Name) -> Option<&'a Member>
+    ensures { option_map spec.member (option_copied result) ≡ spec.own_asked asked name.now class.now }
+{
+    match asked {
+        Asked::Declared => declared_of(class.own.get(name)?),
+        Asked::Any => class.own.get(name),
+    }
+}
+
+fn declared_of(member: &Member) -> Option<&Member>
+    ensures { option_map spec.member (option_copied result) ≡ spec.declared_of (spec.member member.now) }
+{
+    match member {
+        Member::Unknown(_) => None,
+        _ => Some(member),
+    }
 }
 
 /// The function of the first `__init__` of the class of a number, if it has one.

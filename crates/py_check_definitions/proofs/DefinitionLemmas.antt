@@ -26,7 +26,7 @@ use Rattle.py_check_members.specs.Deeds.{taken_name}
 use Rattle.py_check_members.specs.Bodies.{body_said}
 use Rattle.py_check_places.specs.Places.{Known}
 use Rattle.py_check_definitions.specs.Decorators.{decorators_said}
-use Rattle.py_check_definitions.specs.Owners.{typed_class}
+use Rattle.py_check_definitions.specs.Owners.{class_owner}
 use Rattle.py_check_definitions.specs.Classes.{ModuleClasses, class_header_said}
 use Rattle.py_check_definitions.specs.Definitions.{function_said, with_taken, member_said, members_said, names_given, definition_said, definitions_said}
 use Rattle.py_check_definitions.specs.Views.{insert_taken, member_at, members_along, said_at, said_along, names_behind, classes_behind, scopes_behind}
@@ -170,7 +170,7 @@ module _ (roles : Roles) (classes : ModuleClasses) (c : Context) (k : Known) whe
       ap (λ known. function_said c k span owner.Module (not known && not (is_builtin_name name)) (function_scope roles f) f) (same name)
   one_said a b same n more rest (s.ClassDef name bases body marks) span =
       ap (λ l. decorators_said c k marks ++ decorators_said c k bases ++ l ++ body_said c.meaning body ++ class_header_said classes c k n span (record { name = name; bases = bases; body = body; marks = marks }))
-      (members_say roles c k (owner.Class (typed_class classes.headers n)) [] [] nothing_earlier body more rest)
+      (members_say roles c k (class_owner classes.headers n) [] [] nothing_earlier body more rest)
   one_said a b same n more rest (s.Import name other) span = refl
   one_said a b same n more rest (s.From name names) span = refl
   one_said a b same n more rest (s.Do e) span = refl

@@ -14,7 +14,7 @@ use Rattle.py_check_signatures.specs.declared.headers.Owner.TheVariants as owner
 use Rattle.py_check_classes.specs.declared.header.Header.{Header}
 use Rattle.py_check_classes.specs.Names.{class_in}
 use Rattle.py_check_classes.specs.Headers.{typed_meaning}
-use Rattle.py_check_definitions.specs.Owners.{typed_class, owners_in, owners_from}
+use Rattle.py_check_definitions.specs.Owners.{class_owner, owners_in, owners_from}
 use Rattle.py_check_definitions.specs.Views.{with_typed}
 
 module _ (headers : List Header) where
@@ -31,7 +31,7 @@ module _ (headers : List Header) where
 
   owned : (n : ℕ) (node : StmtNode) (span : Span) → length (owners_in headers n (s.at node span)) ≡ length (held_by (s.at node span))
   owned n (s.Def name params ret body marks) span = refl
-  owned n (s.ClassDef name bases body marks) span = length-map (methods_in body) (λ (f : FuncTree). owner.Class (typed_class headers n))
+  owned n (s.ClassDef name bases body marks) span = length-map (methods_in body) (λ (f : FuncTree). class_owner headers n)
   owned n (s.Import name other) span = refl
   owned n (s.From name names) span = refl
   owned n (s.Do e) span = refl

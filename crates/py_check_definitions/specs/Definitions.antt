@@ -34,7 +34,7 @@ use Rattle.py_check_members.specs.Bodies.{body_said}
 use Rattle.py_check_places.specs.Places.{Known}
 use Rattle.py_check_definitions.specs.Decorators.{decorators_typed, decorators_said}
 use Rattle.py_check_definitions.specs.Names.{module_meaning}
-use Rattle.py_check_definitions.specs.Owners.{typed_class, owners}
+use Rattle.py_check_definitions.specs.Owners.{class_owner, owners}
 use Rattle.py_check_definitions.specs.Classes.{ModuleClasses, class_header_said}
 
 -- a function with its scope, and whose it is and what its annotations give
@@ -84,7 +84,7 @@ module _ (roles : Roles) (c : Context) (k : Known) where
   abbrev pub class_said : ModuleClasses → ℕ → Span → ClassTree → List Diag
   class_said classes n span x =
       decorators_said c k x.marks ++ decorators_said c k x.bases
-      ++ members_said (owner.Class (typed_class classes.headers n)) [] x.body ++ body_said c.meaning x.body
+      ++ members_said (class_owner classes.headers n) [] x.body ++ body_said c.meaning x.body
       ++ class_header_said classes c k n span x
 
 abbrev pub import_said : Bool → Span → List Diag

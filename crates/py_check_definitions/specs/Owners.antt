@@ -3,21 +3,24 @@ use Rattle.std.specs.Prelude.{ℕ, ◌+◌, if◌then◌else◌, List, [], ◌�
 use Rattle.py_syntax.specs.Statements.{StmtTree, at, Def, ClassDef, Suite}
 use Rattle.py_check_names.specs.Outline.{methods_in, suite_definitions}
 use Rattle.py_check_signatures.specs.declared.headers.Owner.{Owner}
-use Rattle.py_check_signatures.specs.declared.headers.Owner.TheVariants.{Module, Class}
+use Rattle.py_check_signatures.specs.declared.headers.Owner.TheVariants.{Module, Class, UntypedTrait}
 use Rattle.py_check_classes.specs.declared.header.Header.{Header}
 use Rattle.py_check_classes.specs.Names.{class_in}
-use Rattle.py_check_classes.specs.Headers.{has_type, module_headers}
+use Rattle.py_check_classes.specs.Headers.{has_type, is_untyped_trait, module_headers}
 
 -- where classes have these headers
 module _ (headers : List Header) where
-  -- the class of a number, where it has a type
-  abbrev pub typed_class : ℕ → Option ℕ
-  typed_class n = if has_type (slice_get headers n) then Some n else None
+  -- whose the methods of the class of a number are
+  abbrev pub untyped_owner : ℕ → Owner
+  untyped_owner n = if is_untyped_trait (slice_get headers n) then UntypedTrait else Class None
+
+  abbrev pub class_owner : ℕ → Owner
+  class_owner n = if has_type (slice_get headers n) then Class (Some n) else untyped_owner n
 
   -- of the functions that a definition holds, behind so many classes
   abbrev pub owners_in : ℕ → StmtTree → List Owner
   owners_in n (at (Def name params ret body marks) span) = Module ∷ []
-  owners_in n (at (ClassDef name bases body marks) span) = map (λ f. Class (typed_class n)) (methods_in body)
+  owners_in n (at (ClassDef name bases body marks) span) = map (λ f. class_owner n) (methods_in body)
   owners_in n _ = []
 
   abbrev pub owners_from : ℕ → List StmtTree → List Owner

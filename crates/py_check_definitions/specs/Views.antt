@@ -36,7 +36,7 @@ use Rattle.py_check_definitions.specs.declared.definitions.ClassTables.{ClassTab
 use Rattle.py_check_definitions.specs.declared.decorators.Asked.{Asked}
 use Rattle.py_check_definitions.specs.declared.decorators.Asked.TheVariants.{Decorator, Base}
 use Rattle.py_check_definitions.specs.Decorators.{is_there, is_base_there, decorators_said}
-use Rattle.py_check_definitions.specs.Owners.{typed_class}
+use Rattle.py_check_definitions.specs.Owners.{class_owner}
 use Rattle.py_check_definitions.specs.Classes.{ModuleClasses, class_header_said}
 use Rattle.py_check_definitions.specs.Starts.{by_mark, or_param, param_sort}
 use Rattle.py_check_definitions.specs.Definitions.{Headed, function_said, attribute_said, import_said, names_given}
@@ -100,7 +100,7 @@ module _ (classes : ModuleClasses) (c : Context) (k : Known) where
   abbrev pub class_along : ℕ → Span → List Scope → ClassTree → List Diag
   class_along n span insides x =
       decorators_said c k x.marks ++ decorators_said c k x.bases
-      ++ members_along c k (owner.Class (typed_class classes.headers n)) [] insides x.body ++ body_said c.meaning x.body
+      ++ members_along c k (class_owner classes.headers n) [] insides x.body ++ body_said c.meaning x.body
       ++ class_header_said classes c k n span x
 
   abbrev pub said_at : List (List ℕ) → ℕ → List Scope → StmtTree → List Diag

@@ -22,7 +22,7 @@ ghost use Rattle.py_check_definitions.specs.Views as views;
 
 use crate::decorators::{Asked, add_parts};
 use crate::members::add_members;
-use crate::owners::typed_class;
+use crate::owners::class_owner;
 use indexmap::IndexSet;
 use py_binder::Scope;
 use py_check_classes::{Header, add_header_said};
@@ -280,7 +280,7 @@ fn add_class_parts(
     let marks = tree.marks.as_slice();
     let bases = tree.bases.as_slice();
     let body = tree.body.as_slice();
-    let owner = Owner::Class(typed_class(classes.headers, number));
+    let owner = class_owner(classes.headers, number);
     let marked = add_parts(alloc, scope, place, Asked::Decorator, marks, faults)?;
     let based = add_parts(alloc, scope, place, Asked::Base, bases, faults)?;
     add_members(alloc, scope, place, owner, body, insides, faults)?;

@@ -6,7 +6,7 @@ ghost use Rattle.py_check_names.specs.Outline.{method_in, methods_in};
 ghost use Rattle.py_check_definitions.specs.Owners as spec;
 
 use crate::definitions::with_class;
-use py_check_classes::{Header, has_type};
+use py_check_classes::{Header, has_type, is_untyped_trait};
 use py_check_signatures::Owner;
 use py_syntax::{Stmt, StmtKind};
 use std::alloc::Global;
@@ -41,7 +41,7 @@ fn add_owners(
     match &s.kind {
         StmtKind::Def(_) => owners.push(Owner::Module),
         StmtKind::Class(c) => {
-            let owner = Owner::Class(typed_class(headers, classes));
+            let owner = class_owner(headers, classes);
             add_methods(c.body.as_slice(), owner, owners)
         }
         _ => Ok(()),
@@ -67,12 +67,15 @@ fn add_method(s: &Stmt, owner: Owner, owners: &mut Many<Owner>) -> Result<(), Me
     }
 }
 
-/// The class of a number, where it has a type.
-pub(crate) fn typed_class(headers: &[Header], class: usize) -> Option<usize>
-    ensures { result ≡ spec.typed_class headers.now class }
+/// Whose the methods of the class of a number are.
+pub(crate) fn class_owner(headers: &[Header], class: usize) -> Owner
+    ensures { result ≡ spec.class_owner headers.now class }
 {
     if has_type(headers.get(class)) {
-        return Some(class);
+        return Owner::Class(Some(class));
     }
-    None
+    if is_untyped_trait(headers.get(class)) {
+        return Owner::UntypedTrait;
+    }
+    Owner::Class(None)
 }

@@ -27,6 +27,7 @@ module _ (is_identifier : List ℕ → Bool) (tree : TypedModule) (e : ModuleCon
   own_is f owner.Module = refl
   own_is f (owner.Class None) = refl
   own_is f (owner.Class (Some c)) = refl
+  own_is f owner.UntypedTrait = refl
 
   owns_are : (ps : List (FuncTree × Owner)) → flat_map (own_name is_identifier tree) (typed_functions e sorts (map (headed roles meanings) ps)) ≡ flat_map owned ps
   owns_are [] = refl

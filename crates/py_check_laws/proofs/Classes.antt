@@ -31,13 +31,13 @@ use Rattle.py_check_classes.specs.Names.{class_in, classes_in, said_of_names}
 use Rattle.py_check_classes.specs.Headers.{has_type, module_headers}
 use Rattle.py_check_members.specs.Deeds.{taken_name}
 use Rattle.py_check_members.specs.Bodies.{body_said}
-use Rattle.py_check_members.specs.Members.{Owns, own_at, own_member, meanings_inside, member_along, init_along, init_behind_along, ClassText, class_texts, order_in}
+use Rattle.py_check_members.specs.Members.{Owns, own_at, own_member, meanings_inside, member_along, init_along, init_behind_along, ClassText, class_texts}
 use Rattle.py_check_overrides.specs.Overrides.{Clash, fails, verdicts}
 use Rattle.py_check_overrides.specs.Own.{own_in}
 use Rattle.py_check_definitions.specs.Classes.{ModuleClasses}
 use Rattle.py_check_definitions.specs.Definitions.{Headed, headed, with_taken, names_given, headed_functions, signatures}
 use Rattle.py_check_definitions.specs.Names.{known_in, module_meaning}
-use Rattle.py_check_definitions.specs.Owners.{typed_class, owners_in, owners_from, owners}
+use Rattle.py_check_definitions.specs.Owners.{untyped_owner, class_owner, owners_in, owners_from, owners}
 use Rattle.py_check_definitions.specs.Refused.{is_whole_member, are_whole}
 use Rattle.py_check.specs.Module.{ModuleContext, plain_signature, class_of, function_context, typed_function, global_sorts, module_owns, module_context, module_classes, method_inside, inside_by, said, typed}
 use Rattle.py_check_definitions.proofs.HeldLemmas.{functions_defined}
@@ -45,10 +45,10 @@ use Rattle.py_check_expressions_laws.specs.Laws.{is_voiceless_member, is_voicele
 use Rattle.py_check_expressions_laws.proofs.Loud.{none_before, none_behind}
 use Rattle.py_check_members_laws.specs.Laws.{is_name_new, with_name, are_defs_new}
 use Rattle.py_check_members_laws.proofs.Rows.{none_more, zero_more, at_either, Behind}
-use Rattle.py_check_members_laws.proofs.Places.{trees_of_texts}
+use Rattle.py_check_members_laws.proofs.Places.{untyped_other, trees_of_texts}
 use Rattle.py_check_members_laws.proofs.Members.{own_there}
 use Rattle.py_check_members_laws.proofs.Entries.{as_many_headers}
-use Rattle.py_check_members_laws.proofs.Known.{found_at, own_function, init_found, behind_found, IsMethodBelow}
+use Rattle.py_check_members_laws.proofs.Known.{member_found, own_function, init_found, behind_found, IsMethodBelow}
 use Rattle.py_check_members_laws.proofs.Formed.{HasSignature, HasClasses, IsFunctionOf, IsOwned}
 use Rattle.py_check_laws.proofs.Given.{some_of}
 use Rattle.py_check_laws.proofs.Plain.{plain_member_said, plain_members_said, plain_said, all_plain_said, IsPlainClass, ClassOf, AllClasses}
@@ -138,12 +138,9 @@ module _ (roles : Roles) (classes : ModuleClasses) (owns : List (List (List ℕ 
 
 -- ---- owners
 
-owner_same : (o p : Option ℕ) → owner.Class o ≡ owner.Class p → o ≡ p
-owner_same o p h = cc
-
-typed_owner : (headers : List Header) (n c : ℕ) (b : Bool) → has_type (slice_get headers n) ≡ b → (if b then Some n else None) ≡ Some c → has_type (slice_get headers c) ≡ true
-typed_owner headers n c true e h = subst (λ k. has_type (slice_get headers k) ≡ true) (same_Some n c h) e
-typed_owner headers n c false e h = absurd (cc)
+typed_owner : (headers : List Header) (n c : ℕ) (b : Bool) → has_type (slice_get headers n) ≡ b → (if b then owner.Class (Some n) else untyped_owner headers n) ≡ owner.Class (Some c) → has_type (slice_get headers c) ≡ true
+typed_owner headers n c true e h = let same : n ≡ c = cc in subst (λ k. has_type (slice_get headers k) ≡ true) same e
+typed_owner headers n c false e h = absurd (untyped_other headers n c h)
 
 all_one : {A B : Type 0} (xs : List A) (b : B) (i : ℕ) (y : B) → slice_get (map (λ x. b) xs) i ≡ Some y → b ≡ y
 all_one [] b i y h = absurd (cc)
@@ -162,7 +159,7 @@ class_of_owner headers n (x ∷ ds) i o h c q = by (at_either (owners_in headers
         none zero z = cc
         none (suc k) z = cc
     here (s.at (s.ClassDef name bases body marks) span) r =
-        typed_owner headers n c (has_type (slice_get headers n)) refl (owner_same (typed_class headers n) o (all_one (methods_in body) (owner.Class (typed_class headers n)) i (owner.Class o) r) ∙ q)
+        typed_owner headers n c (has_type (slice_get headers n)) refl (all_one (methods_in body) (class_owner headers n) i (owner.Class o) r ∙ ap (λ (p : Option ℕ). owner.Class p) q)
     here _ r = absurd (cc)
 
     by : (slice_get (owners_in headers n x) i ≡ Some (owner.Class o)) ⊎ Behind (owners_in headers n x) (owners_from headers (n + length (class_in x)) ds) i (owner.Class o)
@@ -216,7 +213,7 @@ module _ (roles : Roles) (headers : List Header) (meanings : List ℕ → Meanin
 
   class_new : (earlier : List (List ℕ)) (n : ℕ) (x : StmtTree) → plain_said roles headers meanings earlier n x ≡ [] → Signs (zip (held_by x) (owners_in headers n x)) → list_all (λ y. are_defs_new [] y.body) (class_in x) ≡ true
   class_new earlier n (s.at (s.ClassDef name bases body marks) span) h a =
-      let whose = owner.Class (typed_class headers n) in
+      let whose = class_owner headers n in
       and_from (are_defs_new [] body) true (members_new whose [] body (none_before (plain_members_said roles headers meanings whose [] body) (body_said meanings body) h) a) refl
   class_new earlier n _ h a = refl
 
@@ -332,6 +329,7 @@ module _ (m : Suite) (nothing : said m ≡ []) where
       by : {tree : FuncTree} {c : Option ℕ} {name : List ℕ} (whose : Owner) → slice_get (owners m) i ≡ Some whose → class_of whose ≡ c → tree.name ≡ name → c ≡ F.class → name ≡ F.name → slice_get (flat_map held_by ds) i ≡ Some tree → (F.class ≡ None) ⊎ IsOwned named meant inner ds i F
       by owner.Module o c n d k t = inl (sym (c ∙ d))
       by (owner.Class None) o c n d k t = inl (sym (c ∙ d))
+      by owner.UntypedTrait o c n d k t = inl (sym (c ∙ d))
       by {tree = tree} (owner.Class (Some class)) o c n d k t = inr (record { class = class; tree = tree; there = t; owned = o; named = sym (n ∙ k); inside = sym (c ∙ d) })
 
   -- ---- the classes of the typed module
@@ -374,7 +372,7 @@ module _ (m : Suite) (nothing : said m ≡ []) where
     where
       by : (o : Option Member) → member_along os hs n a ≡ o → is_voiceless_member (signatures m) o ≡ false
       by None q = refl
-      by (Some x) q = let d = found_at (own_member os a) x (order_in hs n) q in own_voiced d.place a x d.is
+      by (Some x) q = let d = member_found named meant inner ds n a x q in own_voiced d.place a x d.is
 
   below_voiced : (f : ℕ) → IsMethodBelow named meant inner ds f (codes "__init__") → is_voiceless_init (signatures m) (Some f) ≡ false
   below_voiced f d = is_voiced f (function_signed f d.is.tree d.is.there)
@@ -404,3 +402,4 @@ module _ (m : Suite) (nothing : said m ≡ []) where
       by owner.Module q = refl
       by (owner.Class (Some n)) q = neither (method_inside e.members (headed roles meant p) (Some n)).is_init (is_voiceless_init (signatures m) (init_behind_along os hs n)) (behind_voiced n)
       by (owner.Class None) q = absurd (cc)
+      by owner.UntypedTrait q = absurd (cc)

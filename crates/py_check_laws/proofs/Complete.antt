@@ -84,6 +84,7 @@ owned_placed : (whose : Owner) → is_owned whose ≡ true → is_placed whose �
 owned_placed owner.Module h = refl
 owned_placed (owner.Class None) h = absurd (cc)
 owned_placed (owner.Class (Some c)) h = refl
+owned_placed owner.UntypedTrait h = absurd (cc)
 
 module _ (is_identifier : List ℕ → Bool) (m : Suite) (nothing : said m ≡ []) where
   abbrev e : ModuleContext
@@ -118,6 +119,7 @@ module _ (is_identifier : List ℕ → Bool) (m : Suite) (nothing : said m ≡ [
   class_good : (whose : Owner) → Placed size meant placed whose → class_there is_identifier tree (class_of whose) ≡ true
   class_good owner.Module h = refl
   class_good (owner.Class None) h = refl
+  class_good owner.UntypedTrait h = refl
   class_good (owner.Class (Some c)) h = h c refl
 
   init_good : Whole → (i : ℕ) (F : TypedFunc) → IsHeld i F → is_init_of_trait tree.classes.classes (init_class F) ≡ false

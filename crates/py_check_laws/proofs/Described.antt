@@ -34,7 +34,7 @@ use Rattle.py_check_statements.specs.Bodies.{nothing_around, block_after, block}
 use Rattle.py_check_definitions.specs.Definitions.{Headed, headed, inner_definitions_said, headed_functions, signatures}
 use Rattle.py_check_definitions.specs.Starts.{given_sort, first_mark, by_mark, start_sort, or_param, param_sort, own_sort}
 use Rattle.py_check_definitions.specs.Variables.{sort_or_none, variables_from, typed_variables}
-use Rattle.py_check.specs.Module.{ModuleContext, context_in, plain_signature, statements_of, return_of, module_start, own_statements, function_start, body, body_after, typed_function, bodies_said, typed_functions, global_sorts, module_context, said, typed, function_context, inside_by, method_inside, class_of}
+use Rattle.py_check.specs.Module.{ModuleContext, context_in, plain_signature, statements_of, return_of, module_start, own_statements, function_start, body, body_after, typed_function, bodies_said, typed_functions, global_sorts, module_context, said, typed, function_context, inside_by, method_inside, trait_inside, class_of}
 use Rattle.py_check_expressions_laws.specs.Laws as law
 use Rattle.py_check_expressions_laws.specs.WellTyped.{Describes, IsSigned, IsInitSigned, IsInside}
 use Rattle.py_check_expressions_laws.proofs.Loud.{none_before, none_behind}
@@ -130,6 +130,7 @@ module _ (size : ℕ) where
     abbrev pub Placed : Owner → Type 0
     Placed owner.Module = Unit {0}
     Placed (owner.Class o) = (c : ℕ) → o ≡ Some c → nat_lt c size ≡ true
+    Placed owner.UntypedTrait = Unit {0}
 
     type_value : (whose : Owner) → Placed whose → (test : List ℕ → Bool) (ps : List (List ℕ × Option ExprTree)) (o : Option Sort) → lookup test (zip (map (λ p. p.0) ps) (types_at whose (param_types meanings ps))) ≡ Some o → (t : Sort) → o ≡ Some t → IsValue t
     type_value owner.Module h test ps o q t g = param_value test ps o q t g
@@ -151,6 +152,12 @@ module _ (size : ℕ) where
         by : (b : Bool) → cond b (Some (own_type c)) (lookup test (zip (map (λ p. p.0) ps) (param_types meanings ps))) ≡ Some o → (lookup test (zip (map (λ p. p.0) ps) (param_types meanings ps)) ≡ Some o → IsValue t) → IsValue t
         by true r next = own c refl (same_Some (own_type c) o r ∙ g)
         by false r next = next r
+    type_value owner.UntypedTrait h test [] o q t g = absurd (cc)
+    type_value owner.UntypedTrait h test (p ∷ ps) o q t g = by (test p.0) q (λ r. type_value owner.Module tt test ps o r t g)
+      where
+        by : (b : Bool) → cond b (Some (own_type None)) (lookup test (zip (map (λ p. p.0) ps) (param_types meanings ps))) ≡ Some o → (lookup test (zip (map (λ p. p.0) ps) (param_types meanings ps)) ≡ Some o → IsValue t) → IsValue t
+        by true r next = absurd (let no : own_type None ≡ Some t = same_Some (own_type None) o r ∙ g in cc)
+        by false r next = next r
 
     all_values : (ps : List (List ℕ × Option ExprTree)) (ts : List Sort) → all_of (param_types meanings ps) ≡ Some ts → list_all (is_value_type size) ts ≡ true
     all_values [] ts q = subst (λ l. list_all (is_value_type size) l ≡ true) (same_Some [] ts q) refl
@@ -165,6 +172,8 @@ module _ (size : ℕ) where
     asked_values owner.Module ps ts q = all_values ps ts q
     asked_values (owner.Class c) [] ts q = all_values [] ts q
     asked_values (owner.Class c) (p ∷ ps) ts q = all_values ps ts q
+    asked_values owner.UntypedTrait [] ts q = all_values [] ts q
+    asked_values owner.UntypedTrait (p ∷ ps) ts q = all_values ps ts q
 
     only_value : (o : Option Sort) (t : Sort) → only_none o ≡ Some t → is_result_type size t ≡ true
     only_value (Some sort.Nothing) t q = subst (λ s. is_result_type size s ≡ true) (same_Some sort.Nothing t q) refl
@@ -232,6 +241,7 @@ module _ (e : ModuleContext) (tree : TypedModule) (K : ClassesStand e tree) (sig
             is = ap (λ z. if z then d else None) named ∙ class;
             behind = K.behind_are n ∙ sym (ap (option_and_then e.members.next_init) class) ∙ ap (λ (z : Inside). z.next_init) q;
           }
+  inside_at f owner.UntypedTrait i n p b c w = absurd (let no : None ≡ Some n = ap (λ (z : Inside). z.class) (same_Some (trait_inside f) i p) ∙ c in cc)
 
   next_at : (f : Headed) (whose : Owner) (i : Inside) (g : ℕ) (s : Signature) → inside_by e.members f whose ≡ Some i → i.next_init ≡ Some g → some_signature (slice_get e.signatures g) ≡ Some s → IsInitSigned tree g s
   next_at f owner.Module i g s p b c = absurd (cc)
@@ -240,6 +250,7 @@ module _ (e : ModuleContext) (tree : TypedModule) (K : ClassesStand e tree) (sig
       by : (d : Option ℕ) → option_and_then e.members.next_init d ≡ Some g → IsInitSigned tree g s
       by None q = absurd (cc)
       by (Some n) q = init_signed (e.members.next_init n) (K.behind_give n) g s q c
+  next_at f owner.UntypedTrait i g s p b c = absurd (let no : None ≡ Some g = ap (λ (z : Inside). z.next_init) (same_Some (trait_inside f) i p) ∙ b in cc)
 
   -- A FUNCTION'S context, where what names a function is one
   pub describes : (f : Headed) (V : VarSorts) (locals : List Variable) → ((x : List ℕ) (i : ℕ) → (function_context e f).meaning x ≡ meaning.Function i → is_function (slice_get tree.funcs i) ≡ true) → AreDeclared tree locals V → Valued (length e.classes) V

@@ -104,6 +104,7 @@ module _ (roles : Roles) (meanings : List ℕ → Meaning) (p : FuncTree × Owne
       where
         by : (whose : Owner) → bytes_eq p.0.name (codes "__init__") ≡ true → is_some (class_of whose) ≡ true → is_nothing (unwrap_or (return_at (is_init whose p.0.name) p.0.ret (returned meanings p.0.ret).got) sort.Nothing) ≡ true
         by owner.Module q g = absurd (cc)
+        by owner.UntypedTrait q g = absurd (cc)
         by (owner.Class c) q g = ap (λ (b : Bool). is_nothing (unwrap_or (return_at b p.0.ret (returned meanings p.0.ret).got) sort.Nothing)) q ∙ init_returns p.0.ret (returned meanings p.0.ret).got
 
     -- THE FUNCTION

@@ -23,11 +23,10 @@ use Rattle.py_check_annotations.specs.Names.{is_unknown, is_untyped}
 use Rattle.py_check_flow.specs.Bindings.{name_in}
 use Rattle.py_check_places.specs.Places.{Known}
 use Rattle.py_check_classes.specs.declared.header.Header.{Header}
-use Rattle.py_check_classes.specs.declared.header.Header.TheVariants as head
 use Rattle.py_check_classes.specs.declared.header.HeaderFault.{HeaderFault}
 use Rattle.py_check_classes.specs.Names.{classes_in, class_number, class_named, named, meaning_of, is_trait_import, are_decorators, is_new}
 use Rattle.py_check_classes.specs.Rows.{differ}
-use Rattle.py_check_classes.specs.Headers.{has_type, is_earlier, is_untyped as is_base_untyped, early_fault, order_fault, settled, bases_named, shape, header, headers_behind}
+use Rattle.py_check_classes.specs.Headers.{has_type, is_earlier, is_untyped as is_base_untyped, early_fault, order_fault, without_type, settled, bases_named, shape, header, headers_behind}
 use Rattle.py_check_classes.proofs.HeaderLemmas.{early_none}
 use Rattle.py_syntax_diagnostics.specs.declared.diagnostic.Diag.{Diag}
 use Rattle.py_check_overrides.specs.Overrides.{Clash, Verdict, fails, override_said}
@@ -89,7 +88,7 @@ module _ (said : List ℕ → Option Meaning) where
   names_of_typed : (before : List Header) (c : ClassTree) → has_type (Some (header said before c)) ≡ true → (are_names c.marks ≡ true) × (are_names c.bases ≡ true)
   names_of_typed before c h = by (list_any (is_base_untyped before) (bases_named said c)) h
     where
-      by : (b : Bool) → has_type (Some (if b then head.Silent else settled (shape said c) (option_or (early_fault before (is_new said (length before) c.name) (are_decorators said c.marks) (bases_named said c) (shape said c) c.body) (order_fault before (shape said c))))) ≡ true
+      by : (b : Bool) → has_type (Some (if b then without_type (shape said c).is_trait None else settled (shape said c) (option_or (early_fault before (is_new said (length before) c.name) (are_decorators said c.marks) (bases_named said c) (shape said c) c.body) (order_fault before (shape said c))))) ≡ true
           → (are_names c.marks ≡ true) × (are_names c.bases ≡ true)
       by true q = absurd (cc)
       by false q =

@@ -24,6 +24,7 @@ abbrev pub is_placed : Owner → Bool
 is_placed owner.Module = true
 is_placed (owner.Class None) = false
 is_placed (owner.Class (Some c)) = true
+is_placed owner.UntypedTrait = false
 
 -- of the types of parameters those of the signature
 abbrev pub behind_own : Option ℕ → List Sort → List Sort
@@ -42,10 +43,13 @@ pub types_many : (whose : Owner) (types : List (Option Sort)) → length (types_
 types_many owner.Module types = refl
 types_many (owner.Class c) [] = refl
 types_many (owner.Class c) (t ∷ types) = refl
+types_many owner.UntypedTrait [] = refl
+types_many owner.UntypedTrait (t ∷ types) = refl
 
 pub types_row : (whose : Owner) (params : List (List ℕ × Option ExprTree)) (os : List (Option Sort)) (us : List Sort) → is_placed whose ≡ true → lacks_own whose params ≡ false → length os ≡ length params → all_of (asked whose (types_at whose os)) ≡ Some us → Row whose (types_at whose os) us
 types_row owner.Module params os us p l n q = record { types = us; all = q; self = refl; rest = refl }
 types_row (owner.Class None) params os us p l n q = absurd (cc)
+types_row owner.UntypedTrait params os us p l n q = absurd (cc)
 types_row (owner.Class (Some c)) [] os us p l n q = absurd (cc)
 types_row (owner.Class (Some c)) (x ∷ params) [] us p l n q = absurd (cc)
 types_row (owner.Class (Some c)) (x ∷ params) (o ∷ os) us p l n q = record {

@@ -13,9 +13,8 @@ use Rattle.py_check_signatures.specs.declared.headers.Owner.TheVariants as owner
 use Rattle.py_check_signatures.specs.Headers.{header_said}
 use Rattle.py_check_signatures.specs.Definitions as def
 use Rattle.py_check_classes.specs.declared.header.Header.{Header}
-use Rattle.py_check_classes.specs.declared.header.Header.TheVariants as head
 use Rattle.py_check_classes.specs.Names.{class_in, classes_in, said_of_names, is_new, are_decorators}
-use Rattle.py_check_classes.specs.Headers.{has_type, is_untyped as is_base_untyped, early_fault, order_fault, bases_named, shape, settled, header, headers_behind, module_headers}
+use Rattle.py_check_classes.specs.Headers.{has_type, is_untyped as is_base_untyped, early_fault, order_fault, bases_named, shape, without_type, settled, header, headers_behind, module_headers}
 use Rattle.py_check_definitions.specs.Definitions.{names_given}
 use Rattle.py_check.specs.Module.{said}
 use Rattle.py_check_expressions_laws.proofs.Known.{known_left, known_right}
@@ -35,7 +34,7 @@ module _ (said : List ℕ → Option Meaning) where
   new_of_typed : (before : List Header) (c : ClassTree) → has_type (Some (header said before c)) ≡ true → is_new said (length before) c.name ≡ true
   new_of_typed before c h = by (list_any (is_base_untyped before) (bases_named said c)) h
     where
-      by : (b : Bool) → has_type (Some (if b then head.Silent else settled (shape said c) (option_or (early_fault before (is_new said (length before) c.name) (are_decorators said c.marks) (bases_named said c) (shape said c) c.body) (order_fault before (shape said c))))) ≡ true
+      by : (b : Bool) → has_type (Some (if b then without_type (shape said c).is_trait None else settled (shape said c) (option_or (early_fault before (is_new said (length before) c.name) (are_decorators said c.marks) (bases_named said c) (shape said c) c.body) (order_fault before (shape said c))))) ≡ true
           → is_new said (length before) c.name ≡ true
       by true q = absurd (cc)
       by false q =

@@ -30,7 +30,7 @@ use Rattle.py_check_signatures.specs.declared.headers.Owner.TheVariants as owner
 use Rattle.py_check_signatures.specs.Definitions.{is_builtin_name}
 use Rattle.py_check_signatures.specs.Definitions as def
 use Rattle.py_check_definitions.specs.Definitions.{names_given}
-use Rattle.py_check_definitions.specs.Owners.{owners_in, owners_from}
+use Rattle.py_check_definitions.specs.Owners.{untyped_owner, owners_in, owners_from}
 use Rattle.py_check_definitions.specs.Refused.{unless_whole, methods_refused, refused, are_whole, is_whole, refusals}
 
 -- ---- names
@@ -274,6 +274,7 @@ abbrev pub own_of : Owner → List ℕ → List (List ℕ)
 own_of owner.Module name = name ∷ []
 own_of (owner.Class None) name = name ∷ []
 own_of (owner.Class (Some c)) name = []
+own_of owner.UntypedTrait name = name ∷ []
 
 abbrev pub owned : FuncTree × Owner → List (List ℕ)
 owned p = own_of p.1 p.0.name
@@ -285,7 +286,7 @@ methods_owned n (f ∷ fs) more os = methods_owned n fs more os
 owned_step : (headers : List Header) (n : ℕ) (d : StmtTree) (fs : List FuncTree) (os : List Owner) → IsTyped headers n d → flat_map owned (zip (held_by d ++ fs) (owners_in headers n d ++ os)) ≡ def_name d ++ flat_map owned (zip fs os)
 owned_step headers n (s.at (s.Def name params ret body marks) span) fs os h = refl
 owned_step headers n (s.at (s.ClassDef name bases body marks) span) fs os h =
-    ap (λ (b : Bool). flat_map owned (zip (methods_in body ++ fs) (map (λ (f : FuncTree). owner.Class (if b then Some n else None)) (methods_in body) ++ os))) h ∙ methods_owned n (methods_in body) fs os
+    ap (λ (b : Bool). flat_map owned (zip (methods_in body ++ fs) (map (λ (f : FuncTree). if b then owner.Class (Some n) else untyped_owner headers n) (methods_in body) ++ os))) h ∙ methods_owned n (methods_in body) fs os
 owned_step headers n d fs os h = refl
 
 pub owned_names : (headers : List Header) (n : ℕ) (ds : List StmtTree) → AllTyped headers n ds → flat_map owned (zip (flat_map held_by ds) (owners_from headers n ds)) ≡ flat_map def_name ds

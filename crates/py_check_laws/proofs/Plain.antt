@@ -33,7 +33,7 @@ use Rattle.py_check_members.specs.Bodies.{body_said}
 use Rattle.py_check_definitions.specs.Classes.{ModuleClasses, class_header_said}
 use Rattle.py_check_definitions.specs.Decorators.{decorators_typed, decorators_said}
 use Rattle.py_check_definitions.specs.Definitions.{with_taken, attribute_said, function_said, member_said, members_said, import_said, names_given, definition_said, definitions_said}
-use Rattle.py_check_definitions.specs.Owners.{typed_class}
+use Rattle.py_check_definitions.specs.Owners.{class_owner}
 use Rattle.py_check_definitions.specs.Refused.{decorated_said, method_refused, methods_refused, unless_whole, refused, is_whole, refusals, or_refused}
 use Rattle.py_check.specs.Module.{walk_said}
 use Rattle.py_check_expressions_laws.proofs.Loud.{none_before, none_behind}
@@ -58,7 +58,7 @@ module _ (roles : Roles) (headers : List Header) (meanings : List ℕ → Meanin
   abbrev pub plain_said : List (List ℕ) → ℕ → StmtTree → List Diag
   plain_said earlier n (s.at (s.Def name params ret body marks) span) =
       plain_function_said span owner.Module (is_new earlier name) (record { name = name; params = params; ret = ret; body = body; marks = marks })
-  plain_said earlier n (s.at (s.ClassDef name bases body marks) span) = plain_members_said (owner.Class (typed_class headers n)) [] body ++ body_said meanings body
+  plain_said earlier n (s.at (s.ClassDef name bases body marks) span) = plain_members_said (class_owner headers n) [] body ++ body_said meanings body
   plain_said earlier n (s.at (s.Import name other) span) = import_said false span
   plain_said earlier n (s.at (s.From name names) span) = import_said (may_import_all name names) span
   plain_said earlier n _ = []
@@ -186,7 +186,7 @@ module _ (roles : Roles) (classes : ModuleClasses) (owns : List (List (List ℕ 
       record { own = one.0; headers = two_none (header_said c.meaning f) [] one.1 refl; marks = both_true (no_marks marks) true (ap no_marks free) refl; class = tt }
   one_plain k earlier n (s.at (s.ClassDef name bases body marks) span) r h =
       let x : ClassTree = record { name = name; bases = bases; body = body; marks = marks } in
-      let whose = owner.Class (typed_class classes.headers n) in
+      let whose = class_owner classes.headers n in
       let first = decorators_said c k marks ++ decorators_said c k bases in
       let inner = members_said roles c k whose [] body in
       let text = body_said c.meaning body in

@@ -25,6 +25,8 @@ owned_by : (whose : Owner) (ps : List (List ℕ × Option ExprTree)) (types : (L
 owned_by owner.Module ps types l h = refl
 owned_by (owner.Class c) [] types l h = absurd (cc)
 owned_by (owner.Class None) (p ∷ ps) types l h = absurd (cc)
+owned_by owner.UntypedTrait [] types l h = absurd (cc)
+owned_by owner.UntypedTrait (p ∷ ps) types l h = absurd (cc)
 owned_by (owner.Class (Some n)) (p ∷ ps) types l h = refl
 
 module _ (m : Suite) (nothing : said m ≡ []) where

@@ -40,7 +40,7 @@ use Rattle.py_check_members.specs.Members.{own_at}
 use Rattle.py_check_members.specs.Bodies.{body_said}
 use Rattle.py_check_definitions.specs.Classes.{ModuleClasses}
 use Rattle.py_check_definitions.specs.Definitions.{with_taken, import_said, headed, names_given}
-use Rattle.py_check_definitions.specs.Owners.{typed_class, owners_in, owners_from}
+use Rattle.py_check_definitions.specs.Owners.{untyped_owner, class_owner, owners_in, owners_from}
 use Rattle.py_check_definitions.specs.Refused.{are_whole}
 use Rattle.py_check_expressions_laws.specs.Laws.{is_voiceless}
 use Rattle.py_check_expressions_laws.proofs.Known.{known_left, known_right}
@@ -74,7 +74,7 @@ zip_two (a ∷ xs) xs2 (b ∷ ys) ys2 e = ap (λ l. (a, b) ∷ l) (zip_two xs xs
 module _ (headers : List Header) where
   pub owners_many : (n : ℕ) (x : StmtTree) → length (held_by x) ≡ length (owners_in headers n x)
   owners_many n (s.at (s.Def name params ret body marks) span) = refl
-  owners_many n (s.at (s.ClassDef name bases body marks) span) = sym (length-map (methods_in body) (λ (f : FuncTree). owner.Class (typed_class headers n)))
+  owners_many n (s.at (s.ClassDef name bases body marks) span) = sym (length-map (methods_in body) (λ (f : FuncTree). class_owner headers n))
   owners_many n _ = refl
 
   pub owners_all : (n : ℕ) (ds : List StmtTree) → length (flat_map held_by ds) ≡ length (owners_from headers n ds)
@@ -97,6 +97,7 @@ module _ (headers : List Header) where
 abbrev pub is_owned : Owner → Bool
 is_owned owner.Module = true
 is_owned (owner.Class o) = is_some o
+is_owned owner.UntypedTrait = false
 
 module _ (roles : Roles) (headers : List Header) (meanings : List ℕ → Meaning) where
   -- nothing is said of a function itself, whose name is new or not
@@ -128,7 +129,7 @@ module _ (roles : Roles) (headers : List Header) (meanings : List ℕ → Meanin
   one_quiet : (earlier : List (List ℕ)) (n : ℕ) (x : StmtTree) → plain_said roles headers meanings earlier n x ≡ [] → AllQuiet (zip (held_by x) (owners_in headers n x))
   one_quiet earlier n (s.at (s.Def name params ret body marks) span) h = record { here = (span, is_new earlier name, h); rest = tt }
   one_quiet earlier n (s.at (s.ClassDef name bases body marks) span) h =
-      members_quiet (owner.Class (typed_class headers n)) [] body (none_before (plain_members_said roles headers meanings (owner.Class (typed_class headers n)) [] body) (body_said meanings body) h)
+      members_quiet (class_owner headers n) [] body (none_before (plain_members_said roles headers meanings (class_owner headers n) [] body) (body_said meanings body) h)
   one_quiet earlier n _ h = tt
 
   -- FUNCTIONS of which nothing is said
@@ -161,16 +162,16 @@ module _ (roles : Roles) (headers : List Header) (meanings : List ℕ → Meanin
 -- ---- classes that are whole
 
 module _ (roles : Roles) (classes : ModuleClasses) (owns : List (List (List ℕ × Member))) (c : Context) where
-  typed_some : (n : ℕ) → has_class_type (slice_get classes.headers n) ≡ true → is_some (typed_class classes.headers n) ≡ true
-  typed_some n h = ap (λ b. is_some (if b then Some n else None)) h
+  typed_owned : (n : ℕ) → has_class_type (slice_get classes.headers n) ≡ true → is_owned (class_owner classes.headers n) ≡ true
+  typed_owned n h = ap (λ b. is_owned (if b then owner.Class (Some n) else untyped_owner classes.headers n)) h
 
-  all_of_class : (fs : List FuncTree) (o : Option ℕ) → is_some o ≡ true → list_all is_owned (map (λ f. owner.Class o) fs) ≡ true
-  all_of_class [] o h = refl
-  all_of_class (f ∷ fs) o h = and_from (is_some o) (list_all is_owned (map (λ f. owner.Class o) fs)) h (all_of_class fs o h)
+  all_of_class : (fs : List FuncTree) (whose : Owner) → is_owned whose ≡ true → list_all is_owned (map (λ f. whose) fs) ≡ true
+  all_of_class [] whose h = refl
+  all_of_class (f ∷ fs) whose h = and_from (is_owned whose) (list_all is_owned (map (λ f. whose) fs)) h (all_of_class fs whose h)
 
   one_owned : (n : ℕ) (x : StmtTree) → ClassOf roles classes owns c n x → list_all is_owned (owners_in classes.headers n x) ≡ true
   one_owned n (s.at (s.Def name params ret body marks) span) h = refl
-  one_owned n (s.at (s.ClassDef name bases body marks) span) h = all_of_class (methods_in body) (typed_class classes.headers n) (typed_some n (and_left (has_class_type (slice_get classes.headers n)) (are_whole (own_at owns n)) h.whole))
+  one_owned n (s.at (s.ClassDef name bases body marks) span) h = all_of_class (methods_in body) (class_owner classes.headers n) (typed_owned n (and_left (has_class_type (slice_get classes.headers n)) (are_whole (own_at owns n)) h.whole))
   one_owned n _ h = refl
 
   -- THE CLASS of each function has a type
@@ -241,6 +242,8 @@ some_asked : (whose : Owner) (os : List (Option Sort)) → list_all (λ o. is_so
 some_asked owner.Module os h = h
 some_asked (owner.Class o) [] h = refl
 some_asked (owner.Class o) (t ∷ os) h = and_right (is_some t) (list_all (λ o. is_some o) os) h
+some_asked owner.UntypedTrait [] h = refl
+some_asked owner.UntypedTrait (t ∷ os) h = and_right (is_some t) (list_all (λ o. is_some o) os) h
 
 pub signed : (h : HeaderSorts) → HasTypes h → is_some (signature_of h) ≡ true
 signed h t =
@@ -279,6 +282,7 @@ module _ (meanings : List ℕ → Meaning) (all : (x : List ℕ) → is_untyped 
   own_some (owner.Class (Some c)) o [] h g = refl
   own_some (owner.Class (Some c)) o (p ∷ ps) h g = params_some ps h (and_right (has_type p.1 (marked meanings p.1).got) (params_typed meanings ps) g)
   own_some (owner.Class None) o ps h g = absurd (cc)
+  own_some owner.UntypedTrait o ps h g = absurd (cc)
 
   -- a function of which nothing is said, in its annotations and else, and with the names of which nothing is wrong
   pub record IsSigned (roles : Roles) (p : FuncTree × Owner) : Type 0 where

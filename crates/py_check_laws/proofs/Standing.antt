@@ -113,6 +113,7 @@ module _ (m : Suite) (nothing : said m ≡ []) where
   -- the class of each method is one of the module's
   owner_placed : (whose : Owner) → (i : ℕ) → slice_get (owners_from (hs m nothing) 0 (ds m nothing)) i ≡ Some whose → Placed size (module_meaning m) top_placed whose
   owner_placed owner.Module i h = tt
+  owner_placed owner.UntypedTrait i h = tt
   owner_placed (owner.Class o) i h = λ c q. typed_there c (class_of_owner (hs m nothing) 0 (ds m nothing) i o h c q)
 
   all_placed : (fs : List FuncTree) (row : List Owner) → ((i : ℕ) (whose : Owner) → slice_get row i ≡ Some whose → Placed size (module_meaning m) top_placed whose) → AllByRecursion (λ (p : FuncTree × Owner). Placed size (module_meaning m) top_placed p.1) (zip fs row)

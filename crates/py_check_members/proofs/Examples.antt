@@ -1,5 +1,5 @@
 -- The members of some classes, computed.
-use Rattle.std.proofs.Common.{◌≡◌, ℕ, false, List, [], ◌∷◌, Some, None, refl, codes, pos}
+use Rattle.std.proofs.Common.{◌≡◌, ℕ, true, false, List, [], ◌∷◌, Some, None, refl, codes, pos}
 use Rattle.std.specs.Prelude.{unwrap_or}
 use Rattle.py_syntax.specs.declared.token.Span.{Span}
 use Rattle.py_syntax.specs.declared.expression.BinOp.TheVariants as op
@@ -14,7 +14,8 @@ use Rattle.py_check_messages.specs.Seen.{diag}
 use Rattle.py_check_messages.specs.Messages as message
 use Rattle.py_check_names.specs.Builtins.{builtin_meaning}
 use Rattle.py_check_classes.specs.declared.header.Header.{Header}
-use Rattle.py_check_classes.specs.declared.header.Header.TheVariants.{Typed, Silent}
+use Rattle.py_check_classes.specs.declared.header.Header.TheVariants.{Typed}
+use Rattle.py_check_classes.specs.Headers as headers
 use Rattle.py_check_members.specs.Members.{Owns, own_members, member_along, init_along, init_behind_along, declaring}
 use Rattle.py_check_members.specs.Bodies.{body_said}
 
@@ -72,7 +73,7 @@ abbrev meanings : List ℕ → Meaning
 meanings x = unwrap_or (builtin_meaning x) Unknown
 
 abbrev members : List Header → List StmtTree → Owns
-members headers definitions = own_members headers meanings (λ f. meanings) definitions
+members hs definitions = own_members hs meanings (λ f. meanings) definitions
 
 abbrev alone : List StmtTree → Owns
 alone stmts = members (header [] ∷ []) (class (codes "C") stmts ∷ [])
@@ -128,7 +129,7 @@ no_type = refl
 -- ---- classes above
 
 abbrev line : Owns
-line = members (header [] ∷ header (0 ∷ []) ∷ Silent ∷ []) (class C (declare 1 a ∷ init 2 (set 3 b none ∷ []) ∷ def 4 c [] ∷ []) ∷ class (codes "D") (init 5 (set 6 a one ∷ set 7 b one ∷ set 8 c none ∷ []) ∷ []) ∷ class (codes "E") (declare 9 a ∷ []) ∷ [])
+line = members (header [] ∷ header (0 ∷ []) ∷ headers.without_type false None ∷ []) (class C (declare 1 a ∷ init 2 (set 3 b none ∷ []) ∷ def 4 c [] ∷ []) ∷ class (codes "D") (init 5 (set 6 a one ∷ set 7 b one ∷ set 8 c none ∷ []) ∷ []) ∷ class (codes "E") (declare 9 a ∷ []) ∷ [])
 
 -- what is declared above is not declared again; what is unknown there may be, and what is a method there is not unknown
 under : line ≡ ((a, attribute sort.Int) ∷ (codes "__init__", method 0) ∷ (b, unknown (place 3)) ∷ (c, method 1) ∷ []) ∷ ((codes "__init__", method 2) ∷ (b, attribute sort.Int) ∷ []) ∷ [] ∷ []
@@ -139,6 +140,16 @@ inherited = refl
 
 its_own : member_along line (header [] ∷ header (0 ∷ []) ∷ []) 1 b ≡ Some (attribute sort.Int)
 its_own = refl
+
+-- a method of a trait stands in front of an attribute that nothing declares, though its class comes later along the order
+abbrev beside : Owns
+beside = members (header [] ∷ Typed (record { is_trait = true; bases = [] }) ∷ header (0 ∷ 1 ∷ []) ∷ []) (class C (init 1 (set 2 a none ∷ set 3 b none ∷ []) ∷ []) ∷ class (codes "T") (def 4 a [] ∷ []) ∷ class (codes "D") [] ∷ [])
+
+behind_it : member_along beside (header [] ∷ Typed (record { is_trait = true; bases = [] }) ∷ header (0 ∷ 1 ∷ []) ∷ []) 2 a ≡ Some (method 1)
+behind_it = refl
+
+of_no_other : member_along beside (header [] ∷ Typed (record { is_trait = true; bases = [] }) ∷ header (0 ∷ 1 ∷ []) ∷ []) 2 b ≡ Some (unknown (place 3))
+of_no_other = refl
 
 nothing : member_along line (header [] ∷ header (0 ∷ []) ∷ []) 1 (codes "d") ≡ None
 nothing = refl

@@ -15,12 +15,12 @@ use Rattle.py_check_context.specs.declared.members.ClassMembers.{ClassMembers}
 use Rattle.py_check_context.specs.Members as lookups
 use Rattle.py_check_context.specs.Members.{Member, member}
 use Rattle.py_check_classes.specs.declared.header.Header.{Header}
-use Rattle.py_check_classes.specs.declared.header.Header.TheVariants.{Typed, Refused, Silent}
+use Rattle.py_check_classes.specs.declared.header.Header.TheVariants.{Typed, Untyped}
 use Rattle.py_check_classes.specs.Headers.{entry}
 use Rattle.py_check_classes.specs.Kept.{AreKept}
 use Rattle.py_check_classes.proofs.HeaderLemmas.{entry_found}
 use Rattle.py_check_classes.proofs.OrderLemmas.{order_bare, order_one, order_line}
-use Rattle.py_check_members.specs.Members.{own_member, own_init, row_of, order_in, row_above, function_of, member_along, init_along, init_behind_along}
+use Rattle.py_check_members.specs.Members.{own_member, own_declared, own_init, row_of, order_in, row_above, function_of, member_along, init_along, init_behind_along}
 use Rattle.py_check_members.specs.Tables.{above_by, bases_in, AreLinked}
 use Rattle.py_check_members.specs.Views.{own_of}
 
@@ -38,8 +38,7 @@ bases_found headers n = ap Rattle.py_typed.specs.Classes.bases_in (entry_found h
     by : (o : Option Header) → Rattle.py_typed.specs.Classes.bases_in (option_map entry o) ≡ bases_in o
     by None = refl
     by (Some (Typed s)) = refl
-    by (Some (Refused f)) = refl
-    by (Some Silent) = refl
+    by (Some (Untyped u)) = refl
 
 first_same : {A : Type 0} (f g : ℕ → Option A) (row : List ℕ) → ((b : ℕ) → f b ≡ g b) → first_there f row ≡ first_there g row
 first_same f g [] h = refl
@@ -132,6 +131,17 @@ own_found members name n = by (slice_get members n) ∙ sym (ap (λ o. lookup (b
     by None = refl
     by (Some m) = lookup_map member (bytes_eq name) m.own.entries
 
+-- where this is what a class has of its own and declares
+pub declared_found : (members : List ClassMembers) (name : List ℕ) (own : ClassMembers → Option Member) → ((m : ClassMembers) → own m ≡ option_and_then lookups.declared_of (lookups.own_member name m)) → (n : ℕ) → lookups.own_of own members n ≡ own_declared (map own_of members) name n
+declared_found members name own is n = by (slice_get members n) ∙ ap (option_and_then lookups.declared_of) (own_found members name n)
+  where
+    by : (o : Option ClassMembers) → option_and_then own o ≡ option_and_then lookups.declared_of (option_and_then (lookups.own_member name) o)
+    by None = refl
+    by (Some m) = is m
+
+or_same : {A : Type 0} (a b c d : Option A) → a ≡ b → c ≡ d → option_or a c ≡ option_or b d
+or_same a b c d p q = ap (λ o. option_or o c) p ∙ ap (option_or b) q
+
 pub init_found : (headers : List Header) (members : List ClassMembers) (n : ℕ) → AreLinked headers members → lookups.own_of lookups.own_init members n ≡ own_init (map own_of members) n
 init_found headers members n linked = by (slice_get members n) refl ∙ sym (ap (λ o. option_and_then function_of (lookup (bytes_eq (codes "__init__")) (row_of o))) (slice_get-map own_of members n))
   where
@@ -140,8 +150,14 @@ init_found headers members n linked = by (slice_get members n) refl ∙ sym (ap 
     by (Some m) e = (linked.each n m e).init
 
 module _ (headers : List Header) (orders : List (List ℕ)) (kept : AreKept (map entry headers) orders) (members : List ClassMembers) (long : length members ≡ length headers) (linked : AreLinked headers members) where
+  declared_is : (n : ℕ) (name : List ℕ) (own : ClassMembers → Option Member) → ((m : ClassMembers) → own m ≡ option_and_then lookups.declared_of (lookups.own_member name m)) → lookups.along own members n n ≡ first_there (own_declared (map own_of members) name) (order_in headers n)
+  declared_is n name own is = along_is headers orders kept own members long linked (own_declared (map own_of members) name) (declared_found members name own is) n n (omega arith)
+
+  any_is : (n : ℕ) (name : List ℕ) → lookups.along (lookups.own_member name) members n n ≡ first_there (own_member (map own_of members) name) (order_in headers n)
+  any_is n name = along_is headers orders kept (lookups.own_member name) members long linked (own_member (map own_of members) name) (own_found members name) n n (omega arith)
+
   pub member_is : (n : ℕ) (name : List ℕ) → lookups.member_in members n name ≡ member_along (map own_of members) headers n name
-  member_is n name = along_is headers orders kept (lookups.own_member name) members long linked (own_member (map own_of members) name) (own_found members name) n n (omega arith)
+  member_is n name = or_same _ _ _ _ (declared_is n name _ (λ m. refl)) (any_is n name)
 
   pub init_is : (n : ℕ) → lookups.init_in members n ≡ init_along (map own_of members) headers n
   init_is n = along_is headers orders kept lookups.own_init members long linked (own_init (map own_of members)) (λ b. init_found headers members b linked) n n (omega arith)

@@ -23,7 +23,7 @@ use Rattle.py_check_names.specs.Walked.{trees}
 use Rattle.py_check_names.specs.Outline.{held_by, method_in, methods_in}
 use Rattle.py_check_names.proofs.OutlineLemmas.{trees_at}
 use Rattle.py_check_classes.specs.declared.header.Header.{Header}
-use Rattle.py_check_classes.specs.declared.header.Header.TheVariants.{Typed, Refused, Silent}
+use Rattle.py_check_classes.specs.declared.header.Header.TheVariants.{Typed, Untyped}
 use Rattle.py_check_classes.specs.Headers as headers
 use Rattle.py_check_classes.specs.Names.{class_in, classes_in, said_of_names}
 use Rattle.py_check_classes.proofs.HeaderLemmas.{class_tree_at}
@@ -107,8 +107,7 @@ linked_none hs members e = record { each = λ n c f. absurd (let g = sym (ap (λ
 no_bases : (o : Option Header) → headers.has_type o ≡ false → bases_in o ≡ []
 no_bases None e = refl
 no_bases (Some (Typed s)) e = absurd (cc)
-no_bases (Some (Refused f)) e = refl
-no_bases (Some Silent) e = refl
+no_bases (Some (Untyped u)) e = refl
 
 pub typed_within : (hs : List Header) (n : ℕ) → headers.has_type (slice_get hs n) ≡ true → n < length hs
 typed_within [] n e = absurd (cc)

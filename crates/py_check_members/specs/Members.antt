@@ -15,7 +15,7 @@
 use Rattle.std.specs.Prelude.{ℕ, ◌+◌, Bool, true, false, not, ◌&&◌, if◌then◌else◌, nat_lt, List, [], ◌∷◌, ◌++◌, length, map, drop, Option, Some, None, is_none, slice_get, codes}
 use Rattle.std.specs.List.{list_any, filter_map, flat_map, position_from}
 use Rattle.std.specs.Map.{lookup}
-use Rattle.std.specs.Option.{option_map, option_and_then}
+use Rattle.std.specs.Option.{option_map, option_and_then, option_or}
 use Rattle.std.specs.Str.{bytes_eq}
 use Rattle.py_syntax.specs.declared.token.Span.{Span}
 use Rattle.py_syntax.specs.Expressions.{ExprTree}
@@ -27,7 +27,7 @@ use Rattle.py_typed.specs.Classes.{ClassEntry}
 use Rattle.py_typed.specs.Order.{first_there, order, listed_order}
 use Rattle.py_check_context.specs.declared.scope.Meaning.{Meaning}
 use Rattle.py_check_context.specs.declared.scope.Meaning.TheVariants.{Unknown}
-use Rattle.py_check_context.specs.Members.{Member, attribute, untyped, unknown, method}
+use Rattle.py_check_context.specs.Members.{Member, attribute, untyped, unknown, method, declared_of}
 use Rattle.py_check_names.specs.Outline.{held_by}
 use Rattle.py_check_names.specs.Meanings.{meaning_in}
 use Rattle.py_check_annotations.specs.Annotations.{annotation}
@@ -192,6 +192,10 @@ own_at owns n = row_of (slice_get owns n)
 abbrev pub own_member : Owns → List ℕ → ℕ → Option Member
 own_member owns name n = lookup (bytes_eq name) (own_at owns n)
 
+-- where it is declared
+abbrev pub own_declared : Owns → List ℕ → ℕ → Option Member
+own_declared owns name n = option_and_then declared_of (own_member owns name n)
+
 abbrev pub is_attribute : Option Member → Bool
 is_attribute (Some (attribute t)) = true
 is_attribute (Some untyped) = true
@@ -274,9 +278,10 @@ abbrev pub own_init : Owns → ℕ → Option ℕ
 own_init owns n = option_and_then function_of (own_member owns (codes "__init__") n)
 
 module _ (owns : Owns) (headers : List Header) where
-  -- THE MEMBER of a class: that of the first class along its order that has one of this name
+  -- THE MEMBER of a class: that of the first class along its order that declares one of this name, and where none does the first
+  -- attribute there that nothing declares
   abbrev pub member_along : ℕ → List ℕ → Option Member
-  member_along n name = first_there (own_member owns name) (order_in headers n)
+  member_along n name = option_or (first_there (own_declared owns name) (order_in headers n)) (first_there (own_member owns name) (order_in headers n))
 
   -- THE `__init__` of a class, and the next one behind it
   abbrev pub init_along : ℕ → Option ℕ

@@ -76,8 +76,7 @@ fn class_info(
 {
     match header {
         Some(Header::Typed(shape)) => typed_info(alloc, shape, &c.name, members),
-        Some(Header::Refused(_)) => bare_info(alloc, &c.name),
-        Some(Header::Silent) => bare_info(alloc, &c.name),
+        Some(Header::Untyped(_)) => bare_info(alloc, &c.name),
         None => bare_info(alloc, &c.name),
     }
 }

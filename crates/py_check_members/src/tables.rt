@@ -310,8 +310,7 @@ fn bases_in(header: Option<&Header>) -> &[usize]
 {
     match header {
         Some(Header::Typed(shape)) => shape.bases.as_slice(),
-        Some(Header::Refused(_)) => &[],
-        Some(Header::Silent) => &[],
+        Some(Header::Untyped(_)) => &[],
         None => &[],
     }
 }

@@ -18,13 +18,13 @@ use Rattle.py_typed.specs.WellTypedModule.{names_of, differing}
 use Rattle.py_check_context.specs.declared.scope.Meaning.{Meaning}
 use Rattle.py_check_context.specs.Members.{Member, attribute, untyped, unknown, method}
 use Rattle.py_check_classes.specs.declared.header.Header.{Header}
-use Rattle.py_check_classes.specs.declared.header.Header.TheVariants.{Typed, Refused, Silent}
+use Rattle.py_check_classes.specs.declared.header.Header.TheVariants.{Typed}
 use Rattle.py_check_classes.specs.declared.header.HeaderFault.{HeaderFault}
 use Rattle.py_check_classes.specs.declared.header.Shape.{Shape}
 use Rattle.py_check_classes.specs.Names.{classes_in, is_new, are_decorators}
 use Rattle.py_check_classes.specs.Rows.{differ}
 use Rattle.py_check_classes.specs.Bodies.{has_attributes, has_init}
-use Rattle.py_check_classes.specs.Headers.{has_type, is_a_trait, entry, are_bases, bases_fit, body_fits, early_fault, order_fault, fault, settled, is_untyped, is_earlier, bases_named, shape, header, headers_behind}
+use Rattle.py_check_classes.specs.Headers.{has_type, is_a_trait, entry, are_bases, bases_fit, body_fits, early_fault, order_fault, fault, without_type, settled, is_untyped, is_earlier, bases_named, shape, header, headers_behind}
 use Rattle.py_check_classes.specs.Laws.{IsSound, AreSound}
 use Rattle.py_check_classes.proofs.HeaderLemmas.{entry_found}
 use Rattle.py_check_classes.proofs.OrderLemmas.{same_orders}
@@ -69,7 +69,7 @@ module _ (said : List ℕ → Option Meaning) where
           last None z = header_same (shape said c) s z
           last (Some f) z = absurd (cc)
 
-      by : (b : Bool) → (if b then Silent else settled (shape said c) (fault said hs c)) ≡ Typed s → TypedParts said c s
+      by : (b : Bool) → (if b then without_type (shape said c).is_trait None else settled (shape said c) (fault said hs c)) ≡ Typed s → TypedParts said c s
       by true q = absurd (cc)
       by false q = early (early_fault hs (is_new said (length hs) c.name) (are_decorators said c.marks) (bases_named said c) (shape said c) c.body) refl q
 

@@ -16,13 +16,13 @@ use Rattle.py_typed.specs.Order as along
 use Rattle.py_typed.specs.Order.{first_there, named, order, listed_order}
 use Rattle.py_typed.specs.WellTyped.{all_differ, is_called_in}
 use Rattle.py_check_context.specs.declared.scope.Meaning.{Meaning}
-use Rattle.py_check_context.specs.Members.{Member, attribute, untyped, unknown, method}
+use Rattle.py_check_context.specs.Members.{Member, attribute, untyped, unknown, method, declared_of}
 use Rattle.py_check_annotations.specs.Annotations.{annotation}
 use Rattle.py_check_classes.specs.declared.header.Header.{Header}
 use Rattle.py_check_classes.specs.Names.{classes_in}
 use Rattle.py_check_classes.specs.Headers.{has_type, headers_behind}
 use Rattle.py_check_members.specs.Deeds.{Source, itself, annotated, literal, Deed, defines, declares, annotates, gives, sets, Event, init_function}
-use Rattle.py_check_members.specs.Members.{attribute_of, marked_sort, member_by, declares_by, is_unknown_by, places, each_once, made_from, Owns, own_at, own_member, order_in, row_above, ClassText, class_texts, inner_meaning, typed_own, own_behind, own_members, function_of, own_init, member_along, init_along, init_behind_along, sort_of, own_method, typed_attribute}
+use Rattle.py_check_members.specs.Members.{attribute_of, marked_sort, member_by, declares_by, is_unknown_by, places, each_once, made_from, Owns, own_at, own_member, own_declared, order_in, row_above, ClassText, class_texts, inner_meaning, typed_own, own_behind, own_members, function_of, own_init, member_along, init_along, init_behind_along, sort_of, own_method, typed_attribute}
 use Rattle.py_check_members_laws.specs.Laws.{IsMethodOf}
 use Rattle.py_check_members_laws.proofs.Rows.{none_more, swapped, same_text, Found, found_holds}
 use Rattle.py_check_members_laws.proofs.Events.{is_source, OfAssignments, body_holds}
@@ -212,11 +212,36 @@ module _ (said : List ℕ → Option Meaning) (meanings : List ℕ → Meaning) 
 
     -- ---- along the order of a class
 
+    -- what is first of the declared members, or else of all, is first of those that are seen by this
+    seen_first : {B : Type 0} (of : Member → Option B) (by : ℕ → Option B) (a : List ℕ) → ((n : ℕ) → by n ≡ option_and_then of (own_member os a n)) → ((m : Member) → option_and_then of (declared_of m) ≡ of m) → (m : Member) (b : B) → of m ≡ Some b
+        → (row : List ℕ) → option_or (first_there (own_declared os a) row) (first_there (own_member os a) row) ≡ Some m → first_there by row ≡ Some b
+    seen_first of by a same none m b q row h = one (first_there (own_declared os a) row) refl h
+      where
+        seen : (o : Option Member) → option_and_then of o ≡ option_and_then of (option_and_then declared_of o)
+        seen None = refl
+        seen (Some x) = sym (none x)
+
+        one : (o : Option Member) → first_there (own_declared os a) row ≡ o → option_or o (first_there (own_member os a) row) ≡ Some m → first_there by row ≡ Some b
+        one (Some x) e g = first_of (own_declared os a) by of (λ n. same n ∙ seen (own_member os a n)) m b q row (e ∙ g)
+        one None e g = first_of (own_member os a) by of same m b q row g
+
+    sorts_declared : (m : Member) → option_and_then sort_of (declared_of m) ≡ sort_of m
+    sorts_declared (attribute t) = refl
+    sorts_declared untyped = refl
+    sorts_declared (unknown place) = refl
+    sorts_declared (method f) = refl
+
+    functions_declared : (m : Member) → option_and_then function_of (declared_of m) ≡ function_of m
+    functions_declared (attribute t) = refl
+    functions_declared untyped = refl
+    functions_declared (unknown place) = refl
+    functions_declared (method f) = refl
+
     pub attributes_are : (n : ℕ) (a : List ℕ) (t : Sort) → member_along os hs n a ≡ Some (attribute t) → along.attribute_of es n a ≡ Some t
-    attributes_are n a t h = ap (first_there (along.own_attribute es a)) (row_same n) ∙ first_of (own_member os a) (along.own_attribute es a) sort_of (own_attributes a) (attribute t) t refl (order_in hs n) h
+    attributes_are n a t h = ap (first_there (along.own_attribute es a)) (row_same n) ∙ seen_first sort_of (along.own_attribute es a) a (own_attributes a) sorts_declared (attribute t) t refl (order_in hs n) h
 
     pub methods_are : (n : ℕ) (a : List ℕ) (f : ℕ) → member_along os hs n a ≡ Some (method f) → along.method_of es n a ≡ Some f
-    methods_are n a f h = ap (first_there (along.own_method es a)) (row_same n) ∙ first_of (own_member os a) (along.own_method es a) function_of (own_methods a) (method f) f refl (order_in hs n) h
+    methods_are n a f h = ap (first_there (along.own_method es a)) (row_same n) ∙ seen_first function_of (along.own_method es a) a (own_methods a) functions_declared (method f) f refl (order_in hs n) h
 
     pub inits_are : (n : ℕ) → along.method_of es n (codes "__init__") ≡ init_along os hs n
     inits_are n = ap (first_there (along.own_method es (codes "__init__"))) (row_same n) ∙ first_same (along.own_method es (codes "__init__")) (own_init os) (own_methods (codes "__init__")) (order_in hs n)
@@ -234,8 +259,23 @@ module _ (said : List ℕ → Option Meaning) (meanings : List ℕ → Meaning) 
     pub class : ℕ
     pub is : IsMethodOf hs definitions class f a
 
+  -- what is found along an order is a member of one of its classes
+  declared_own : (o : Option Member) (m : Member) → option_and_then declared_of o ≡ Some m → o ≡ Some m
+  declared_own None m h = absurd (cc)
+  declared_own (Some (attribute t)) m h = h
+  declared_own (Some untyped) m h = h
+  declared_own (Some (unknown place)) m h = absurd (cc)
+  declared_own (Some (method f)) m h = h
+
+  pub member_found : (n : ℕ) (a : List ℕ) (m : Member) → member_along os hs n a ≡ Some m → FoundAt (own_member os a) m
+  member_found n a m h = by (first_there (own_declared os a) (order_in hs n)) refl h
+    where
+      by : (o : Option Member) → first_there (own_declared os a) (order_in hs n) ≡ o → option_or o (first_there (own_member os a) (order_in hs n)) ≡ Some m → FoundAt (own_member os a) m
+      by (Some x) e g = let w = found_at (own_declared os a) m (order_in hs n) (e ∙ g) in record { place = w.place; is = declared_own (own_member os a w.place) m w.is }
+      by None e g = found_at (own_member os a) m (order_in hs n) g
+
   pub method_owned : (n : ℕ) (a : List ℕ) (f : ℕ) → member_along os hs n a ≡ Some (method f) → IsMethodBelow f a
-  method_owned n a f h = let w = found_at (own_member os a) (method f) (order_in hs n) h in record { class = w.place; is = own_function w.place f a w.is }
+  method_owned n a f h = let w = member_found n a (method f) h in record { class = w.place; is = own_function w.place f a w.is }
 
   init_owned : (row : List ℕ) (f : ℕ) → first_there (own_init os) row ≡ Some f → IsMethodBelow f (codes "__init__")
   init_owned row f h =

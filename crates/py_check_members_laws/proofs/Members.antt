@@ -28,11 +28,11 @@ use Rattle.py_check_classes.specs.Headers.{has_type}
 use Rattle.py_check_classes.specs.Bodies.{declared_name, defined_name, with_method, is_declared, declares_behind, has_attributes, is_init, has_init}
 use Rattle.py_check_members.specs.Deeds.{is_builtin_name, Deed, defines, declares, annotates, gives, sets, Event, event, event_of, taken_name, init_function, is_number, init_events, member_events, body_events, class_events}
 use Rattle.py_check_members.specs.Members.{is_of_body, is_of_init, is_of_body_by, Above, places, stands_before, is_annotation, deed_at, declares_by, is_unknown_by, member_by, made, made_from, each_once, Owns, own_at, row_of, above_in, row_above, ClassText, class_texts, inner_meaning, typed_own, own_behind, owns_behind, own_members}
-use Rattle.py_check_definitions.specs.Owners.{typed_class, owners_from}
+use Rattle.py_check_definitions.specs.Owners.{untyped_owner, class_owner, owners_from}
 use Rattle.py_check_members_laws.specs.Laws.{members_of, NamesDiffer, is_plain_method, PlainClassesHaveMethodsAlone, IsMethodOf, MethodsAreFunctions, is_name_new, with_name, are_defs_new, NewFunctionsAreMethods}
 use Rattle.py_check_members_laws.proofs.Rows.{none_more, zero_more, one_behind, clash, same_text, swapped, grouped, Behind, at_either, stands_in_front, both, once_differ, new_hold, Found, found_holds}
 use Rattle.py_check_members_laws.proofs.Events.{OfInit, init_of_init, IsDefined, Defines, body_defines, no_init}
-use Rattle.py_check_members_laws.proofs.Places.{IsPlaced, method_placed, IsOf, function_of_class, HasText, text_of_class, trees_of_texts, IsOwn, row_of_class, own_typed}
+use Rattle.py_check_members_laws.proofs.Places.{untyped_other, IsPlaced, method_placed, IsOf, function_of_class, HasText, text_of_class, trees_of_texts, IsOwn, row_of_class, own_typed}
 use Rattle.py_check_members_laws.proofs.Own.{method_defined, Makes, own_hold, IsFirst, first_is_member}
 
 pub all_there : {A : Type 0} (P : A → Type 0) (xs : List A) (i : ℕ) (x : A) → AllByRecursion P xs → slice_get xs i ≡ Some x → P x
@@ -139,8 +139,8 @@ module _ (headers : List Header) (meanings : List ℕ → Meaning) (inner : ℕ 
           tree = d.tree;
           there = ap (slice_get (flat_map held_by definitions)) (sym place) ∙ p.there;
           owned =
-              ap (slice_get (owners_from headers 0 definitions)) (sym place) ∙ p.owned ∙ ap (λ k. Some (Class (typed_class headers k))) (none_more n)
-              ∙ ap (λ b. Some (Class (if b then Some n else None))) typed;
+              ap (slice_get (owners_from headers 0 definitions)) (sym place) ∙ p.owned ∙ ap (λ k. Some (class_owner headers k)) (none_more n)
+              ∙ ap (λ b. Some (if b then Class (Some n) else untyped_owner headers n)) typed;
           named = d.named ∙ found.same;
         }
 
@@ -260,9 +260,9 @@ module _ (headers : List Header) (meanings : List ℕ → Meaning) (inner : ℕ 
         (λ k r. first_def (next + length (method_in x)) more (front ++ vs) (with_name earlier (taken_name x)) (e ∙ sym (append_assoc front vs rest)) (taken_more front vs earlier (taken_name x) t (events_take init next x)) p.1 k tree r)
         (at_either (method_in x) (methods_in more) j tree q)
 
-  typed_same : (b : Bool) (k n : ℕ) → has_type (slice_get headers k) ≡ b → (if b then Some k else None) ≡ Some n → (k ≡ n) × (has_type (slice_get headers n) ≡ true)
-  typed_same true k n e q = let same = same_Some k n q in (same, subst (λ i. has_type (slice_get headers i) ≡ true) same e)
-  typed_same false k n e q = absurd (cc)
+  typed_same : (b : Bool) (k n : ℕ) → has_type (slice_get headers k) ≡ b → (if b then Class (Some k) else untyped_owner headers k) ≡ Class (Some n) → (k ≡ n) × (has_type (slice_get headers n) ≡ true)
+  typed_same true k n e q = let same : k ≡ n = cc in (same, subst (λ i. has_type (slice_get headers i) ≡ true) same e)
+  typed_same false k n e q = absurd (untyped_other headers k n q)
 
   new_is_method : (definitions : List StmtTree) → list_all (λ x. are_defs_new [] x.body) (classes_in definitions) ≡ true → (n f : ℕ) (tree : FuncTree)
       → slice_get (flat_map held_by definitions) f ≡ Some tree → slice_get (owners_from headers 0 definitions) f ≡ Some (Class (Some n)) → lookup (bytes_eq tree.name) (members_of headers meanings inner definitions n) ≡ Some (method f)

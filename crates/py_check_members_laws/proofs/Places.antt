@@ -11,13 +11,21 @@ use Rattle.py_check_context.specs.declared.scope.Meaning.{Meaning}
 use Rattle.py_check_context.specs.Members.{Member}
 use Rattle.py_check_names.specs.Outline.{methods_in, held_by}
 use Rattle.py_check_signatures.specs.declared.headers.Owner.{Owner}
-use Rattle.py_check_signatures.specs.declared.headers.Owner.TheVariants.{Module, Class}
+use Rattle.py_check_signatures.specs.declared.headers.Owner.TheVariants.{Module, Class, UntypedTrait}
 use Rattle.py_check_classes.specs.declared.header.Header.{Header}
 use Rattle.py_check_classes.specs.Names.{class_in, classes_in}
-use Rattle.py_check_classes.specs.Headers.{has_type}
+use Rattle.py_check_classes.specs.Headers.{has_type, is_untyped_trait}
 use Rattle.py_check_members.specs.Members.{Owns, own_at, row_of, ClassText, class_text, class_texts, typed_own, own_behind, owns_behind, own_members}
-use Rattle.py_check_definitions.specs.Owners.{typed_class, owners_in, owners_from}
+use Rattle.py_check_definitions.specs.Owners.{untyped_owner, class_owner, owners_in, owners_from}
 use Rattle.py_check_members_laws.proofs.Rows.{none_more, zero_more, grouped, one_behind, at_front, at_back, Behind, at_either}
+
+-- the methods of a class without a type are of none that has one
+pub untyped_other : (headers : List Header) (k n : ℕ) → untyped_owner headers k ≡ Class (Some n) → ⊥
+untyped_other headers k n q = by (is_untyped_trait (slice_get headers k)) q
+  where
+    by : (b : Bool) → (if b then UntypedTrait else Class None) ≡ Class (Some n) → ⊥
+    by true r = cc
+    by false r = cc
 
 -- ---- functions
 
@@ -27,11 +35,11 @@ module _ (headers : List Header) where
     pub place : ℕ
     pub number : next + place ≡ x.first + j
     pub there : slice_get (flat_map held_by definitions) place ≡ Some tree
-    pub owned : slice_get (owners_from headers classes definitions) place ≡ Some (Class (typed_class headers (classes + i)))
+    pub owned : slice_get (owners_from headers classes definitions) place ≡ Some (class_owner headers (classes + i))
 
   owned_long : (n : ℕ) (d : StmtTree) → length (owners_in headers n d) ≡ length (held_by d)
   owned_long n (s.at (s.Def name params ret body marks) span) = refl
-  owned_long n (s.at (s.ClassDef name bases body marks) span) = length-map (methods_in body) (λ (f : FuncTree). Class (typed_class headers n))
+  owned_long n (s.at (s.ClassDef name bases body marks) span) = length-map (methods_in body) (λ (f : FuncTree). class_owner headers n)
   owned_long n (s.at _ span) = refl
 
   all_owned : {A B : Type 0} (b : B) (xs : List A) (j : ℕ) (a : A) → slice_get xs j ≡ Some a → slice_get (map (λ (x : A). b) xs) j ≡ Some b
@@ -48,7 +56,7 @@ module _ (headers : List Header) where
     owned =
         ap (λ n. slice_get (owners_from headers classes (d ∷ more)) (n + p.place)) (sym (owned_long classes d))
         ∙ at_back (owners_in headers classes d) (owners_from headers (classes + length (class_in d)) more) p.place
-        ∙ p.owned ∙ ap (λ n. Some (Class (typed_class headers n))) (sym (grouped classes (length (class_in d)) i));
+        ∙ p.owned ∙ ap (λ n. Some (class_owner headers n)) (sym (grouped classes (length (class_in d)) i));
   }
 
   front_placed : (next classes : ℕ) (d : StmtTree) (more : List StmtTree) (i : ℕ) (x : ClassText) (j : ℕ) (tree : FuncTree) → slice_get (map (class_text next) (class_in d)) i ≡ Some x → slice_get (methods_in x.tree.body) j ≡ Some tree → IsPlaced next classes (d ∷ more) x i j tree
@@ -61,8 +69,8 @@ module _ (headers : List Header) where
         number = ap (λ (y : ClassText). y.first + j) same;
         there = at_front (methods_in body) (flat_map held_by more) j tree there;
         owned =
-            at_front (map (λ (f : FuncTree). Class (typed_class headers classes)) (methods_in body)) (owners_from headers (classes + 1) more) j (Class (typed_class headers classes)) (all_owned (Class (typed_class headers classes)) (methods_in body) j tree there)
-            ∙ ap (λ n. Some (Class (typed_class headers n))) (sym (zero_more classes));
+            at_front (map (λ (f : FuncTree). class_owner headers classes) (methods_in body)) (owners_from headers (classes + 1) more) j (class_owner headers classes) (all_owned (class_owner headers classes) (methods_in body) j tree there)
+            ∙ ap (λ n. Some (class_owner headers n)) (sym (zero_more classes));
       }
   front_placed next classes (s.at (s.ClassDef name bases body marks) span) more (suc i) x j tree h k = absurd (cc)
   front_placed next classes (s.at _ span) more i x j tree h k = absurd (cc)
@@ -88,7 +96,7 @@ module _ (headers : List Header) where
     pub found : slice_get (class_texts next definitions) class ≡ Some text
     pub there : slice_get (methods_in text.tree.body) place ≡ Some tree
     pub number : next + f ≡ text.first + place
-    pub same : typed_class headers (classes + class) ≡ Some n
+    pub same : class_owner headers (classes + class) ≡ Class (Some n)
 
   of_behind : (next classes : ℕ) (d : StmtTree) (more : List StmtTree) (f n rest : ℕ) (tree : FuncTree) → f ≡ length (held_by d) + rest → IsOf (next + length (held_by d)) (classes + length (class_in d)) more rest n tree → IsOf next classes (d ∷ more) f n tree
   of_behind next classes d more f n rest tree q o = record {
@@ -99,18 +107,15 @@ module _ (headers : List Header) where
     there = o.there;
     number = ap (λ k. next + k) q ∙ grouped next (length (held_by d)) rest ∙ o.number;
     same =
-        ap (λ k. typed_class headers (classes + (k + o.class))) (length-map (class_in d) (class_text next))
-        ∙ ap (typed_class headers) (grouped classes (length (class_in d)) o.class) ∙ o.same;
+        ap (λ k. class_owner headers (classes + (k + o.class))) (length-map (class_in d) (class_text next))
+        ∙ ap (class_owner headers) (grouped classes (length (class_in d)) o.class) ∙ o.same;
   }
-
-  class_same : (a b : Option ℕ) → Class a ≡ Class b → a ≡ b
-  class_same a b q = cc
 
   front_of : (next classes : ℕ) (d : StmtTree) (more : List StmtTree) (f n : ℕ) (tree : FuncTree) → slice_get (held_by d) f ≡ Some tree → slice_get (owners_in headers classes d ++ owners_from headers (classes + length (class_in d)) more) f ≡ Some (Class (Some n)) → IsOf next classes (d ∷ more) f n tree
   front_of next classes (s.at (s.Def name params ret body marks) span) more zero n tree h k = absurd (cc)
   front_of next classes (s.at (s.Def name params ret body marks) span) more (suc f) n tree h k = absurd (cc)
   front_of next classes (s.at (s.ClassDef name bases body marks) span) more f n tree h k =
-      let mine = Class (typed_class headers classes) in
+      let mine = class_owner headers classes in
       let front = at_front (map (λ (g : FuncTree). mine) (methods_in body)) (owners_from headers (classes + 1) more) f mine (all_owned mine (methods_in body) f tree h) in
       record {
         class = 0;
@@ -119,7 +124,7 @@ module _ (headers : List Header) where
         found = refl;
         there = h;
         number = refl;
-        same = ap (typed_class headers) (zero_more classes) ∙ class_same (typed_class headers classes) (Some n) (same_Some mine (Class (Some n)) (sym front ∙ k));
+        same = ap (class_owner headers) (zero_more classes) ∙ same_Some mine (Class (Some n)) (sym front ∙ k);
       }
   front_of next classes (s.at _ span) more f n tree h k = absurd (cc)
 

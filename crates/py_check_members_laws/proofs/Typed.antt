@@ -18,7 +18,7 @@ use Rattle.py_typed.specs.WellTypedModule.{names_of, differing, bases_typed, has
 use Rattle.py_check_context.specs.declared.scope.Meaning.{Meaning}
 use Rattle.py_check_context.specs.Members.{Member, attribute, untyped, unknown, method}
 use Rattle.py_check_classes.specs.declared.header.Header.{Header}
-use Rattle.py_check_classes.specs.declared.header.Header.TheVariants.{Typed, Refused, Silent}
+use Rattle.py_check_classes.specs.declared.header.Header.TheVariants.{Typed, Untyped}
 use Rattle.py_check_classes.specs.declared.header.Shape.{Shape}
 use Rattle.py_check_classes.specs.Names.{classes_in}
 use Rattle.py_check_classes.specs.Rows.{differ}
@@ -127,20 +127,17 @@ below_of headers n (b ∷ bases) h =
 typed_by : (o : Option Header) → has_type o ≡ true → (s : Shape) × (o ≡ Some (Typed s))
 typed_by None h = absurd (cc)
 typed_by (Some (Typed s)) h = (s, refl)
-typed_by (Some (Refused f)) h = absurd (cc)
-typed_by (Some Silent) h = absurd (cc)
+typed_by (Some (Untyped u)) h = absurd (cc)
 
 entry_bases : (o : Option Header) (name : List ℕ) (own : List (List ℕ × Member)) → bases_in (option_map entry o) ≡ (class_entry_of o name own).bases
 entry_bases None name own = refl
 entry_bases (Some (Typed s)) name own = refl
-entry_bases (Some (Refused f)) name own = refl
-entry_bases (Some Silent) name own = refl
+entry_bases (Some (Untyped u)) name own = refl
 
 trait_entry : (o : Option Header) (name : List ℕ) (own : List (List ℕ × Member)) → is_a_trait o ≡ true → (class_entry_of o name own).is_trait ≡ true
 trait_entry None name own h = absurd (cc)
 trait_entry (Some (Typed s)) name own h = h
-trait_entry (Some (Refused f)) name own h = absurd (cc)
-trait_entry (Some Silent) name own h = absurd (cc)
+trait_entry (Some (Untyped u)) name own h = absurd (cc)
 
 module _ (said : List ℕ → Option Meaning) (meanings : List ℕ → Meaning) (inner : ℕ → List ℕ → Meaning) (definitions : List StmtTree) where
   abbrev pub heads : List Header

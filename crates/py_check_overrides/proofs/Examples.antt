@@ -3,7 +3,8 @@ use Rattle.std.proofs.Common.{◌≡◌, ℕ, Bool, true, false, List, [], ◌�
 use Rattle.py_typed.specs.Sorts.{Sort, Int, Str, Nothing}
 use Rattle.class_layout_members.specs.Clashes.{OfType, OfSignature}
 use Rattle.py_check_classes.specs.declared.header.Header.{Header}
-use Rattle.py_check_classes.specs.declared.header.Header.TheVariants.{Typed, Silent}
+use Rattle.py_check_classes.specs.declared.header.Header.TheVariants.{Typed}
+use Rattle.py_check_classes.specs.Headers as headers
 use Rattle.py_check_overrides.specs.Overrides.{Own, passes, fails, silent, clash_in, verdicts}
 
 abbrev class : Bool → List ℕ → Header
@@ -39,5 +40,5 @@ first_is_named : verdicts (class false [] ∷ class false (0 ∷ []) ∷ class f
 first_is_named = refl
 
 -- a class without a type is not asked
-untyped : verdicts (Silent ∷ []) ((attribute (codes "x") Int ∷ attribute (codes "x") Str ∷ []) ∷ []) ≡ silent ∷ []
+untyped : verdicts (headers.without_type false None ∷ []) ((attribute (codes "x") Int ∷ attribute (codes "x") Str ∷ []) ∷ []) ≡ silent ∷ []
 untyped = refl

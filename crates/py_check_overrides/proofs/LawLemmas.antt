@@ -9,7 +9,7 @@ use Rattle.py_typed.proofs.FitLemmas.{and_left, and_right}
 use Rattle.class_layout_members.specs.Clashes as members
 use Rattle.class_layout_members.specs.Clashes.{Definition, own_members, members_along, clash_among, clashes}
 use Rattle.py_check_classes.specs.declared.header.Header.{Header}
-use Rattle.py_check_classes.specs.declared.header.Header.TheVariants.{Typed, Refused, Silent}
+use Rattle.py_check_classes.specs.declared.header.Header.TheVariants.{Typed, Untyped}
 use Rattle.py_check_classes.specs.declared.header.Shape.{Shape}
 use Rattle.py_check_classes.specs.Headers.{has_type, entry}
 use Rattle.py_check_classes.specs.Laws.{AreSound}
@@ -63,8 +63,7 @@ all_other p r (a ∷ row) h e = ap₂ (λ x y. x && y) (h a (and_left (p a) (lis
 shape_of : (o : Option Header) → has_type o ≡ true → (s : Shape) × (o ≡ Some (Typed s))
 shape_of None e = absurd (cc)
 shape_of (Some (Typed s)) e = (s, refl)
-shape_of (Some (Refused f)) e = absurd (cc)
-shape_of (Some Silent) e = absurd (cc)
+shape_of (Some (Untyped u)) e = absurd (cc)
 
 module _ (headers : List Header) (owns : List (List Own)) (sound : AreSound headers) (none : NoneFails headers owns) where
   abbrev all : List Verdict

@@ -17,7 +17,7 @@ use Rattle.py_typed.specs.Classes.{ClassEntry}
 use Rattle.py_typed.specs.Order.{order, listed_order}
 use Rattle.class_layout_members.specs.Clashes.{Definition, differs, clashes}
 use Rattle.py_check_classes.specs.declared.header.Header.{Header}
-use Rattle.py_check_classes.specs.declared.header.Header.TheVariants.{Typed, Refused, Silent}
+use Rattle.py_check_classes.specs.declared.header.Header.TheVariants.{Typed, Untyped}
 use Rattle.py_check_classes.specs.Headers.{entry}
 use Rattle.py_check_messages.specs.Seen.{diag}
 use Rattle.py_check_messages.specs.Messages as message
@@ -93,8 +93,7 @@ module _ (classes : List ClassEntry) (owns : List (List Own)) where
   -- THE VERDICT on a class, behind those on the classes before it
   abbrev pub verdict : List Verdict → Header → Verdict
   verdict before (Typed s) = if list_all (λ b. passed (slice_get before b)) s.bases then judged (clash_of (length before)) else silent
-  verdict before (Refused f) = silent
-  verdict before Silent = silent
+  verdict before (Untyped u) = silent
 
   abbrev pub verdicts_behind : List Verdict → List Header → List Verdict
   verdicts_behind before [] = before

@@ -76,8 +76,7 @@ fn judge<'a>(
 {
     match header {
         Header::Typed(shape) => judge_typed(alloc, classes, before, lines, shape.bases.as_slice()),
-        Header::Refused(_) => Ok(silent(alloc)),
-        Header::Silent => Ok(silent(alloc)),
+        Header::Untyped(_) => Ok(silent(alloc)),
     }
 }
 

@@ -23,7 +23,7 @@ use Rattle.py_check_flow.specs.Closed.{is_closed}
 use Rattle.py_check_names.specs.Builtins.{builtin_meaning}
 use Rattle.py_check_names.specs.Meanings.{is_own}
 use Rattle.py_check_signatures.specs.declared.headers.Owner.{Owner}
-use Rattle.py_check_signatures.specs.declared.headers.Owner.TheVariants.{Module, Class}
+use Rattle.py_check_signatures.specs.declared.headers.Owner.TheVariants.{Module, Class, UntypedTrait}
 use Rattle.py_check_signatures.specs.Headers.{HeaderSorts, asked, is_init}
 
 -- a name that nothing defined before, and no builtin
@@ -52,6 +52,7 @@ is_special name = nat_lt 4 (length name) && (starts_with nat_eq name (codes "__"
 abbrev pub no_method_name : Owner → List ℕ → Bool
 no_method_name Module name = false
 no_method_name (Class c) name = is_special name && not (is_init (Class c) name)
+no_method_name UntypedTrait name = is_special name && not (is_init UntypedTrait name)
 
 -- an annotation on the first parameter of a method
 abbrev pub first_marked : List (List ℕ × Option ExprTree) → Bool
@@ -61,10 +62,12 @@ first_marked (p ∷ more) = is_some p.1
 abbrev pub own_marked : Owner → List (List ℕ × Option ExprTree) → Bool
 own_marked Module params = false
 own_marked (Class c) params = first_marked params
+own_marked UntypedTrait params = first_marked params
 
 -- a method without a first parameter
 abbrev pub lacks_own : Owner → List (List ℕ × Option ExprTree) → Bool
 lacks_own (Class c) [] = true
+lacks_own UntypedTrait [] = true
 lacks_own owner params = false
 
 -- ---- the row

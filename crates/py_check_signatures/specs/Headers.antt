@@ -17,7 +17,7 @@ use Rattle.py_check_context.specs.declared.scope.Meaning.{Meaning}
 use Rattle.py_check_messages.specs.Seen.{Seen, silent}
 use Rattle.py_check_annotations.specs.Annotations.{annotation, return_annotation}
 use Rattle.py_check_signatures.specs.declared.headers.Owner.{Owner}
-use Rattle.py_check_signatures.specs.declared.headers.Owner.TheVariants.{Module, Class}
+use Rattle.py_check_signatures.specs.declared.headers.Owner.TheVariants.{Module, Class, UntypedTrait}
 
 -- where it is defined; the types of the parameters by their numbers and of what is returned, where there is one; and whether each
 -- annotation that stands there has one
@@ -46,16 +46,19 @@ with_own own (t ∷ more) = own ∷ more
 abbrev pub types_at : Owner → List (Option Sort) → List (Option Sort)
 types_at Module types = types
 types_at (Class c) types = with_own (own_type c) types
+types_at UntypedTrait types = with_own None types
 
 -- of a row of parameters those that belong to the signature
 abbrev pub asked : {A : Type 0} → Owner → List A → List A
 asked Module params = params
 asked (Class c) params = drop 1 params
+asked UntypedTrait params = drop 1 params
 
 -- the function is an `__init__`
 abbrev pub is_init : Owner → List ℕ → Bool
 is_init Module name = false
 is_init (Class c) name = bytes_eq name (codes "__init__")
+is_init UntypedTrait name = bytes_eq name (codes "__init__")
 
 -- what is returned by this annotation of that type: by an `__init__` only None
 abbrev pub only_none : Option Sort → Option Sort

@@ -157,7 +157,7 @@ fn no_method_name(owner: Owner, name: &Name) -> bool
 {
     match owner {
         Owner::Module => false,
-        Owner::Class(_) => is_special(name) && !is_init(owner, name),
+        Owner::Class(_) | Owner::UntypedTrait => is_special(name) && !is_init(owner, name),
     }
 }
 
@@ -175,7 +175,7 @@ fn own_marked(owner: Owner, params: &[(Name, Option<Expr>)]) -> bool
 {
     match owner {
         Owner::Module => false,
-        Owner::Class(_) => first_marked(params),
+        Owner::Class(_) | Owner::UntypedTrait => first_marked(params),
     }
 }
 
@@ -194,7 +194,7 @@ fn lacks_own(owner: Owner, params: &[(Name, Option<Expr>)]) -> bool
 {
     match owner {
         Owner::Module => false,
-        Owner::Class(_) => params.is_empty(),
+        Owner::Class(_) | Owner::UntypedTrait => params.is_empty(),
     }
 }
 

@@ -24,6 +24,8 @@ pub enum Owner {
     Module,
     /// In a class, by its number, where that has a type.
     Class(Option<usize>),
+    /// In a class that is marked `trait` and has no type.
+    UntypedTrait,
 }
 
 /// Where a function is defined, and the types of its annotations: of each parameter, by its number, and of what is returned. Where
@@ -82,6 +84,7 @@ fn put_own(owner: Owner, types: &mut Many<Option<Ty>>)
     match owner {
         Owner::Module => {}
         Owner::Class(class) => put_first(own_type(class), types),
+        Owner::UntypedTrait => put_first(None, types),
     }
 }
 
@@ -108,7 +111,7 @@ pub fn is_init(owner: Owner, name: &Name) -> bool
 {
     match owner {
         Owner::Module => false,
-        Owner::Class(_) => name.as_str() == "__init__",
+        Owner::Class(_) | Owner::UntypedTrait => name.as_str() == "__init__",
     }
 }
 
@@ -226,7 +229,7 @@ pub(crate) fn asked<T>(owner: Owner, params: &[T]) -> &[T]
 {
     match owner {
         Owner::Module => params,
-        Owner::Class(_) => behind_first(params),
+        Owner::Class(_) | Owner::UntypedTrait => behind_first(params),
     }
 }
 

@@ -18,7 +18,7 @@ use Rattle.py_check_context.specs.Members.{Member, attribute, untyped, unknown, 
 use Rattle.py_check_flow.specs.Bindings.{name_in}
 use Rattle.py_check_names.specs.Outline.{method_in, held_by, stmt_definitions, node_definitions, suite_definitions, arms_definitions, handlers_definitions, last_definitions}
 use Rattle.py_check_classes.specs.declared.header.Header.{Header}
-use Rattle.py_check_classes.specs.declared.header.Header.TheVariants.{Typed, Refused, Silent}
+use Rattle.py_check_classes.specs.declared.header.Header.TheVariants.{Typed, Untyped}
 use Rattle.py_check_classes.specs.Names.{class_in}
 use Rattle.py_check_classes.specs.Headers.{has_type}
 use Rattle.py_check_members.specs.Deeds.{Deed, declares, defines, annotates, sets, Event, event, stmt_assignments, node_assignments, suite_assignments, arms_assignments, handlers_assignments, last_assignments, place_of, is_named, attribute_in, source_in, assigned, event_of, set_in, targets_in, node_targets, row_targets, assignment, act_events, stmt_events, init_events, is_number, init_function, method_events, member_events, body_events, class_events}
@@ -282,8 +282,7 @@ module _ (tests : Tests) where
   entry_passes : (header : Option Header) (name : List ℕ) (own : List (List ℕ × Member)) → NamePasses name → RowPasses own → is_named_well (class_entry_of header name own) ≡ true
   entry_passes (Some (Typed s)) name own h k =
       and_from (tests.name name) _ h (all_two (names_of (filter_map typed_attribute own)) (names_of (filter_map own_method own)) (kept_pass sort_of own k) (kept_pass function_of own k))
-  entry_passes (Some (Refused f)) name own h k = and_from (tests.name name) true h refl
-  entry_passes (Some Silent) name own h k = and_from (tests.name name) true h refl
+  entry_passes (Some (Untyped u)) name own h k = and_from (tests.name name) true h refl
   entry_passes None name own h k = and_from (tests.name name) true h refl
 
   row_there : (owns : Owns) → OwnsPass owns → (n : ℕ) → RowPasses (row_of (slice_get owns n))

@@ -1,4 +1,4 @@
-use Rattle.std.proofs.Common.{◌≡◌, ◌∙◌, ℕ, Bool, List, ◌++◌, map, Option, Some, IfOk, refl, ap, sym, subst}
+use Rattle.std.proofs.Common.{◌≡◌, ◌∙◌, ◌++◌, ℕ, Bool, false, List, map, Option, Some, None, IfOk, refl, ap, sym, subst}
 use Rattle.std.proofs.Math.Path.{fun_ext}
 use Rattle.std.specs.Option.{option_map, option_and_then}
 use Rattle.py_syntax.specs.declared.token.Span.{Span}
@@ -16,7 +16,7 @@ use Rattle.py_check.specs.Parts.{module_context_of}
 use Rattle.py_check_definitions.proofs.FunctionLemmas.{headed_same}
 use Rattle.py_check.proofs.WholeLemmas.{method_context}
 use Rattle.py_check.proofs.bodies.typed_function.Goals as goal
-use Rattle.py_check.proofs.bodies.typed_function.Goals.{in-Module, in-Class}
+use Rattle.py_check.proofs.bodies.typed_function.Goals.{in-Module, in-Class, in-UntypedTrait}
 
 -- a method by its parts
 abbrev method_by : Option ℕ → Option (List ℕ) → Bool → (List ℕ → Option Span) → Option ℕ → Inside
@@ -32,16 +32,25 @@ method_found w f class is first a init b declaring c next d =
     ∙ ap (λ (x : Option ℕ). Some (method_by class (first_name f.tree.params) (is_init f.header.owner f.tree.name) (declaring_in w class) x)) d
     ∙ sym (ap (inside_by w f) is)
 
+trait_found : (w : MembersKnown) (f : Headed) → f.header.owner ≡ owner.UntypedTrait → (first : Option (List ℕ)) → first ≡ first_name f.tree.params → (declaring : List ℕ → Option Span) → ((name : List ℕ) → declaring name ≡ None)
+    → Some (method_by None first false declaring None) ≡ inside_by w f f.header.owner
+trait_found w f is first a declaring c =
+    ap (λ (x : Option (List ℕ)). Some (method_by None x false declaring None)) a
+    ∙ ap (λ (x : List ℕ → Option Span). Some (method_by None (first_name f.tree.params) false x None)) (fun_ext c)
+    ∙ sym (ap (inside_by w f) is)
+
 pub returns-clause-typed : goal.returns-clause-typed
 returns-clause-typed c =
     let e = module_context_of c.args.module_context.now in
     let h = headed_parts c.args.f.now in
+    let first = c.first_name-first.ensures ∙ ap (λ l. first_name (map param_tree l)) c.as_slice.ensures in
     let found : option_map inside c.match-f.inside ≡ inside_by e.members h h.header.owner =
     elim c.match-f.branch [
       | in-Module w ↦ ap (option_map inside) w.inside-is ∙ sym (ap (inside_by e.members h) w.in-Module.is)
       | in-Class w ↦
           ap (option_map inside) w.inside-is
-          ∙ method_found e.members h w.in-Class.class w.in-Class.is _ (w.first_name.ensures ∙ ap (λ l. first_name (map param_tree l)) w.as_slice.ensures) w.is_init.result w.is_init.ensures _ w.declaring_of.ensures w.next_init_of.result w.next_init_of.ensures
+          ∙ method_found e.members h w.in-Class.class w.in-Class.is _ first w.is_init.result w.is_init.ensures _ w.declaring_of.ensures w.next_init_of.result w.next_init_of.ensures
+      | in-UntypedTrait w ↦ ap (option_map inside) w.inside-is ∙ trait_found e.members h w.in-UntypedTrait.is _ first _ c.requires
     ] in
     let P : Context → Type 0 = λ w. IfOk c.function_in.result (λ t. typed_func t ≡ typed_function w e.variables (known_at c.args.place.now).types.globals h) in
     let Q : Headed → Type 0 = λ f. IfOk c.function_in.result (λ t. typed_func t ≡ typed_function (function_context e f) e.variables (known_at c.args.place.now).types.globals f) in
@@ -51,12 +60,14 @@ pub returns-clause-told : goal.returns-clause-told
 returns-clause-told c =
     let e = module_context_of c.args.module_context.now in
     let h = headed_parts c.args.f.now in
+    let first = c.first_name-first.ensures ∙ ap (λ l. first_name (map param_tree l)) c.as_slice.ensures in
     let found : option_map inside c.match-f.inside ≡ inside_by e.members h h.header.owner =
     elim c.match-f.branch [
       | in-Module w ↦ ap (option_map inside) w.inside-is ∙ sym (ap (inside_by e.members h) w.in-Module.is)
       | in-Class w ↦
           ap (option_map inside) w.inside-is
-          ∙ method_found e.members h w.in-Class.class w.in-Class.is _ (w.first_name.ensures ∙ ap (λ l. first_name (map param_tree l)) w.as_slice.ensures) w.is_init.result w.is_init.ensures _ w.declaring_of.ensures w.next_init_of.result w.next_init_of.ensures
+          ∙ method_found e.members h w.in-Class.class w.in-Class.is _ first w.is_init.result w.is_init.ensures _ w.declaring_of.ensures w.next_init_of.result w.next_init_of.ensures
+      | in-UntypedTrait w ↦ ap (option_map inside) w.inside-is ∙ trait_found e.members h w.in-UntypedTrait.is _ first _ c.requires
     ] in
     let P : Context → Type 0 = λ w. IfOk c.function_in.result (λ t. c.function_in.new.faults ≡ c.args.faults.now ++ (body w e.variables (known_at c.args.place.now).types.globals h).said) in
     let Q : Headed → Type 0 = λ f. IfOk c.function_in.result (λ t. c.function_in.new.faults ≡ c.args.faults.now ++ (body (function_context e f) e.variables (known_at c.args.place.now).types.globals f).said) in
@@ -66,12 +77,14 @@ pub returns-clause-known : goal.returns-clause-known
 returns-clause-known c =
     let e = module_context_of c.args.module_context.now in
     let h = headed_parts c.args.f.now in
+    let first = c.first_name-first.ensures ∙ ap (λ l. first_name (map param_tree l)) c.as_slice.ensures in
     let found : option_map inside c.match-f.inside ≡ inside_by e.members h h.header.owner =
     elim c.match-f.branch [
       | in-Module w ↦ ap (option_map inside) w.inside-is ∙ sym (ap (inside_by e.members h) w.in-Module.is)
       | in-Class w ↦
           ap (option_map inside) w.inside-is
-          ∙ method_found e.members h w.in-Class.class w.in-Class.is _ (w.first_name.ensures ∙ ap (λ l. first_name (map param_tree l)) w.as_slice.ensures) w.is_init.result w.is_init.ensures _ w.declaring_of.ensures w.next_init_of.result w.next_init_of.ensures
+          ∙ method_found e.members h w.in-Class.class w.in-Class.is _ first w.is_init.result w.is_init.ensures _ w.declaring_of.ensures w.next_init_of.result w.next_init_of.ensures
+      | in-UntypedTrait w ↦ ap (option_map inside) w.inside-is ∙ trait_found e.members h w.in-UntypedTrait.is _ first _ c.requires
     ] in
     let P : Context → Type 0 = λ w. IfOk c.function_in.result (λ t. (known_at c.function_in.new.place).types.globals ≡ (body_after w e.variables (known_at c.args.place.now).types.globals h).types.globals) in
     let Q : Headed → Type 0 = λ f. IfOk c.function_in.result (λ t. (known_at c.function_in.new.place).types.globals ≡ (body_after (function_context e f) e.variables (known_at c.args.place.now).types.globals f).types.globals) in

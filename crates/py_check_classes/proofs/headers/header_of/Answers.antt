@@ -16,8 +16,10 @@ returns-then-untyped c =
     record {
       header = silent_header (get bytes_eq c.args.said.now) c.args.headers.now (class_parts c.args.c.now) c.as_slice-named.result.now
           (c.as_slice-named.ensures ∙ c.in_ok-numbers.ensures ∙ ap (λ b. map (class_named (get bytes_eq c.args.said.now)) (map expr_tree b)) c.as_slice-bases.ensures)
-          c.without_order.result.header (sym c.if-untyped.true ∙ c.has_untyped-untyped.ensures) c.without_order.ensures.header;
-      order = bare_kept c.args.headers.now c.without_order.result.header c.without_order.result.order (ap (λ z. (entry z).bases) c.without_order.ensures.header) c.without_order.ensures.order;
+          c.without_type.result.header c.is_trait_mark-is_trait.result
+          (c.is_trait_mark-is_trait.ensures ∙ ap (λ m. is_trait_mark (get bytes_eq c.args.said.now) (map expr_tree m)) c.as_slice-marks.ensures)
+          (sym c.if-untyped.true ∙ c.has_untyped-untyped.ensures) c.without_type.ensures.header;
+      order = bare_kept c.args.headers.now c.without_type.result.header c.without_type.result.order (ap (λ z. (entry z).bases) c.without_type.ensures.header) c.without_type.ensures.order;
     }
 
 pub ordered-requires : goal.ordered-requires
@@ -38,12 +40,12 @@ returns-in-Some c =
           (c.is_trait_mark-is_trait.ensures ∙ ap (λ m. is_trait_mark (get bytes_eq c.args.said.now) (map expr_tree m)) c.as_slice-marks.ensures)
           c.in_ok-bases.ensures
           (sym c.if-untyped.false ∙ c.has_untyped-untyped.ensures)
-          c.is_new-new.result c.are_decorators-marked.result (Some c.in-Some.fault) c.without_order-in-Some.result.header
+          c.is_new-new.result c.are_decorators-marked.result (Some c.in-Some.fault) c.without_type-in-Some.result.header
           c.is_new-new.ensures
           (c.are_decorators-marked.ensures ∙ ap (λ m. are_decorators (get bytes_eq c.args.said.now) (map expr_tree m)) c.as_slice-marks.ensures)
           (sym c.in-Some.is ∙ c.in_ok-early.ensures ∙ ap (λ b. early_fault c.args.headers.now c.is_new-new.result c.are_decorators-marked.result c.as_slice-named.result.now shape (body_tree b)) c.as_slice-body.ensures)
-          c.without_order-in-Some.ensures.header;
-      order = bare_kept c.args.headers.now c.without_order-in-Some.result.header c.without_order-in-Some.result.order (ap (λ z. (entry z).bases) c.without_order-in-Some.ensures.header) c.without_order-in-Some.ensures.order;
+          c.without_type-in-Some.ensures.header;
+      order = bare_kept c.args.headers.now c.without_type-in-Some.result.header c.without_type-in-Some.result.order (ap (λ z. (entry z).bases) c.without_type-in-Some.ensures.header) c.without_type-in-Some.ensures.order;
     }
 
 pub returns : goal.returns

@@ -25,6 +25,6 @@ returns-in-Some c =
 pub returns-in-None : goal.returns-in-None
 returns-in-None c =
     record {
-      header = c.without_order-in-None.ensures.header ∙ ordered_none c.args.headers.now c.args.shape (sym c.in-None.is ∙ c.in_ok-order.ensures);
-      order = bare_kept c.args.headers.now c.without_order-in-None.result.header c.without_order-in-None.result.order (ap (λ z. (entry z).bases) c.without_order-in-None.ensures.header) c.without_order-in-None.ensures.order;
+      header = c.without_type.ensures.header ∙ ordered_none c.args.headers.now c.args.shape (sym c.in-None.is ∙ c.in_ok-order.ensures);
+      order = bare_kept c.args.headers.now c.without_type.result.header c.without_type.result.order (ap (λ z. (entry z).bases) c.without_type.ensures.header) c.without_type.ensures.order;
     }

@@ -1,5 +1,5 @@
 use Rattle.std.proofs.Common.{◌≡◌, ◌-◌}
-use Rattle.py_check_context.specs.Members.{along, own_member, own_init}
+use Rattle.py_check_context.specs.Members.{along, own_init}
 use Rattle.py_check_context.proofs.members.init_in.Given as goal
 
 abbrev pub invariant-loop-level : goal.invariant-loop-level

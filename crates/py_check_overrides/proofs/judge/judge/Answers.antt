@@ -4,10 +4,6 @@ use Rattle.py_check_overrides.specs.Views.{owns}
 use Rattle.py_check_overrides.proofs.JudgeLemmas.{not_passed}
 use Rattle.py_check_overrides.proofs.judge.judge.Goals as goal
 
-pub returns-in-Refused-clause-judged : goal.returns-in-Refused-clause-judged
-returns-in-Refused-clause-judged c =
+pub returns-in-Untyped-clause-judged : goal.returns-in-Untyped-clause-judged
+returns-in-Untyped-clause-judged c =
     not_passed (map entry c.args.classes.now.headers.now) (owns c.args.classes.now.members.now) c.args.lines.now (length c.args.before.now) c.silent.result c.silent.ensures.above c.silent.ensures.new c.silent.ensures.verdict
-
-pub returns-in-Silent-clause-judged : goal.returns-in-Silent-clause-judged
-returns-in-Silent-clause-judged c =
-    not_passed (map entry c.args.classes.now.headers.now) (owns c.args.classes.now.members.now) c.args.lines.now (length c.args.before.now) c.silent-in-Silent.result c.silent-in-Silent.ensures.above c.silent-in-Silent.ensures.new c.silent-in-Silent.ensures.verdict

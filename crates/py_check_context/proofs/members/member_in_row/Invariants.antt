@@ -1,8 +1,0 @@
-use Rattle.std.proofs.Common.{◌≡◌, drop}
-use Rattle.py_typed.specs.Order.{first_there}
-use Rattle.py_check_context.specs.Members.{own_of, own_member}
-use Rattle.py_check_context.proofs.members.member_in_row.Given as goal
-
-abbrev pub invariant-loop-c : goal.invariant-loop-c
-invariant-loop-c l =
-    first_there (own_of (own_member l.name) l.classes) (drop l.c-index l.row) ≡ first_there (own_of (own_member l.name) l.classes) l.row
