@@ -1,9 +1,16 @@
 -- A function that is called: its registers hold its arguments, and what its body gives is what the call gives.
-use Rattle.ir_builder.proofs.Common.{◌≡◌, ℕ, zero, suc, ◌+◌, ◌-◌, ◌<◌, ◌≤◌, true, false, List, [], ◌∷◌, ◌++◌, length, map, take, Option, Some, None, refl, ap, ◌∙◌, subst, arith, ◌⊎◌, inl, inr, ⊎_elim, slice_get, nat_eq, nat_lt, if◌then◌else◌, replicate, option_map, eq-eqb, Value, BoolVal, NoneVal, Sort, is_nothing, State, Outcome, Gives, Raises, Stops, on_to, call_of, enter, Variable, TypedFunc, TypedModule, suite, Flow, Goes, Breaks, Continues, Returns, and_set, answer, Func, Program, Waiting, Config, RType, Held, Unset, Holds, error_of, error_at, first_regs, Declared, type_of_reg, Vars, world, running, returning, Ends, HasKind, HaveKinds, HaveTypes, flag_of, flag_in, Matches, Departs, parameter_sorts, CallGives, CallRaises, CallsWork, rtype_of, get_below, means_suite, variable_registers, variables_of, LeavesWith, BodyWorks, body_frame, end_value}
+use Rattle.ir_builder.proofs.Common.{◌≡◌, ℕ, zero, suc, ◌+◌, ◌-◌, ◌<◌, ◌≤◌, true, false, List, [], ◌∷◌, ◌++◌, length, map, take, Option, Some, None, refl, ap, ◌∙◌, arith, ◌⊎◌, inl, inr, ⊎_elim, slice_get, nat_eq, nat_lt, if◌then◌else◌, replicate, option_map, Value, BoolVal, NoneVal, Sort, State, Outcome, Gives, Raises, Stops, on_to, Variable, TypedFunc, TypedModule, Flow, Goes, Breaks, Continues, Returns, and_set, answer, Func, Program, Waiting, Config, RType, Held, Unset, Holds, error_of, error_at, first_regs, Declared, type_of_reg, Vars, world, running, Ends, HasKind, flag_of, flag_in, Matches, parameter_sorts, CallGives, CallRaises, rtype_of, get_below, means_suite, variable_registers, variables_of, LeavesWith, BodyWorks, body_frame, end_value, Does, Escapes, watch_each, watch}
 use Rattle.std.proofs.lemmas.Bool.Decides.{nat_tests}
 use Rattle.py_typed.specs.Sorts as sort
 use Rattle.ir_core.specs.declared.code.RType.TheVariants.{Bool as BoolType}
-use Rattle.ir_builder.proofs.ClosedLemmas.{Avoids, is_end}
+use Rattle.std.proofs.lemmas.Bool.{eqb-true}
+use Rattle.source_soundness.proofs.Inverse.{watched_is}
+use Rattle.ir_builder_frames.proofs.ComingLemmas.{ends_stuck}
+use Rattle.ir_builder.specs.Functions.{FunctionWorks}
+use Rattle.source_meaning.specs.State.{stop, ◌>>◌, ◌>>=◌, Stuck}
+use Rattle.source_meaning.specs.WaysOut.{inside}
+use Rattle.value_core.specs.Value.{IntVal}
+use Rattle.std.specs.Prelude.{Bool}
 
 -- ---- arguments
 
@@ -20,12 +27,6 @@ pub map_length : {A B : Type 0} (f : A → B) (xs : List A) → length (map f xs
 map_length f [] = refl
 map_length f (x ∷ xs) = ap suc (map_length f xs)
 
-as_many : (ts : List Sort) (vs : List Value) → HaveKinds ts vs → length vs ≡ length ts
-as_many [] [] k = refl
-as_many [] (v ∷ vs) k = absurd k
-as_many (t ∷ ts) [] k = absurd k
-as_many (t ∷ ts) (v ∷ vs) k = ap suc (as_many ts vs k.1)
-
 take_size : {A : Type 0} (n : ℕ) (xs : List A) → n ≤ length xs → length (take n xs) ≡ n
 take_size zero [] le = refl
 take_size zero (x ∷ xs) le = refl
@@ -36,13 +37,11 @@ pub sorts_size : (f : TypedFunc) → f.params ≤ length f.locals → length (pa
 sorts_size f le = map_length sort_of (take f.params f.locals) ∙ take_size f.params f.locals le
 
 -- a parameter, its argument, and its register
-args_at : (vs : List Variable) (n : ℕ) (args : List Value) (more : Declared) (rest : List (Option Value)) → HaveKinds (map sort_of (take n vs)) args → (j : ℕ) (v : Variable) → j < n → slice_get vs j ≡ Some v → (a : Value) × (slice_get (map Some args ++ rest) j ≡ Some (Some a)) × (first_regs (variable_registers vs ++ more) (map Holds args) j ≡ Holds a) × HasKind v.1 a
-args_at [] n args more rest k j v lt e = let f : None ≡ Some v = e in absurd (cc)
-args_at (u ∷ vs) zero args more rest k j v lt e = absurd (omega arith)
-args_at (u ∷ vs) (suc n) [] more rest k j v lt e = absurd k
-args_at (u ∷ vs) (suc n) (a ∷ args) more rest k zero v lt e =
-    let f : Some u ≡ Some v = e in let same : u ≡ v = cc in (a, refl, refl, let P : Variable → Type 0 = λ z. HasKind z.1 a in subst P same k.0)
-args_at (u ∷ vs) (suc n) (a ∷ args) more rest k (suc j) v lt e = args_at vs n args more rest k.1 j v (omega arith) e
+args_at : (vs : List Variable) (args : List Value) (more : Declared) (rest : List (Option Value)) (j : ℕ) (v : Variable) → j < length args → slice_get vs j ≡ Some v → (a : Value) × (slice_get (map Some args ++ rest) j ≡ Some (Some a)) × (first_regs (variable_registers vs ++ more) (map Holds args) j ≡ Holds a)
+args_at [] args more rest j v lt e = let f : None ≡ Some v = e in absurd (cc)
+args_at (u ∷ vs) [] more rest j v lt e = absurd (omega arith)
+args_at (u ∷ vs) (a ∷ args) more rest zero v lt e = (a, refl, refl)
+args_at (u ∷ vs) (a ∷ args) more rest (suc j) v lt e = args_at vs args more rest j v (omega arith) e
 
 -- a variable that is no parameter is unset
 none_at : (k j : ℕ) → j < k → slice_get (replicate {A = Option Value} k None) j ≡ Some None
@@ -76,18 +75,18 @@ abbrev pub HaveFlags : Vars → ℕ → Declared → Type 0
 HaveFlags vars n declared =
     (j : ℕ) → vars.params ≤ j → j < n → type_of_reg declared (record { 0 = flag_of vars j }) ≡ Some BoolType
 
-pub entered : (m : TypedModule) (vs : List Variable) (vars : Vars) (params : ℕ) (declared more : Declared) (args : List Value) (s : State) → vars ≡ variables_of params (length vs) → params ≤ length vs → declared ≡ variable_registers vs ++ more → HaveFlags vars (length vs) declared → HaveKinds (map sort_of (take params vs)) args → length args ≡ params → HaveTypes m.globals s.globals → Matches (record { source = m; variables = vs; frame = body_frame vars }) (first_regs declared (map Holds args)) (record s { locals = map Some args ++ replicate (length vs - length args) None; handled = [] })
-entered m vs vars params declared more args s is few regs flags kinds size types = record {
+pub entered : (m : TypedModule) (vs : List Variable) (vars : Vars) (params : ℕ) (declared more : Declared) (args : List Value) (s : State) → vars ≡ variables_of params (length vs) → params ≤ length vs → declared ≡ variable_registers vs ++ more → HaveFlags vars (length vs) declared → length args ≡ params → Matches (record { source = m; variables = vs; frame = body_frame vars }) (first_regs declared (map Holds args)) (record s { locals = map Some args ++ replicate (length vs - length args) None; handled = [] })
+entered m vs vars params declared more args s is few regs flags size = record {
   each = λ j v at.
       let low : j < length vs = get_below vs j v at in
       let ps : vars.params ≡ params = ap (λ (z : Vars). z.params) is in
       let many : vars.count ≡ length vs = ap (λ (z : Vars). z.count) is in
       ⊎_elim
       (λ (lt : j < params).
-      let a = args_at vs params args more (replicate (length vs - length args) None) kinds j v lt at in
+      let a = args_at vs args more (replicate (length vs - length args) None) j v (omega (arith, size)) at in
       let flag : flag_in vars (first_regs declared (map Holds args)) j ≡ Holds (BoolVal true) = (let l : j < vars.params = omega (arith, ps) in let e : nat_lt j vars.params ≡ true = grind (arith, nat_tests) in ap (λ b. if b then Holds (BoolVal true) else first_regs declared (map Holds args) (flag_of vars j)) e) in
       let held : first_regs declared (map Holds args) j ≡ Holds a.0 = ap (λ ds. first_regs ds (map Holds args) j) regs ∙ a.2 in
-      (Some a.0, a.1, (held, flag, a.3)))
+      (Some a.0, a.1, (held, flag)))
       (λ (le : params ≤ j).
       let above : vars.params ≤ j = omega (arith, ps) in
       let wide : length (map {B = Held} Holds args) ≤ flag_of vars j = omega (arith, map_length {B = Held} Holds args, size, many, few) in
@@ -95,41 +94,48 @@ entered m vs vars params declared more args s is few regs flags kinds size types
       let flag : flag_in vars (first_regs declared (map Holds args)) j ≡ Unset = (let e : nat_lt j vars.params ≡ false = grind (arith, nat_tests) in ap (λ b. if b then Holds (BoolVal true) else first_regs declared (map Holds args) (flag_of vars j)) e ∙ unset) in
       (None, unset_at args (length vs - length args) j (omega (arith, size)) (omega (arith, size)), flag))
       (less_or j params);
-  globals = types;
 }
+
+-- each is looked at
+each_watched : (m : TypedModule) (vs : List Variable) (args : List Value) (s : State) (P : Outcome (Unit {0}) → Type 0) → P (Gives tt s) → P (Stops Stuck s) → P (watch_each (watch m) vs args s)
+each_watched m [] args s P p q = p
+each_watched m (x ∷ vs) [] s P p q = p
+each_watched m (x ∷ vs) (a ∷ args) s P p q = watched_is m.classes.classes x.1 a s (λ o. P (on_to o (λ u. watch_each (watch m) vs args))) (λ shape. each_watched m vs args s P p q) q
 
 -- ---- results
 
-is_none : (t : Sort) → is_nothing t ≡ true → t ≡ sort.Nothing
-is_none sort.Nothing e = refl
-is_none _ e = absurd (cc)
+-- what the code gives behind the last statement is None, or it is not looked at
+end_is : (t : Sort) → HasKind t NoneVal → end_value (rtype_of t) ≡ NoneVal
+end_is sort.Int k = let f : NoneVal ≡ IntVal k.0 = k.1 in absurd (cc)
+end_is sort.I64 k = let f : NoneVal ≡ IntVal k.0 = k.1 in absurd (cc)
+end_is sort.Bool k = let f : NoneVal ≡ BoolVal k.0 = k.1 in absurd (cc)
+end_is t k = refl
 
--- the end of the code of a function that gives None, and of one that does not come there
-ending_kind : (t : Sort) (r : Outcome Flow) (s : State) → r ≡ Gives Goes s → (is_nothing t ≡ true) ⊎ Avoids is_end r → HasKind t NoneVal × (end_value (rtype_of t) ≡ NoneVal)
-ending_kind t r s is (inl e) = rw (is_none t e) (refl, refl)
-ending_kind t r s is (inr a) = let b : Avoids is_end (Gives Goes s) = subst (Avoids is_end) is a in absurd (let f : true ≡ false = b in cc)
-
-module _ (p : Program) (m : TypedModule) (f : TypedFunc) (fn : ℕ) (below : List Waiting) (s : State) where
+module _ (p : Program) (f : TypedFunc) (fn : ℕ) (below : List Waiting) (s : State) where
   -- what a call does behind its body
-  pub answers : (c : Config) (t : ℕ) (r : Outcome Flow) → (is_nothing f.ret ≡ true) ⊎ Avoids is_end r → Ends p t c r (LeavesWith p m (Some f.ret) (end_value (rtype_of f.ret)) below) (Departs m fn below) → Ends p t c (and_set (λ u. record u { locals = s.locals; handled = s.handled }) (on_to r (answer NoneVal))) (CallGives p m f below s) (CallRaises m fn below s)
-  answers c t (Gives Goes u) no_end h =
-      let k = ending_kind f.ret (Gives Goes u) u refl no_end in
-      (h.0, h.1, h.2, (k.0, refl, h.3.0, h.3.1 ∙ ap (λ v. returning p v below (world None u)) k.1))
-  answers c t (Gives Breaks u) no_end h = absurd h.3
-  answers c t (Gives Continues u) no_end h = absurd h.3
-  answers c t (Gives (Returns v) u) no_end h =
-      (h.0, h.1, h.2, (h.3.1, refl, h.3.0, h.3.2))
-  answers c t (Raises v u) no_end h = (h.0, h.1, h.2, (refl, h.3))
-  answers c t (Stops w u) no_end h = h
+  answers : (c : Config) (t : ℕ) (r : Outcome Flow) → Ends p t c r (LeavesWith p (Some f.ret) (end_value (rtype_of f.ret)) below) (Escapes fn below) → Ends p t c (and_set (λ u. record u { locals = s.locals; handled = s.handled }) (on_to r (answer NoneVal))) (CallGives p f.ret below s) (CallRaises fn below s)
+  answers c t (Gives Goes u) h = (h.0, h.1, h.2, (end_value (rtype_of f.ret), end_is f.ret, refl, h.3))
+  answers c t (Gives Breaks u) h = absurd h.3
+  answers c t (Gives Continues u) h = absurd h.3
+  answers c t (Gives (Returns v) u) h = (h.0, h.1, h.2, (v, λ kind. refl, refl, h.3.1))
+  answers c t (Raises v u) h = (h.0, h.1, h.2, (refl, h.3))
+  answers c t (Stops w u) h = h
+
+by_either : {A : Type 0} (b : Bool) (d e : Does A) (s : State) (P : Outcome A → Type 0) → (b ≡ true → P (d s)) → P (e s) → P ((if b then d else e) s)
+by_either true d e s P f q = f refl
+by_either false d e s P f q = q
 
 -- what a call of a function does once its turn is spent
-pub function_works : (p : Program) (m : TypedModule) (f : TypedFunc) (fn : ℕ) (h : Func) (vars : Vars) (more : Declared) → f.params ≤ length f.locals → ((n : ℕ) (s : State) → (is_nothing f.ret ≡ true) ⊎ Avoids is_end (suite m.classes.classes (call_of m n) m.globals f.locals n f.body s)) → vars ≡ variables_of f.params (length f.locals) → h.regs ≡ variable_registers f.locals ++ more → HaveFlags vars (length f.locals) h.regs → BodyWorks p (record { source = m; variables = f.locals; frame = body_frame vars }) (Some f.ret) (end_value (rtype_of f.ret)) (means_suite (record { source = m; variables = f.locals; frame = body_frame vars }) f.body) fn 0 1 → (n : ℕ) → CallsWork p m n → (args : List Value) (below : List Waiting) (s : State) → HaveKinds (parameter_sorts f) args → HaveTypes m.globals s.globals → s.turns ≤ n → Ends p s.turns (running fn 0 1 (first_regs h.regs (map Holds args)) below (world None s)) (enter m (call_of m n) n (Some f) args s) (CallGives p m f below s) (CallRaises m fn below s)
-function_works p m f fn h vars more few no_end is regs flags body n calls args below s kinds types le =
-    let count : length args ≡ f.params = as_many (parameter_sorts f) args kinds ∙ sorts_size f few in
+pub function_works : (p : Program) (m : TypedModule) (f : TypedFunc) (fn : ℕ) (h : Func) (vars : Vars) (more : Declared) → f.params ≤ length f.locals → vars ≡ variables_of f.params (length f.locals) → h.regs ≡ variable_registers f.locals ++ more → HaveFlags vars (length f.locals) h.regs → BodyWorks p (record { source = m; variables = f.locals; frame = body_frame vars }) (Some f.ret) (end_value (rtype_of f.ret)) (means_suite (record { source = m; variables = f.locals; frame = body_frame vars }) f.body) fn 0 1 → FunctionWorks p m f fn h
+function_works p m f fn h vars more few is regs flags body n calls args below s le =
     let rest : List (Option Value) = replicate (length f.locals - length args) None in
     let first : State = record s { locals = map Some args ++ rest; handled = [] } in
-    let match = entered m f.locals vars f.params h.regs more args s is few regs flags kinds count types in
-    let run = body n calls (first_regs h.regs (map Holds args)) below first match le in
-    let done = answers p m f fn below s _ s.turns (suite m.classes.classes (call_of m n) m.globals f.locals n f.body first) (no_end n first) run in
-    let fits : nat_eq (length args) f.params ≡ true = eq-eqb (length args) f.params count in
-    rw fits done
+    let here = running fn 0 1 (first_regs h.regs (map Holds args)) below (world None s) in
+    let run : Does Value = inside (map Some args ++ rest) (means_suite (record { source = m; variables = f.locals; frame = body_frame vars }) f.body n >>= answer NoneVal) in
+    let P : Outcome Value → Type 0 = λ o. Ends p s.turns here o (CallGives p f.ret below s) (CallRaises fn below s) in
+    let stuck : P (Stops Stuck s) = ends_stuck p s.turns here s (CallGives p f.ret below s) (CallRaises fn below s) in
+    by_either (nat_eq (length args) f.params) (watch_each (watch m) f.locals args >> run) (stop Stuck) s P
+    (λ fits. each_watched m f.locals args s (λ o. P (on_to o (λ u. run)))
+    (answers p f fn below s here s.turns (means_suite (record { source = m; variables = f.locals; frame = body_frame vars }) f.body n first) (body n calls (first_regs h.regs (map Holds args)) below first (entered m f.locals vars f.params h.regs more args s is few regs flags (eqb-true (length args) f.params fits)) le))
+    stuck)
+    stuck

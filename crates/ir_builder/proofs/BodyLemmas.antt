@@ -1,5 +1,5 @@
 -- The code of a function's body.
-use Rattle.ir_builder.proofs.Common.{◌≡◌, ℕ, suc, ◌≤◌, false, List, [], ◌∷◌, length, Option, Some, None, refl, sym, ap, ◌∙◌, subst, arith, slice_get, option_map, Value, State, Flow, Goes, Breaks, Continues, Returns, Sort, Func, Lit, Program, Reg, RType, Building, handled, Extends, Waiting, Config, Strict, declared_of, registers_of, Holds, Regs, literal_of, look, type_of_reg, return_step, Adds, Closes, world, running, returning, Leads, Meaning, Surrounding, LastKinds, Departs, Has, Placed, or_other, Setting, leads_refl, leads_step, leads_trans, ends_more, extends_trans, has_less, type_has, Filled, LeavesWith, Bodied}
+use Rattle.ir_builder.proofs.Common.{◌≡◌, ℕ, suc, ◌≤◌, false, List, [], ◌∷◌, length, Option, Some, None, refl, sym, ap, ◌∙◌, subst, arith, slice_get, option_map, Value, State, Flow, Goes, Breaks, Continues, Returns, Sort, Func, Lit, Program, Reg, RType, Building, handled, Extends, Waiting, Config, Strict, declared_of, registers_of, Holds, Regs, literal_of, look, type_of_reg, return_step, Adds, Closes, world, running, returning, Leads, Meaning, Surrounding, LastKinds, Has, Placed, or_other, Setting, leads_refl, leads_step, leads_trans, ends_more, extends_trans, has_less, type_has, Filled, LeavesWith, Bodied, Escapes}
 use Rattle.ir_core.specs.declared.code.Last.TheVariants.{Return as Leave}
 use Rattle.ir_core.specs.declared.code.Lit.{Lit as Literal}
 use Rattle.ir_builder_frames.proofs.StepLemmas.{literal_makes}
@@ -41,16 +41,16 @@ module _ (x : Setting) (result : Option Sort) (t : RType) (last : Literal) (m : 
   x13 : Extends b1 b3
   x13 = extends_trans b1 b2 b3 a.extends c.extends
 
-  flow_out : (p : Program) (fn : ℕ) (h : Func) (value : Value) → Has p fn b3 → slice_get p.funcs fn ≡ Some h → literal_of t last ≡ Some (Holds value) → (regs : Regs) (below : List Waiting) (g : Flow) (s : State) (d : Config) → Flows p result fn (length b1.blocks) (length b1.ops) (λ w. end) q.mine below x (length b0.regs) regs g s d → (e : Config) × Leads p d e × LeavesWith p x.source result value below g s e
+  flow_out : (p : Program) (fn : ℕ) (h : Func) (value : Value) → Has p fn b3 → slice_get p.funcs fn ≡ Some h → literal_of t last ≡ Some (Holds value) → (regs : Regs) (below : List Waiting) (g : Flow) (s : State) (d : Config) → Flows p result fn (length b1.blocks) (length b1.ops) (λ w. end) q.mine below x (length b0.regs) regs g s d → (e : Config) × Leads p d e × LeavesWith p result value below g s e
   flow_out p fn h value has there is regs below Goes s d z =
       let P : Config → Type 0 = λ y. Leads p y (returning p value below (world None s)) in
-      (returning p value below (world None s), subst P (sym z.is) (given p fn h b1 b2 b3 r t last value a c has there is z.now below s), (z.match.globals, refl))
+      (returning p value below (world None s), subst P (sym z.is) (given p fn h b1 b2 b3 r t last value a c has there is z.now below s), refl)
   flow_out p fn h value has there is regs below Breaks s d z = absurd (true_false _ z.0 (q.inside refl).0)
   flow_out p fn h value has there is regs below Continues s d z = absurd (true_false _ z.0 (q.inside refl).1)
   flow_out p fn h value has there is regs below (Returns v) s d z =
       let P : Option Reg → Type 0 = λ o. Back p result o fn (λ w. end) q.mine below x (length b0.regs) regs v s d in
       let back = subst P bare z.1 in
-      (d, leads_refl p d, (back.0, z.0, back.1))
+      (d, leads_refl p d, (z.0, back))
 
   pub bodied : Bodied x result t last m b0 b4
   bodied =
@@ -69,7 +69,7 @@ module _ (x : Setting) (result : Option Sort) (t : RType) (last : Literal) (m : 
             let placed : Placed p fn b0 b1 None = record { has = has1; guards = λ k l u. handlers k ∙ (f.handlers k ∙ (x13.handlers k u ∙ no_other (handled b1 k))) } in
             let jumps = fill_jumps p fn b1 b3 b4 from end x13 f has (length b0.blocks) (length b1.blocks) q.mine (omega (arith, is_from)) (omega (arith, is_end, n2)) q.works.opens in
             let run = q.works.runs p fn None (λ w. end) placed jumps n calls regs below s match le in
-            ends_more p s.turns _ (m n s) _ (LeavesWith p x.source result value below) _ (Departs x.source fn below) (λ g u d z. flow_out p fn h value has3 there is regs below g u d z) (λ v u d z. z) run;
+            ends_more p s.turns _ (m n s) _ (LeavesWith p result value below) _ (Escapes fn below) (λ g u d z. flow_out p fn h value has3 there is regs below g u d z) (λ v u d z. z) run;
       }
 
 -- the register that is given has the type of the result

@@ -4,13 +4,13 @@ pub use Rattle.ir_builder.specs.Bodies.{Bodied, BodyAround, BodyWorks, Completes
 pub use Rattle.ir_builder.specs.Functions.{AllBuilt, FunctionWorks, IsBuiltOf, IsFunctionOf, IsOwnOf, end_literal, end_value, heads_of}
 pub use Rattle.ir_builder.specs.Registers.{AddsFlags, Begins, register_of, variable_registers, variables_of}
 pub use Rattle.ir_builder_frames.proofs.ComingLemmas.{ends_from, ends_map, ends_more, ends_of, leads_as, leads_refl, leads_step, leads_trans}
-pub use Rattle.ir_builder_frames.proofs.GlobalLemmas.{get_map, none_have_types}
+pub use Rattle.ir_builder_frames.proofs.GlobalLemmas.{get_map}
 pub use Rattle.ir_builder_frames.proofs.HeldLemmas.{extends_refl, extends_trans, get_below, has_less, ok_map, type_has, type_kept}
 pub use Rattle.ir_builder_frames.specs.Calling.{Adds, Closes, Declares, Open, Pushes}
 pub use Rattle.ir_builder_frames.specs.Coming.{Ends, Escapes, Leads, returning, running, world}
 pub use Rattle.ir_builder_frames.specs.Computing.{Meaning}
 pub use Rattle.ir_builder_frames.specs.Kinds.{BlocksKinds, FunctionType, HasKinds, IsAmong, KeepsKinds, KeepsKindsIf, LastKinds, LiteralFits, OpKinds, OpsKinds, Surrounding, head_of}
-pub use Rattle.ir_builder_frames.specs.Matching.{BeginWith, CallGives, CallRaises, CallsWork, Departs, HasGlobals, HasHead, HasKind, HasRoom, HaveKinds, HaveTypes, Matches, flag_in, flag_of, parameter_sorts}
+pub use Rattle.ir_builder_frames.specs.Matching.{BeginWith, CallGives, CallRaises, CallsWork, HasGlobals, HasHead, HasKind, HasRoom, Matches, flag_in, flag_of, parameter_sorts}
 pub use Rattle.ir_builder_frames.specs.Naming.{names_of}
 pub use Rattle.ir_builder_frames.specs.Placing.{Has, HasType, NoEdges, Placed, into, or_other}
 pub use Rattle.ir_builder_frames.specs.Settings.{Setting, rtype_of, setting}
@@ -34,16 +34,16 @@ pub use Rattle.ir_core.specs.declared.code.Op.TheVariants.{Lit, Turn}
 pub use Rattle.ir_core.specs.declared.code.Program.{Program}
 pub use Rattle.ir_core.specs.declared.code.RType.{RType}
 pub use Rattle.ir_core.specs.declared.code.Reg.{Reg}
-pub use Rattle.py_typed.specs.Fits.{is_nothing}
 pub use Rattle.py_typed.specs.Sorts.{Sort, sort}
-pub use Rattle.py_typed.specs.Statements.{Arms, Assert, Assign, Aug, Break, Continue, Del, ForDict, ForList, ForRange, Pass, Raise, Try, TypedAct, TypedFunc, TypedModule, TypedStmt, TypedSuite, Variable, While, arm_then, no_arms, no_stmts, on_line, stmt_then, typed_func, typed_module, typed_suite, variable}
+pub use Rattle.py_typed.specs.Statements.{TypedFunc, TypedModule, TypedSuite, Variable, typed_func, typed_module, typed_suite, variable}
 pub use Rattle.py_typed.specs.declared.checked.TFunc.{TFunc}
-pub use Rattle.source_meaning.specs.SourceRun.{body_of, call_of, enter, raised_as, start, stop_of, stopped, top_of}
-pub use Rattle.source_meaning.specs.State.{Calls, Does, Gives, Outcome, Raises, State, Stops, on_to, spend, spend_from}
-pub use Rattle.source_meaning.specs.StatementMeaning.{act, bind, changed, first_arm, statement, suite, test_of, update, value_of, value_or}
-pub use Rattle.source_meaning.specs.WaysOut.{Breaks, Continues, Flow, Goes, Returns, after_body, and_set, answer, flow_on, loop}
-pub use Rattle.std.proofs.Common.{Bool, List, None, Option, Some, [], add-one, ap, arith, false, get_or, inl, inr, le_refl, length, length-append, map, not, refl, rules, subst, suc, sym, take, true, zero, ℕ, ⊎_elim, ◌++◌, ◌+◌, ◌-◌, ◌<◌, ◌^◌, ◌∙◌, ◌∷◌, ◌≡◌, ◌≢◌, ◌≤◌, ◌⊎◌}
-pub use Rattle.std.proofs.lemmas.Bool.{and_parts, cases_lt, eq-eqb, ne_eqb, or_cases, or_parts}
+pub use Rattle.source_meaning.specs.SourceRun.{raised_as, start, stop_of, stopped}
+pub use Rattle.source_soundness.specs.Watched.{body_of, enter, top_of, watch_each}
+pub use Rattle.ir_builder_frames.specs.Watching.{watch}
+pub use Rattle.source_meaning.specs.State.{Does, Gives, Outcome, Raises, State, Stops, on_to, spend_from}
+pub use Rattle.source_meaning.specs.WaysOut.{Breaks, Continues, Flow, Goes, Returns, and_set, answer}
+pub use Rattle.std.proofs.Common.{Bool, List, None, Option, Some, [], add-one, ap, arith, false, get_or, inl, inr, le_refl, length, length-append, map, refl, rules, subst, suc, sym, take, true, zero, ℕ, ⊎_elim, ◌++◌, ◌+◌, ◌-◌, ◌<◌, ◌^◌, ◌∙◌, ◌∷◌, ◌≡◌, ◌≢◌, ◌≤◌, ◌⊎◌}
+pub use Rattle.std.proofs.lemmas.Bool.{cases_lt, ne_eqb}
 pub use Rattle.std.specs.List.{list_all}
 pub use Rattle.std.specs.Option.{option_copied, option_map}
 pub use Rattle.std.specs.Prelude.{if◌then◌else◌, nat_eq, nat_lt, pos, replicate, slice_get}

@@ -1,5 +1,5 @@
 -- The code of a whole function.
-use Rattle.ir_builder.proofs.Common.{◌≡◌, ℕ, zero, suc, ◌+◌, ◌-◌, ◌^◌, ◌<◌, ◌≤◌, true, false, List, [], ◌∷◌, ◌++◌, length, map, take, Option, Some, None, refl, sym, ap, ◌∙◌, subst, arith, ◌⊎◌, inl, inr, ⊎_elim, slice_get, pos, list_all, option_map, BoolVal, Done, is_identifier, names_differ, is_nothing, State, call_of, top_of, TFunc, Variable, variable, TypedFunc, typed_func, TypedModule, suite, Flow, Goes, Breaks, Continues, Returns, Sort, Func, Turn, Program, RType, Building, held_in, held, handled, Extends, is_open_at, Do, item_in, handler_in, blocks_of, Config, Ended, handler_at, declared_of, Holds, literal_of, first_regs, Declared, type_of_reg, Vars, Pushes, world, Escapes, Meaning, FunctionType, head_of, Surrounding, LiteralFits, OpKinds, OpsKinds, BlocksKinds, HasKinds, KeepsKinds, KeepsKindsIf, IsAmong, flag_of, HasRoom, Matches, Departs, BeginWith, names_of, NoEdges, Has, Setting, rtype_of, OpFits, OpsFit, AllFit, Shaped, KeepsIf, Keeps, ends_map, extends_refl, extends_trans, get_below, type_kept, variable_names, FunctionSuits, means_suite, building_of, IsBuilt, register_of, variable_registers, Begins, variables_of, AddsFlags, LeavesWith, Bodied, CompletesShape, BodyAround, BodyWorks, body_frame, end_literal, end_value, heads_of, IsFunctionOf, IsOwnOf, get_map}
+use Rattle.ir_builder.proofs.Common.{◌≡◌, ℕ, zero, suc, ◌+◌, ◌-◌, ◌^◌, ◌<◌, ◌≤◌, true, false, List, [], ◌∷◌, ◌++◌, length, map, take, Option, Some, None, refl, sym, ap, ◌∙◌, subst, arith, slice_get, pos, list_all, option_map, BoolVal, Done, is_identifier, names_differ, State, top_of, TFunc, Variable, variable, TypedFunc, typed_func, TypedModule, Flow, Goes, Breaks, Continues, Returns, Sort, Func, Turn, Program, RType, Building, held_in, held, handled, Extends, is_open_at, Do, item_in, handler_in, blocks_of, Config, Ended, handler_at, declared_of, Holds, literal_of, first_regs, Declared, type_of_reg, Vars, Pushes, world, Escapes, Meaning, FunctionType, head_of, Surrounding, LiteralFits, OpKinds, OpsKinds, BlocksKinds, HasKinds, KeepsKinds, KeepsKindsIf, IsAmong, flag_of, HasRoom, Matches, BeginWith, names_of, NoEdges, Has, Setting, rtype_of, OpFits, OpsFit, AllFit, Shaped, KeepsIf, Keeps, ends_map, extends_refl, extends_trans, get_below, type_kept, variable_names, FunctionSuits, means_suite, building_of, IsBuilt, register_of, variable_registers, Begins, variables_of, AddsFlags, LeavesWith, Bodied, CompletesShape, BodyAround, BodyWorks, body_frame, end_literal, end_value, heads_of, IsFunctionOf, IsOwnOf, get_map}
 use Rattle.ir_core.specs.declared.code.Lit.{Lit as Literal}
 use Rattle.ir_core.specs.declared.code.Lit.TheVariants.{Number}
 use Rattle.ir_core.specs.declared.code.RType.TheVariants as rtype
@@ -9,7 +9,7 @@ use Rattle.ir_builder_frames.specs.Lines.{OwnLines}
 use Rattle.ir_builder_statements.specs.Lined.{body as body_piece, LinedPieces}
 use Rattle.ir_builder.specs.Lines.{setting_in}
 use Rattle.ir_builder.proofs.ArgumentLemmas.{sort_of, sorts_size, map_length, HaveFlags, function_works}
-use Rattle.ir_builder.proofs.ClosedLemmas.{Avoids, is_end, suite_closed}
+use Rattle.ir_builder_frames.specs.Watching.{watch}
 use Rattle.ir_builder.proofs.EdgeLemmas.{no_edges}
 use Rattle.ir_builder.proofs.LinedLemmas.{around_before, function_lined}
 
@@ -215,18 +215,17 @@ function_is {line} m f fits variables count params vars ret last b0 bf b1 b2 nam
           let body = bodied.works p fn h (end_value ret) has (made.handlers p fn there) there value in
           let B : RType → ℕ → ℕ → Type 0 = λ r k i. BodyWorks p (body_setting m f.locals vars) (Some f.ret) (end_value r) (means_suite (body_setting m f.locals vars) f.body) fn k i in
           let placed : B (rtype_of f.ret) 0 1 = subst (λ r. B r 0 1) ret_is (subst (λ i. B ret 0 i) one (subst (λ k. B ret k (length b1.ops)) none body)) in
-          let no_end : (n : ℕ) (s : State) → (is_nothing f.ret ≡ true) ⊎ Avoids is_end (suite m.classes.classes (call_of m n) m.globals f.locals n f.body s) = λ n s. ⊎_elim (λ e. inl e) (λ closed. inr (suite_closed m.classes.classes (call_of m n) m.globals f.locals n m f.locals (Some f.ret) false f.body fits.body closed s)) fits.ends in
-          function_works p m f fn h vars made.rest fits.parameters no_end all_vars made.regs have placed;
+          function_works p m f fn h vars made.rest fits.parameters all_vars made.regs have placed;
       lined = function_lined (setting_in m f.params f.locals) f.body b1 b2 h (around_before 0 bf b1 (flags.blocks ∙ ap length first.blocks) (flags.ops ∙ ap length first.ops) lined01) inside h_regs h_blocks bodied.ops;
     }
 
 -- ---- the module's own statements
 
-own_flow : (p : Program) (m : TypedModule) (g : Flow) (s : State) (d : Config) → LeavesWith p m None (BoolVal true) [] g s d → (g ≡ Goes) × (d ≡ Ended Done (world None s))
-own_flow p m Goes s d h = (refl, h.1)
-own_flow p m Breaks s d h = absurd h
-own_flow p m Continues s d h = absurd h
-own_flow p m (Returns v) s d h = absurd h.1
+own_flow : (p : Program) (g : Flow) (s : State) (d : Config) → LeavesWith p None (BoolVal true) [] g s d → (g ≡ Goes) × (d ≡ Ended Done (world None s))
+own_flow p Goes s d h = (refl, h)
+own_flow p Breaks s d h = absurd h
+own_flow p Continues s d h = absurd h
+own_flow p (Returns v) s d h = absurd h.0
 
 pub own_is : (m : TypedModule) (variables : Declared) (count params : ℕ) (vars : Vars) (b0 b2 : Building) (h : Func) → variables ≡ [] → count ≡ 0 → vars ≡ variables_of 0 count → Begins variables b0 → Bodied (body_setting m [] vars) None rtype.Bool (Number (pos 1)) (means_suite (body_setting m [] vars) m.top) b0 b2 → CompletesShape b0 b2 → KeepsKindsIf (BodyAround m None rtype.Bool (Number (pos 1))) b0 b2 → LinedPieces (body_setting m [] vars) 0 (body_piece m.top ∷ []) b0 b2 → length b2.blocks < 2 ^ 64 → names_differ (names_of b2.regs) ≡ true → params ≡ 0 → h ≡ record { name = b2.name; params = params; regs = b2.regs; ret = rtype.Bool; blocks = b2.blocks } → IsOwnOf m h
 own_is m variables count params vars b0 b2 h are size vars_are first bodied shape kinds12 lined12 few differ params_are is =
@@ -244,12 +243,12 @@ own_is m variables count params vars b0 b2 h are size vars_are first bodied shap
         params = h_params;
         ret = h_ret;
       };
-      works = λ p fn there n calls s types le.
+      works = λ p fn there n calls s le.
           let has = made.has p fn there in
           let body = bodied.works p fn h (BoolVal true) has (made.handlers p fn there) there refl in
           let B : ℕ → ℕ → Type 0 = λ k i. BodyWorks p (body_setting m [] vars) None (BoolVal true) (means_suite (body_setting m [] vars) m.top) fn k i in
           let placed : B 0 0 = subst (λ i. B 0 i) start (subst (λ k. B k (length b0.ops)) none body) in
-          let match : Matches (body_setting m [] vars) (first_regs h.regs []) s = record { each = λ j v at. let f : None ≡ Some v = at in absurd (cc); globals = types } in
-          ends_map p s.turns _ (top_of m n s) (LeavesWith p m None (BoolVal true) []) _ (Departs m fn []) (Escapes fn []) (λ g u d z. own_flow p m g u d z) (λ v u d z. z.1) (placed n calls (first_regs h.regs []) [] s match le);
+          let match : Matches (body_setting m [] vars) (first_regs h.regs []) s = record { each = λ j v at. let f : None ≡ Some v = at in absurd (cc) } in
+          ends_map p s.turns _ (top_of (watch m) m n s) (LeavesWith p None (BoolVal true) []) _ (Escapes fn []) (Escapes fn []) (λ g u d z. own_flow p g u d z) (λ v u d z. z) (placed n calls (first_regs h.regs []) [] s match le);
       lined = function_lined (setting_in m 0 []) m.top b0 b2 h (around_before 0 b0 b0 none start (λ k i x other at. at)) (subst (λ z. LinedPieces (body_setting m [] z) 0 (body_piece m.top ∷ []) b0 b2) (vars_are ∙ ap (variables_of 0) size) lined12) h_regs h_blocks bodied.ops;
     }

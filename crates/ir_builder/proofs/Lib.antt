@@ -1,4 +1,3 @@
-pub mod ClosedLemmas
 pub mod RegisterLemmas
 pub mod FillLemmas
 pub mod BodyLemmas

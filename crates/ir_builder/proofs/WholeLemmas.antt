@@ -1,5 +1,5 @@
 -- A whole program does what its module does, is calm, and is built as a program is.
-use Rattle.ir_builder.proofs.Common.{◌≡◌, ◌≢◌, ℕ, zero, suc, ◌+◌, ◌-◌, ◌<◌, List, [], ◌∷◌, ◌++◌, length, map, take, get_or, Option, Some, None, ⊎_elim, refl, sym, ap, ◌∙◌, subst, arith, le_refl, add-one, length-append, slice_get, replicate, list_all, Ending, Done, Raised, is_identifier, names_differ, Sort, Outcome, Gives, Raises, Stops, start, top_of, stopped, raised_as, stop_of, TypedFunc, TypedModule, typed_func, typed_module, TFunc, Flow, Goes, Breaks, Continues, Returns, Func, Program, RType, Do, item_in, blocks_of, Config, Leaves, Ended, Stuck, Strict, if_some, leave, step, steps, error_of, first_regs, Declared, world, running, Escapes, Leads, Ends, FunctionType, head_of, parameter_sorts, BeginWith, HasHead, names_of, NoEdges, rtype_of, leads_as, leads_step, leads_trans, none_have_types, get_map, FunctionSuits, ModuleSuits, head_of_code, IsBuilt, IsFunction, IsOwn, IsProgram, heads_of, IsFunctionOf, AllBuilt, IsBuiltOf, register_of, variable_registers}
+use Rattle.ir_builder.proofs.Common.{◌≡◌, ◌≢◌, ℕ, zero, suc, ◌+◌, ◌-◌, ◌<◌, List, [], ◌∷◌, ◌++◌, length, map, take, get_or, Option, Some, None, ⊎_elim, refl, sym, ap, ◌∙◌, subst, arith, le_refl, add-one, length-append, slice_get, replicate, list_all, Ending, Done, Raised, is_identifier, names_differ, Sort, Outcome, Gives, Raises, Stops, start, top_of, stopped, raised_as, stop_of, TypedFunc, TypedModule, typed_func, typed_module, TFunc, Flow, Goes, Breaks, Continues, Returns, Func, Program, RType, Do, item_in, blocks_of, Config, Leaves, Ended, Stuck, Strict, if_some, leave, step, steps, error_of, first_regs, Declared, world, running, Escapes, Leads, Ends, FunctionType, head_of, parameter_sorts, BeginWith, HasHead, names_of, NoEdges, rtype_of, leads_as, leads_step, leads_trans, get_map, FunctionSuits, ModuleSuits, head_of_code, IsBuilt, IsFunction, IsOwn, IsProgram, heads_of, IsFunctionOf, AllBuilt, IsBuiltOf, register_of, variable_registers}
 use Rattle.std.proofs.lemmas.List.{map_push}
 use Rattle.std.proofs.Math.Seq.{take-suc}
 use Rattle.value_core.specs.Items.{Items}
@@ -11,7 +11,11 @@ use Rattle.ir_core.specs.Runs.{first_world, begins, Calm}
 use Rattle.ir_core.proofs.ModeLemmas.{unstuck_is_plain}
 use Rattle.ir_core.proofs.RunLemmas.{ended_is_calm}
 use Rattle.ir_builder_frames.proofs.KindLemmas.{get_behind}
-use Rattle.source_meaning.specs.SourceRun.{source_run}
+use Rattle.std.specs.Prelude.{IsSome}
+use Rattle.source_meaning.specs.SourceRun.{ModuleStop, ending_by, source_run}
+use Rattle.source_soundness.specs.Watched.{watched_run}
+use Rattle.source_soundness.proofs.Whole.{none_is_stuck, types_sound}
+use Rattle.ir_builder_frames.specs.Watching.{watch}
 use Rattle.ir_builder.specs.Lines.{HasLines}
 use Rattle.ir_builder.specs.Meaning.{module_stop, DoesAsModule}
 use Rattle.ir_builder.proofs.CallLemmas.{IsThere, calls_work}
@@ -135,16 +139,20 @@ module _ (m : TypedModule) (p : Program) (b : IsBuiltOf m p) (suits : ModuleSuit
       ∙ ap (λ t. leave Strict p t (error_of t) [] w) b.own_built.built.ret
 
   -- where the module's own code comes to, and where the module stops
-  finished : (t : ℕ) (c : Config) (res : Outcome Flow) → Ends p t c res (λ g u d. (g ≡ Goes) × (d ≡ Ended Done (world None u))) (Escapes (length b.functions) []) → (e : Ending) × (w : World) × Leads p c (Ended e w) × (stop_of res ≡ module_stop e w)
-  finished t c (Gives Goes u) h = (Done, world None u, leads_as p c h.1 _ h.3.1 h.2, refl)
-  finished t c (Gives Breaks u) h = let no : Breaks ≡ Goes = h.3.0 in absurd (cc)
-  finished t c (Gives Continues u) h = let no : Continues ≡ Goes = h.3.0 in absurd (cc)
-  finished t c (Gives (Returns v) u) h = let no : Returns v ≡ Goes = h.3.0 in absurd (cc)
-  finished t c (Raises v u) h =
+  finished : (t : ℕ) (c : Config) (res : Outcome Flow) → IsSome (stop_of res).ending → Ends p t c res (λ g u d. (g ≡ Goes) × (d ≡ Ended Done (world None u))) (Escapes (length b.functions) []) → (e : Ending) × (w : World) × Leads p c (Ended e w) × (stop_of res ≡ module_stop e w)
+  finished t c (Gives Goes u) some h = (Done, world None u, leads_as p c h.1 _ h.3.1 h.2, refl)
+  finished t c (Gives Breaks u) some h = let no : Breaks ≡ Goes = h.3.0 in absurd (cc)
+  finished t c (Gives Continues u) some h = let no : Continues ≡ Goes = h.3.0 in absurd (cc)
+  finished t c (Gives (Returns v) u) some h = let no : Returns v ≡ Goes = h.3.0 in absurd (cc)
+  finished t c (Raises v u) some h =
       let x = h.3.0 in
       let w : World = world (Some x) u in
       (Raised x, w, leads_trans p c _ _ (leads_as p c h.1 _ h.3.2 h.2) (leads_step p _ (Ended (Raised x) w) (leaves w)), ap (λ z. stopped u (raised_as z)) h.3.1)
-  finished t c (Stops w u) h = (h.0, world None u, h.2, ap (stopped u) h.1)
+  finished t c (Stops w u) some h = by (ending_by w) some h
+    where
+      by : (o : Option Ending) → IsSome o → ((e : Ending) → o ≡ Some e → Leads p c (Ended e (world None u))) → (e : Ending) × (v : World) × Leads p c (Ended e v) × (stopped u o ≡ module_stop e v)
+      by None none k = absurd (cc)
+      by (Some e) is k = (e, world None u, k e refl, refl)
 
   starts : (turns : ℕ) (items : Items) → run.start p turns items ≡ running (length b.functions) 0 0 (first_regs b.own.regs []) [] (world None (start m turns items))
   starts turns items =
@@ -156,18 +164,20 @@ module _ (m : TypedModule) (p : Program) (b : IsBuiltOf m p) (suits : ModuleSuit
       ∙ ap (λ k. running (length b.functions) 0 0 (first_regs b.own.regs []) [] (W k)) globals
 
   -- the end of a strict run
-  comes : (turns : ℕ) (items : Items) → (e : Ending) × (w : World) × (n : ℕ) × (steps Strict p n (run.start p turns items) ≡ Ended e w) × (stop_of (top_of m turns (start m turns items)) ≡ module_stop e w)
+  comes : (turns : ℕ) (items : Items) → (e : Ending) × (w : World) × (n : ℕ) × (steps Strict p n (run.start p turns items) ≡ Ended e w) × (source_run turns items m ≡ module_stop e w)
+  unfolding watched_run
   comes turns items =
       let calls = calls_work p m record { are = b.globals; differ = suits.globals_differ } there turns in
-      let done = b.own_built.works p (length b.functions) own_at turns calls (start m turns items) (none_have_types m.globals) (le_refl turns) in
-      let k = finished turns _ (top_of m turns (start m turns items)) done in
-      (k.0, k.1, k.2.count, ap (steps Strict p k.2.count) (starts turns items) ∙ k.2.is, k.3)
+      let done = b.own_built.works p (length b.functions) own_at turns calls (start m turns items) (le_refl turns) in
+      let sound : watched_run (watch m) m turns items ≡ source_run turns items m = types_sound is_identifier m suits.well_typed turns items in
+      let some = subst (λ (z : ModuleStop). IsSome z.ending) (sym sound) (none_is_stuck is_identifier m suits.well_typed turns items) in
+      let k = finished turns _ (top_of (watch m) m turns (start m turns items)) some done in
+      (k.0, k.1, k.2.count, ap (steps Strict p k.2.count) (starts turns items) ∙ k.2.is, sym sound ∙ k.3)
 
   pub is_calm : Calm p
   is_calm turns items n = let k = comes turns items in ended_is_calm Strict p k.2 n (run.start p turns items) k.0 k.1 k.3
 
   pub does_as_module : DoesAsModule m p
-  unfolding source_run
   does_as_module turns items =
       let k = comes turns items in
       let unstuck : steps Strict p k.2 (run.start p turns items) ≢ Stuck = λ e. let no : Ended k.0 k.1 ≡ Stuck = sym k.3 ∙ e in cc in

@@ -16,14 +16,14 @@ use Rattle.ir_core.specs.Meaning.{Config, Waiting, item_at, handler_at}
 use Rattle.ir_core.specs.Registers.{Holds, Regs, literal_of}
 use Rattle.ir_builder_frames.specs.declared.frame.Frame.{Frame}
 use Rattle.ir_builder_frames.specs.declared.frame.Vars.{Vars}
-use Rattle.ir_builder_frames.specs.Coming.{world, running, returning, Ends}
+use Rattle.ir_builder_frames.specs.Coming.{world, running, returning, Escapes, Ends}
 use Rattle.ir_builder_frames.specs.Computing.{Meaning}
 use Rattle.ir_builder_frames.specs.Kinds.{Surrounding, LiteralFits}
-use Rattle.ir_builder_frames.specs.Matching.{HaveTypes, Matches, Departs, CallsWork}
+use Rattle.ir_builder_frames.specs.Matching.{Matches, CallsWork}
 use Rattle.ir_builder_frames.specs.Placing.{Has}
 use Rattle.ir_builder_frames.specs.Settings.{Setting}
 use Rattle.ir_builder_frames.specs.Shaped.{Shaped}
-use Rattle.ir_builder_loops_and_jumps.specs.Runs.{HasResult}
+use Rattle.ir_builder_loops_and_jumps.specs.Runs.{GivesOne}
 use Rattle.ir_builder_statements.specs.Kinds.{IsAround}
 
 -- ---- ends that are still open
@@ -47,16 +47,15 @@ abbrev pub body_frame : Vars → Frame
 body_frame vars = record { locals = vars; ret = None }
 
 -- how statements leave their function: at their end with a value, or by a return
-abbrev pub LeavesWith : Program → TypedModule → Option Sort → Value → List Waiting → Flow → State → Config → Type 0
-LeavesWith p m result end below Goes s d = HaveTypes m.globals s.globals × (d ≡ returning p end below (world None s))
-LeavesWith p m result end below (Returns v) s d =
-    HaveTypes m.globals s.globals × HasResult result v × (d ≡ returning p v below (world None s))
-LeavesWith p m result end below f s d = ⊥
+abbrev pub LeavesWith : Program → Option Sort → Value → List Waiting → Flow → State → Config → Type 0
+LeavesWith p result end below Goes s d = d ≡ returning p end below (world None s)
+LeavesWith p result end below (Returns v) s d = GivesOne result × (d ≡ returning p v below (world None s))
+LeavesWith p result end below f s d = ⊥
 
 -- from a place on the code does what statements mean, and leaves the function
 abbrev pub BodyWorks : Program → Setting → Option Sort → Value → Meaning Flow → ℕ → ℕ → ℕ → Type 0
 BodyWorks p x result end m fn k i =
-    (n : ℕ) → CallsWork p x.source n → (regs : Regs) (below : List Waiting) (s : State) → Matches x regs s → s.turns ≤ n → Ends p s.turns (running fn k i regs below (world None s)) (m n s) (LeavesWith p x.source result end below) (Departs x.source fn below)
+    (n : ℕ) → CallsWork p x.source n → (regs : Regs) (below : List Waiting) (s : State) → Matches x regs s → s.turns ≤ n → Ends p s.turns (running fn k i regs below (world None s)) (m n s) (LeavesWith p result end below) (Escapes fn below)
 
 -- the code from the first builder's place on is that of a body, and no block is left to be filled. At its end it gives a literal
 pub record Bodied (x : Setting) (result : Option Sort) (t : RType) (last : Lit) (m : Meaning Flow) (old new : Building) : Type 0 where

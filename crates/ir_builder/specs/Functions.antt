@@ -3,7 +3,7 @@ use Rattle.std.specs.Prelude.{◌≡◌, ℕ, ◌≤◌, false, pos, List, [], �
 use Rattle.value_core.specs.Value.{Value, IntVal, BoolVal, NoneVal}
 use Rattle.value_core.specs.Ending.{Done}
 use Rattle.source_meaning.specs.State.{State}
-use Rattle.source_meaning.specs.SourceRun.{call_of, enter, top_of}
+use Rattle.source_soundness.specs.Watched.{enter, top_of}
 use Rattle.py_typed.specs.Statements.{TypedFunc, TypedModule}
 use Rattle.source_meaning.specs.WaysOut.{Goes}
 use Rattle.ir_core.specs.declared.code.Func.{Func}
@@ -16,8 +16,9 @@ use Rattle.ir_core.specs.Meaning.{Waiting, Ended}
 use Rattle.ir_core.specs.Registers.{Holds, first_regs}
 use Rattle.ir_builder_frames.specs.Coming.{world, running, Escapes, Ends}
 use Rattle.ir_builder_frames.specs.Settings.{variable_registers}
+use Rattle.ir_builder_frames.specs.Watching.{watch, calls_in}
 use Rattle.ir_builder_frames.specs.Kinds.{FunctionType, head_of}
-use Rattle.ir_builder_frames.specs.Matching.{HaveKinds, HaveTypes, parameter_sorts, HasHead, CallGives, CallRaises, CallsWork}
+use Rattle.ir_builder_frames.specs.Matching.{HasHead, CallGives, CallRaises, CallsWork}
 use Rattle.ir_builder_shapes_laws.specs.Built.{IsFunction, IsOwn}
 use Rattle.ir_builder.specs.Lines.{setting_in, LinedFunction}
 
@@ -34,10 +35,10 @@ end_value t = IntVal (pos 0)
 abbrev pub heads_of : TypedModule → List FunctionType
 heads_of m = map head_of m.funcs
 
--- where calls work and the module's variables have their types, the function's code does behind its turn what the function's body does on arguments
+-- where calls work, the function's code does behind its turn what the function's body does on arguments
 abbrev pub FunctionWorks : Program → TypedModule → TypedFunc → ℕ → Func → Type 0
 FunctionWorks p m f fn h =
-    (n : ℕ) → CallsWork p m n → (args : List Value) (below : List Waiting) (s : State) → HaveKinds (parameter_sorts f) args → HaveTypes m.globals s.globals → s.turns ≤ n → Ends p s.turns (running fn 0 1 (first_regs h.regs (map Holds args)) below (world None s)) (enter m (call_of m n) n (Some f) args s) (CallGives p m f below s) (CallRaises m fn below s)
+    (n : ℕ) → CallsWork p m n → (args : List Value) (below : List Waiting) (s : State) → s.turns ≤ n → Ends p s.turns (running fn 0 1 (first_regs h.regs (map Holds args)) below (world None s)) (enter (watch m) m (calls_in m n) n (Some f) args s) (CallGives p f.ret below s) (CallRaises fn below s)
 
 pub record IsFunctionOf (m : TypedModule) (f : TypedFunc) (h : Func) : Type 0 where
   pub name : h.name ≡ f.name
@@ -46,10 +47,10 @@ pub record IsFunctionOf (m : TypedModule) (f : TypedFunc) (h : Func) : Type 0 wh
   pub works : (p : Program) (fn : ℕ) → slice_get p.funcs fn ≡ Some h → FunctionWorks p m f fn h
   pub lined : LinedFunction (setting_in m f.params f.locals) f.body h
 
--- where calls work and the module's variables have their types, the code of a module's own statements does what they mean
+-- where calls work, the code of a module's own statements does what they mean
 abbrev pub OwnWorks : Program → TypedModule → ℕ → Func → Type 0
 OwnWorks p m fn h =
-    (n : ℕ) → CallsWork p m n → (s : State) → HaveTypes m.globals s.globals → s.turns ≤ n → Ends p s.turns (running fn 0 0 (first_regs h.regs []) [] (world None s)) (top_of m n s) (λ g u d. (g ≡ Goes) × (d ≡ Ended Done (world None u))) (Escapes fn [])
+    (n : ℕ) → CallsWork p m n → (s : State) → s.turns ≤ n → Ends p s.turns (running fn 0 0 (first_regs h.regs []) [] (world None s)) (top_of (watch m) m n s) (λ g u d. (g ≡ Goes) × (d ≡ Ended Done (world None u))) (Escapes fn [])
 
 pub record IsOwnOf (m : TypedModule) (h : Func) : Type 0 where
   pub built : IsOwn (heads_of m) (variable_registers m.globals) h

@@ -13,10 +13,10 @@ use Rattle.ir_core.proofs.StepLemmas.{put_same, put_other, move_step, goto_step,
 use Rattle.ir_builder_frames.specs.Settings.{Setting, rtype_of}
 use Rattle.ir_builder_frames.specs.Placing.{HasType, or_other, Has, Within, Placed}
 use Rattle.ir_builder_frames.specs.Coming.{world, running, Leads, Ends}
-use Rattle.ir_builder_frames.specs.Matching.{Matches, SameLocals, HasRoom, IsThrown, CallsWork}
+use Rattle.ir_builder_frames.specs.Matching.{Matches, HasRoom, IsThrown, CallsWork}
 use Rattle.ir_builder_frames.specs.Computing.{Showing, Shows, Meaning, Arrives, Computes, Attempts}
 use Rattle.ir_builder_frames.proofs.ComingLemmas.{leads_step, leads_trans, ends_now, ends_of, ends_from, ends_more, ends_map}
-use Rattle.ir_builder_frames.proofs.MatchLemmas.{same_refl, same_trans, thrown_from, computes_then}
+use Rattle.ir_builder_frames.proofs.MatchLemmas.{thrown_from, computes_then}
 use Rattle.ir_builder_operations.specs.Operating.{ActsOn}
 use Rattle.ir_builder_operations.specs.Rows.{as_value}
 use Rattle.ir_builder_operations.proofs.ThenLemmas.{attempt_then}
@@ -38,7 +38,7 @@ shows_set t v h k = ap is_unset k.0
 
 module _ (p : Program) (fn : ℕ) (below : List Waiting) (K : Showing) (set : IsSet K) (t : RType) (keep : ℕ) (old : Regs) (x : Setting) (before : State) where
   -- an arm's value is brought, and the arm goes to where the arms meet
-  brought : {line : ℕ} (b c : Building) (target r : ℕ) (v : Value) (s : State) (d : Config) → item_at p fn (length b.blocks) (length b.ops) ≡ Some (Do (Move record { 0 = target } record { 0 = r }) line) → item_at p fn (length b.blocks) (length b.ops + 1) ≡ Some (End (Goto (length c.blocks))) → length c.ops ≡ 0 → type_of_reg (registers_of p fn) (record { 0 = target }) ≡ Some t → type_of_reg (registers_of p fn) (record { 0 = r }) ≡ Some t → keep ≤ target → Arrives K fn (length b.blocks) (length b.ops) below keep old x before r v s d → (e : Config) × Leads p d e × Arrives K fn (length c.blocks) (length c.ops) below keep old x before target v s e
+  brought : {line : ℕ} (b c : Building) (target r : ℕ) (v : Value) (s : State) (d : Config) → item_at p fn (length b.blocks) (length b.ops) ≡ Some (Do (Move record { 0 = target } record { 0 = r }) line) → item_at p fn (length b.blocks) (length b.ops + 1) ≡ Some (End (Goto (length c.blocks))) → length c.ops ≡ 0 → type_of_reg (registers_of p fn) (record { 0 = target }) ≡ Some t → type_of_reg (registers_of p fn) (record { 0 = r }) ≡ Some t → keep ≤ target → Arrives K fn (length b.blocks) (length b.ops) below keep old before r v s d → (e : Config) × Leads p d e × Arrives K fn (length c.blocks) (length c.ops) below keep old before target v s e
   brought b c target r v s d move jump ops to_type from_type wide a =
       let now : Regs = put a.now target (a.now r) in
       let first = move_step Strict p (record { fn = fn; block = length b.blocks; place = length b.ops; regs = a.now }) below (world None s) (record { 0 = target }) (record { 0 = r }) t t move to_type from_type (not_refused t (a.now r) (set v (a.now r) a.shows)) in
@@ -51,7 +51,7 @@ module _ (p : Program) (fn : ℕ) (below : List Waiting) (K : Showing) (set : Is
       )
 
   -- the place where the test stands, the arms, and where they meet
-  pub choice_ends : {line line' : ℕ} (hv : Bool) (b1 b2 b3 b5 b6 c : Building) (condition first second ra rb target : ℕ) (f g : Does Value) (now : Regs) (s : State) (E : Value → State → Config → Type 0) → item_at p fn (length b1.blocks) (length b1.ops) ≡ Some (End (If record { 0 = condition } first second)) → type_of_reg (registers_of p fn) (record { 0 = condition }) ≡ Some BoolType → now condition ≡ Holds (BoolVal hv) → first ≡ length b2.blocks → length b2.ops ≡ 0 → second ≡ length b5.blocks → length b5.ops ≡ 0 → length c.ops ≡ 0 → type_of_reg (registers_of p fn) (record { 0 = target }) ≡ Some t → keep ≤ target → type_of_reg (registers_of p fn) (record { 0 = ra }) ≡ Some t → item_at p fn (length b3.blocks) (length b3.ops) ≡ Some (Do (Move record { 0 = target } record { 0 = ra }) line) → item_at p fn (length b3.blocks) (length b3.ops + 1) ≡ Some (End (Goto (length c.blocks))) → type_of_reg (registers_of p fn) (record { 0 = rb }) ≡ Some t → item_at p fn (length b6.blocks) (length b6.ops) ≡ Some (Do (Move record { 0 = target } record { 0 = rb }) line') → item_at p fn (length b6.blocks) (length b6.ops + 1) ≡ Some (End (Goto (length c.blocks))) → (hv ≡ true → Ends p s.turns (running fn (length b2.blocks) (length b2.ops) now below (world None s)) (f s) (Arrives K fn (length b3.blocks) (length b3.ops) below keep old x before ra) E) → (hv ≡ false → Ends p s.turns (running fn (length b5.blocks) (length b5.ops) now below (world None s)) (g s) (Arrives K fn (length b6.blocks) (length b6.ops) below keep old x before rb) E) → Ends p s.turns (running fn (length b1.blocks) (length b1.ops) now below (world None s)) ((if hv then f else g) s) (Arrives K fn (length c.blocks) (length c.ops) below keep old x before target) E
+  pub choice_ends : {line line' : ℕ} (hv : Bool) (b1 b2 b3 b5 b6 c : Building) (condition first second ra rb target : ℕ) (f g : Does Value) (now : Regs) (s : State) (E : Value → State → Config → Type 0) → item_at p fn (length b1.blocks) (length b1.ops) ≡ Some (End (If record { 0 = condition } first second)) → type_of_reg (registers_of p fn) (record { 0 = condition }) ≡ Some BoolType → now condition ≡ Holds (BoolVal hv) → first ≡ length b2.blocks → length b2.ops ≡ 0 → second ≡ length b5.blocks → length b5.ops ≡ 0 → length c.ops ≡ 0 → type_of_reg (registers_of p fn) (record { 0 = target }) ≡ Some t → keep ≤ target → type_of_reg (registers_of p fn) (record { 0 = ra }) ≡ Some t → item_at p fn (length b3.blocks) (length b3.ops) ≡ Some (Do (Move record { 0 = target } record { 0 = ra }) line) → item_at p fn (length b3.blocks) (length b3.ops + 1) ≡ Some (End (Goto (length c.blocks))) → type_of_reg (registers_of p fn) (record { 0 = rb }) ≡ Some t → item_at p fn (length b6.blocks) (length b6.ops) ≡ Some (Do (Move record { 0 = target } record { 0 = rb }) line') → item_at p fn (length b6.blocks) (length b6.ops + 1) ≡ Some (End (Goto (length c.blocks))) → (hv ≡ true → Ends p s.turns (running fn (length b2.blocks) (length b2.ops) now below (world None s)) (f s) (Arrives K fn (length b3.blocks) (length b3.ops) below keep old before ra) E) → (hv ≡ false → Ends p s.turns (running fn (length b5.blocks) (length b5.ops) now below (world None s)) (g s) (Arrives K fn (length b6.blocks) (length b6.ops) below keep old before rb) E) → Ends p s.turns (running fn (length b1.blocks) (length b1.ops) now below (world None s)) ((if hv then f else g) s) (Arrives K fn (length c.blocks) (length c.ops) below keep old before target) E
   choice_ends true b1 b2 b3 b5 b6 c condition first second ra rb target f g now s E test condition_type holds n2 o2 n5 o5 oc to_type wide type_a move_a jump_a type_b move_b jump_b arm_a arm_b =
       let step = if_step Strict p (record { fn = fn; block = length b1.blocks; place = length b1.ops; regs = now }) below (world None s) (record { 0 = condition }) first second true test condition_type holds in
       let is : running fn first 0 now below (world None s) ≡ running fn (length b2.blocks) (length b2.ops) now below (world None s) = ap (λ k. running fn k 0 now below (world None s)) n2 ∙ ap (λ i. running fn (length b2.blocks) i now below (world None s)) (sym o2) in
@@ -64,7 +64,7 @@ module _ (p : Program) (fn : ℕ) (below : List Waiting) (K : Showing) (set : Is
       (ends_more p s.turns _ (g s) _ _ E E (λ v s1 d a. brought b6 c target rb v s1 d move_b jump_b oc to_type type_b wide a) (λ v s1 d z. z) (arm_b refl))
 
   -- the same of the steps that build it
-  pub choice_runs : (hv : Bool) (b2 b3 b4 b5 b7 b8 : Building) (condition target test first end second ra rb : ℕ) (f g : Does Value) (now : Regs) (s : State) (E : Value → State → Config → Type 0) → Opens b2 b3 target test first t → Extends b3 b4 → Brings b4 b5 target ra end → second ≡ length b5.blocks → Extends b5 b7 → Meets b7 b8 target rb condition test first end second → HasType b2 condition BoolType → HasType b4 ra t → HasType b7 rb t → Has p fn b8 → keep ≤ length b2.regs → now condition ≡ Holds (BoolVal hv) → (hv ≡ true → Ends p s.turns (running fn (length b3.blocks) (length b3.ops) now below (world None s)) (f s) (Arrives K fn (length b4.blocks) (length b4.ops) below keep old x before ra) E) → (hv ≡ false → Ends p s.turns (running fn (length b5.blocks) (length b5.ops) now below (world None s)) (g s) (Arrives K fn (length b7.blocks) (length b7.ops) below keep old x before rb) E) → Ends p s.turns (running fn (length b2.blocks) (length b2.ops) now below (world None s)) ((if hv then f else g) s) (Arrives K fn (length b8.blocks) (length b8.ops) below keep old x before target) E
+  pub choice_runs : (hv : Bool) (b2 b3 b4 b5 b7 b8 : Building) (condition target test first end second ra rb : ℕ) (f g : Does Value) (now : Regs) (s : State) (E : Value → State → Config → Type 0) → Opens b2 b3 target test first t → Extends b3 b4 → Brings b4 b5 target ra end → second ≡ length b5.blocks → Extends b5 b7 → Meets b7 b8 target rb condition test first end second → HasType b2 condition BoolType → HasType b4 ra t → HasType b7 rb t → Has p fn b8 → keep ≤ length b2.regs → now condition ≡ Holds (BoolVal hv) → (hv ≡ true → Ends p s.turns (running fn (length b3.blocks) (length b3.ops) now below (world None s)) (f s) (Arrives K fn (length b4.blocks) (length b4.ops) below keep old before ra) E) → (hv ≡ false → Ends p s.turns (running fn (length b5.blocks) (length b5.ops) now below (world None s)) (g s) (Arrives K fn (length b7.blocks) (length b7.ops) below keep old before rb) E) → Ends p s.turns (running fn (length b2.blocks) (length b2.ops) now below (world None s)) ((if hv then f else g) s) (Arrives K fn (length b8.blocks) (length b8.ops) below keep old before target) E
   choice_runs hv b2 b3 b4 b5 b7 b8 condition target test first end second ra rb f g now s E opens x34 brings here x57 meets type_c type_a type_b has wide holds arm_a arm_b =
       let has7 = meets.has p fn has in
       let has5 = has_less p fn b5 b7 x57 has7 in
@@ -102,8 +102,8 @@ value_from x From t f b q type shows = record {
   extends = extends_refl b;
   type = type;
   runs = λ p fn h at n calls regs below s a match le holds.
-      ends_now p (f a) s _ (Arrives (Shows t) fn (length b.blocks) (length b.ops) below (length b.regs) regs x s q) (IsThrown fn h below x (length b.regs) regs)
-      record { now = regs; is = refl; shows = shows a regs holds; kept = λ j lt. refl; same = same_refl x regs s match };
+      ends_now p (f a) s _ (Arrives (Shows t) fn (length b.blocks) (length b.ops) below (length b.regs) regs s q) (IsThrown fn h below x (length b.regs) regs)
+      record { now = regs; is = refl; shows = shows a regs holds; kept = λ j lt. refl; same = refl };
 }
 
 -- less is known, or by another name
@@ -115,10 +115,10 @@ from_by x From To t f m b c r less k = record {
 }
 
 -- in a function that has more registers
-pub from_ends : {A : Type 0} (p : Program) (fn : ℕ) (h : Option ℕ) (below : List Waiting) (x : Setting) (n : ℕ) (calls : CallsWork p x.source n) (From : A → Regs → Type 0) (t : Sort) (go : Behind A) (b c : Building) (r : ℕ) (now old : Regs) (s before : State) (a : A) (keep : ℕ) → ComputesFrom x From t go b c r → Placed p fn b c h → keep ≤ length b.regs → ((j : ℕ) → j < keep → now j ≡ old j) → SameLocals x before s → Matches x now s → s.turns ≤ n → From a now → Ends p s.turns (running fn (length b.blocks) (length b.ops) now below (world None s)) (go n a s) (Arrives (Shows t) fn (length c.blocks) (length c.ops) below keep old x before r) (IsThrown fn h below x keep old)
+pub from_ends : {A : Type 0} (p : Program) (fn : ℕ) (h : Option ℕ) (below : List Waiting) (x : Setting) (n : ℕ) (calls : CallsWork p x.source n) (From : A → Regs → Type 0) (t : Sort) (go : Behind A) (b c : Building) (r : ℕ) (now old : Regs) (s before : State) (a : A) (keep : ℕ) → ComputesFrom x From t go b c r → Placed p fn b c h → keep ≤ length b.regs → ((j : ℕ) → j < keep → now j ≡ old j) → s.locals ≡ before.locals → Matches x now s → s.turns ≤ n → From a now → Ends p s.turns (running fn (length b.blocks) (length b.ops) now below (world None s)) (go n a s) (Arrives (Shows t) fn (length c.blocks) (length c.ops) below keep old before r) (IsThrown fn h below x keep old)
 from_ends p fn h below x n calls From t go b c r now old s before a keep k at wide kept same match le holds =
     ends_map p s.turns _ (go n a s) _ _ _ _
-    (λ w s1 d y. record { now = y.now; is = y.is; shows = y.shows; kept = λ j lt. y.kept j (omega arith) ∙ kept j lt; same = same_trans x before s s1 same y.same })
+    (λ w s1 d y. record { now = y.now; is = y.is; shows = y.shows; kept = λ j lt. y.kept j (omega arith) ∙ kept j lt; same = y.same ∙ same })
     (λ w s1 d z. thrown_from fn h below x keep (length b.regs) old now w s1 d wide (λ j i lt o. kept j lt) z)
     (k.runs p fn h at n calls now below s a match le holds)
 
@@ -183,7 +183,7 @@ truth_from x From truth t go acts b0 b1 b2 condition r room stay start made k =
           let p1 = placed_part p fn b0 b0 b1 b2 h (le_refl _) k.extends at in
           let p2 = placed_part p fn b0 b1 b2 b2 h k01 (extends_refl b2) at in
           let f : Bool → Does Value = λ h. go n (a, h) in
-          let R = Arrives (Shows t) fn (length b2.blocks) (length b2.ops) below (length b0.regs) regs x s r in
+          let R = Arrives (Shows t) fn (length b2.blocks) (length b2.ops) below (length b0.regs) regs s r in
           let T = IsThrown fn h below x (length b0.regs) regs in
           ends_of p s.turns _ _ (on_to (as_value (truth a) s) (with_truth f)) R T (truth_then (truth a s) f)
           (attempt_then p fn h below x (Shows BoolSort) BoolType acts b0 b1 condition regs s (as_value (truth a) s) (with_truth f) R made p1 room match (start a regs s holds)
@@ -209,7 +209,7 @@ choice_by x From truth t body other b2 b3 b4 b5 b7 b8 condition target test firs
       extends = meets.extends b2 (extends_trans b2 b3 b7 opens.extends x37) (let z = opens.test_is in omega arith) (let z = brings.end_is in omega arith);
       type = meets.types target (rtype_of t) (type_kept b3 b7 target (rtype_of t) x37 opens.type);
       runs = λ p fn h at n calls regs below s a match le holds.
-          let same = same_refl x regs s match in
+          let same = refl in
           let into_a = meet_within p fn b7 b8 b3 b4 target rb condition test first end second _ _ h meets (omega arith) refl (extends_trans b4 b5 b7 brings.extends arm_b.extends) at in
           let into_b = meet_within p fn b7 b8 b5 b7 target rb condition test first end second _ _ h meets (omega arith) refl (extends_refl b7) at in
           choice_runs p fn below (Shows t) (shows_set t) (rtype_of t) (length b2.regs) regs x s (truth a) b2 b3 b4 b5 b7 b8 condition target test first end second ra rb (body n a) (other n a) regs s (IsThrown fn h below x (length b2.regs) regs) opens arm_a.extends brings here arm_b.extends meets type arm_a.type arm_b.type at.has (le_refl _) (told a regs holds)

@@ -31,4 +31,4 @@ by_truth body other n v = truth_of v >>= λ h. if h then body n v else other n v
 pub record ComputesFrom {A : Type 0} (x : Setting) (From : A → Regs → Type 0) (t : Sort) (m : Behind A) (old new : Building) (r : ℕ) : Type 0 where
   pub extends : Extends old new
   pub type : HasType new r (rtype_of t)
-  pub runs : (p : Program) (fn : ℕ) (h : Option ℕ) → Placed p fn old new h → (n : ℕ) → CallsWork p x.source n → (regs : Regs) (below : List Waiting) (s : State) (a : A) → Matches x regs s → s.turns ≤ n → From a regs → Ends p s.turns (running fn (length old.blocks) (length old.ops) regs below (world None s)) (m n a s) (Arrives (Shows t) fn (length new.blocks) (length new.ops) below (length old.regs) regs x s r) (IsThrown fn h below x (length old.regs) regs)
+  pub runs : (p : Program) (fn : ℕ) (h : Option ℕ) → Placed p fn old new h → (n : ℕ) → CallsWork p x.source n → (regs : Regs) (below : List Waiting) (s : State) (a : A) → Matches x regs s → s.turns ≤ n → From a regs → Ends p s.turns (running fn (length old.blocks) (length old.ops) regs below (world None s)) (m n a s) (Arrives (Shows t) fn (length new.blocks) (length new.ops) below (length old.regs) regs s r) (IsThrown fn h below x (length old.regs) regs)

@@ -8,7 +8,7 @@ use Rattle.ir_core.specs.declared.code.RType.TheVariants as rtype
 use Rattle.ir_builder_frames.specs.Operands.{ActsOnAll}
 
 alike : (c : Compared) (v w : Value) → HasKind (compared_sort c) v → HasKind (compared_sort c) w → are_alike v w ≡ true
-alike Ints v w k l = by_int (λ v. are_alike v w ≡ true) (λ a e. by_int (λ w. are_alike (IntVal a) w ≡ true) (λ b f. refl) w l) v k
+alike Ints v w k l = by_int (λ v. are_alike v w ≡ true) (λ a. by_int (λ w. are_alike (IntVal a) w ≡ true) (λ b. refl) w l) v k
 alike Natives v w k l = by_i64 (λ v. are_alike v w ≡ true) (λ a e. by_i64 (λ w. are_alike (IntVal a) w ≡ true) (λ b f. refl) w l) v k
 alike Texts v w k l = by_text (λ v. are_alike v w ≡ true) (λ a. by_text (λ w. are_alike (StrVal a) w ≡ true) (λ b. refl) w l) v k
 

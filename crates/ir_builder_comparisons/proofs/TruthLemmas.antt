@@ -22,12 +22,12 @@ text_truth : (t : List ℕ) (s : State) → truth_as (StrVal t) s ≡ compares (
 text_truth t s = ap (λ b. Gives (BoolVal b) s) (sym (filled_is t))
 
 truth_is : (c : Compared) (v : Value) (s : State) → HasKind (compared_sort c) v → truth_as v s ≡ compares (ordered cmp.Ne) v (false_of c) s
-truth_is Ints v s k = by_int (λ v. truth_as v s ≡ compares (ordered cmp.Ne) v (IntVal (pos 0)) s) (λ n e. number_truth n s) v k
+truth_is Ints v s k = by_int (λ v. truth_as v s ≡ compares (ordered cmp.Ne) v (IntVal (pos 0)) s) (λ n. number_truth n s) v k
 truth_is Natives v s k = by_i64 (λ v. truth_as v s ≡ compares (ordered cmp.Ne) v (IntVal (pos 0)) s) (λ n e. number_truth n s) v k
 truth_is Texts v s k = by_text (λ v. truth_as v s ≡ compares (ordered cmp.Ne) v (StrVal []) s) (λ t. text_truth t s) v k
 
 false_kind : (c : Compared) → HasKind (compared_sort c) (false_of c)
-false_kind Ints = (pos 0, refl, refl)
+false_kind Ints = (pos 0, refl)
 false_kind Natives = (pos 0, refl, refl)
 false_kind Texts = ([], refl)
 

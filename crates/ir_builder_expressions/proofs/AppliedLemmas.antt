@@ -1,7 +1,7 @@
 -- An expression that is an operation on parts: what it asks of them, what its code does, and what it weighs.
-use Rattle.ir_builder_expressions.proofs.Common.{◌≡◌, refl, sym, ◌∙◌, ap, subst, ℕ, ◌+◌, true, List, Option, Some, None, is_some, Span, TExpr, Sort, TypedNode, typed, type_of, typed_expr, Neg, Not, Truth, Arith, Concat, At, Len, ToStr, Coerce, TypedModule, Variable, typed_expr_of, type_at, Building, Setting, Unary, Negated, Inverted, Tested, Counted, Written, Coerced, Binary, Arithmetic, Joined, Indexed, UnarySuits, BinarySuits, Applied, one, two, applied_in, node_in, Suits, NodeSuits, Emits, EmitsOne, EmitsTwo}
+use Rattle.ir_builder_expressions.proofs.Common.{◌≡◌, refl, sym, ◌∙◌, ap, subst, ℕ, ◌+◌, true, List, Option, Some, None, is_some, TExpr, Sort, TypedNode, typed, type_of, typed_expr, Neg, Not, Truth, Arith, Concat, At, Len, ToStr, Coerce, TypedModule, Variable, typed_expr_of, type_at, Building, Setting, Unary, Negated, Inverted, Tested, Counted, Written, Coerced, Binary, Arithmetic, Joined, Indexed, UnarySuits, BinarySuits, Applied, one, two, applied_in, node_in, Suits, NodeSuits, Emits, EmitsOne, EmitsTwo, EmitsNode}
 use Rattle.py_typed.specs.Sorts.{sort as sort_of}
-use Rattle.ir_builder_expressions.proofs.ArmLemmas.{Is, asked, emits_as}
+use Rattle.ir_builder_expressions.proofs.ArmLemmas.{Is, asked, emits_node}
 use Rattle.ir_builder_expressions.proofs.PieceLemmas.{item_emits}
 use Rattle.ir_builder_expressions.proofs.WeightLemmas.{weight, node_weight, weight_of}
 
@@ -20,25 +20,25 @@ weight_in (one op e) = weight e
 weight_in (two op a b) = weight a + weight b
 
 -- an operation has these
-pub record Fits (x : Setting) (n : TypedNode) (t : Sort) (place : Span) (a : Applied) : Type 0 where
+pub record Fits (x : Setting) (n : TypedNode) (t : Sort) (a : Applied) : Type 0 where
   pub suits : AppliedSuits x.source x.variables t a
-  pub emits : (b c : Building) (r : ℕ) → EmitsApplied x t b c r a → Emits x (typed n t place) b c r
+  pub emits : (b c : Building) (r : ℕ) → EmitsApplied x t b c r a → EmitsNode x n t b c r
   pub weighs : node_weight n ≡ weight_in a + 1
 
 by_some : {A : Type 0} (P : A → Type 0) (x a : A) → Some x ≡ Some a → P x → P a
 by_some P x a e h = let same : x ≡ a = cc in subst P same h
 
-fits : (x : Setting) (n : TypedNode) (t : Sort) (place : Span) (a : Applied) → applied_in n ≡ Some a → NodeSuits x.source x.variables n t → Fits x n t place a
-fits x (Neg e) t place a is h = by_some (Fits x (Neg e) t place) (one Negated e) a is record { suits = h; emits = λ b c r q. q; weighs = refl }
-fits x (Not e) t place a is h = by_some (Fits x (Not e) t place) (one Inverted e) a is record { suits = h; emits = λ b c r q. q; weighs = refl }
-fits x (Truth e) t place a is h = by_some (Fits x (Truth e) t place) (one Tested e) a is record { suits = h; emits = λ b c r q. q; weighs = refl }
-fits x (Len e) t place a is h = by_some (Fits x (Len e) t place) (one Counted e) a is record { suits = h; emits = λ b c r q. q; weighs = refl }
-fits x (ToStr e) t place a is h = by_some (Fits x (ToStr e) t place) (one Written e) a is record { suits = h; emits = λ b c r q. q; weighs = refl }
-fits x (Coerce e) t place a is h = by_some (Fits x (Coerce e) t place) (one Coerced e) a is record { suits = h; emits = λ b c r q. q; weighs = refl }
-fits x (Arith op e f) t place a is h = by_some (Fits x (Arith op e f) t place) (two (Arithmetic op) e f) a is record { suits = h; emits = λ b c r q. q; weighs = refl }
-fits x (Concat e f) t place a is h = by_some (Fits x (Concat e f) t place) (two Joined e f) a is record { suits = h; emits = λ b c r q. q; weighs = refl }
-fits x (At e f) t place a is h = by_some (Fits x (At e f) t place) (two Indexed e f) a is record { suits = h; emits = λ b c r q. item_emits x e f t place b c r h.0.1 q; weighs = refl }
-fits x n t place a is h = let f : None ≡ Some a = is in absurd (cc)
+fits : (x : Setting) (n : TypedNode) (t : Sort) (a : Applied) → applied_in n ≡ Some a → NodeSuits x.source x.variables n t → Fits x n t a
+fits x (Neg e) t a is h = by_some (Fits x (Neg e) t) (one Negated e) a is record { suits = h; emits = λ b c r q. q; weighs = refl }
+fits x (Not e) t a is h = by_some (Fits x (Not e) t) (one Inverted e) a is record { suits = h; emits = λ b c r q. q; weighs = refl }
+fits x (Truth e) t a is h = by_some (Fits x (Truth e) t) (one Tested e) a is record { suits = h; emits = λ b c r q. q; weighs = refl }
+fits x (Len e) t a is h = by_some (Fits x (Len e) t) (one Counted e) a is record { suits = h; emits = λ b c r q. q; weighs = refl }
+fits x (ToStr e) t a is h = by_some (Fits x (ToStr e) t) (one Written e) a is record { suits = h; emits = λ b c r q. q; weighs = refl }
+fits x (Coerce e) t a is h = by_some (Fits x (Coerce e) t) (one Coerced e) a is record { suits = h; emits = λ b c r q. q; weighs = refl }
+fits x (Arith op e f) t a is h = by_some (Fits x (Arith op e f) t) (two (Arithmetic op) e f) a is record { suits = h; emits = λ b c r q. q; weighs = refl }
+fits x (Concat e f) t a is h = by_some (Fits x (Concat e f) t) (two Joined e f) a is record { suits = h; emits = λ b c r q. q; weighs = refl }
+fits x (At e f) t a is h = by_some (Fits x (At e f) t) (two Indexed e f) a is record { suits = h; emits = λ b c r q. item_emits x e f t b c r h.0.1 q; weighs = refl }
+fits x n t a is h = let f : None ≡ Some a = is in absurd (cc)
 
 -- ---- of a declared expression
 
@@ -52,8 +52,8 @@ module _ (x : Setting) (e : TExpr) (suits : Suits x.source x.variables (typed_ex
   abbrev pub node : TypedNode
   node = node_in (typed_expr e)
 
-  own_fits : (a : Applied) → Some a ≡ applied_in node → Fits x node (sort_of e.ty) e.span a
-  own_fits a is = fits x node (sort_of e.ty) e.span a (sym is) (asked x.source x.variables e node (own_node e) suits)
+  own_fits : (a : Applied) → Some a ≡ applied_in node → Fits x node (sort_of e.ty) a
+  own_fits a is = fits x node (sort_of e.ty) a (sym is) (asked x.source x.variables e node (own_node e) suits)
 
   pub applied_weight : (a : Applied) → Some a ≡ applied_in node → weight_of e ≡ weight_in a + 1
   applied_weight a is = ap weight (own_node e) ∙ (own_fits a is).weighs
@@ -70,7 +70,7 @@ module _ (x : Setting) (e : TExpr) (suits : Suits x.source x.variables (typed_ex
       (subst (λ s. BinarySuits op (sort_of e.ty) (sort_of p.ty) s) (type_at q) left, h.1, h.2)
 
   pub applied_emits : (a : Applied) (b c : Building) (r : ℕ) → Some a ≡ applied_in node → EmitsApplied x (sort_of e.ty) b c r a → Emits x (typed_expr e) b c r
-  applied_emits a b c r is q = emits_as x e node (sort_of e.ty) b c r (own_node e) refl ((own_fits a is).emits b c r q)
+  applied_emits a b c r is q = emits_node x e node (sort_of e.ty) b c r (own_node e) refl ((own_fits a is).emits b c r q)
 
   -- it weighs something
   some_weight : (o : Option Applied) → o ≡ applied_in node → is_some o ≡ true → (k : ℕ) × (weight_of e ≡ k + 1)

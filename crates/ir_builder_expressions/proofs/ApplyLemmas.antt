@@ -1,5 +1,5 @@
 -- An operation on one or two parts does with their values what it is to do, whichever it is.
-use Rattle.ir_builder_expressions.proofs.Common.{◌≡◌, refl, sym, ap, ◌∙◌, subst, ℕ, true, false, [], ◌∷◌, Option, None, ℤ, Value, StrVal, BinOp, TExpr, Sort, typed_expr, type_of, give, needs, coerced, arithmetic, negated, joined, letter, length_of, has_text, text_of, type_at, Building, rtype_of, HasKind, Shows, Attempts, ActsOnAll, ActsOn, ActsOnTwo, by_int, by_i64, by_bool, by_text, of_one, of_two, inverts, attempts_as, as_one, as_two, Unary, Binary, is_scalar, native_in, sort_by, part_sort, is_i64, literal_in, unary_goes, binary_goes, UnarySuits, BinarySuits, FindsTruth}
+use Rattle.ir_builder_expressions.proofs.Common.{◌≡◌, refl, sym, ap, ◌∙◌, subst, ℕ, false, [], ◌∷◌, Option, None, ℤ, Value, StrVal, BinOp, TExpr, Sort, typed_expr, type_of, give, needs, coerced, arithmetic, negated, joined, letter, length_of, has_text, text_of, type_at, Building, rtype_of, Shows, Attempts, ActsOnAll, ActsOn, ActsOnTwo, of_one, of_two, inverts, as_one, as_two, Unary, Binary, native_in, sort_by, part_sort, is_i64, literal_in, unary_goes, binary_goes, UnarySuits, BinarySuits, FindsTruth, Does, ends_of, ends_needed}
 use Rattle.py_typed.specs.Sorts as sort
 use Rattle.py_typed.specs.Sorts.{sort as sort_of}
 use Rattle.ir_core.specs.declared.code.RType.TheVariants as rtype
@@ -36,18 +36,16 @@ applies_negated op t u b c r x is a = moved op unary.Negated t t u u b c r x is 
 pub applies_coerced : (op : Unary) (t u : Sort) (b c : Building) (r x : ℕ) → op ≡ unary.Coerced → Attempts (Shows t) b c r (rtype_of t) (ActsOn u x (coerced t)) → Applies op t u b c r x
 applies_coerced op t u b c r x is a = moved op unary.Coerced t t u u b c r x is refl refl a
 
-kind_text : (t : Sort) → is_scalar t ≡ true → (v : Value) → HasKind t v → has_text v ≡ true
-kind_text sort.Int e = by_int (λ v. has_text v ≡ true) (λ n f. refl)
-kind_text sort.I64 e = by_i64 (λ v. has_text v ≡ true) (λ n f. refl)
-kind_text sort.Bool e = by_bool (λ v. has_text v ≡ true) (λ b. refl)
-kind_text sort.Str e = by_text (λ v. has_text v ≡ true) (λ text. refl)
-kind_text t e = let f : false ≡ true = e in absurd (cc)
-
-written_attempts : (u : Sort) (b c : Building) (r x : ℕ) → is_scalar u ≡ true → Attempts (Shows sort.Str) b c r rtype.Ref (ActsOn u x (λ v. give (StrVal (text_of v)))) → Applies unary.Written sort.Str u b c r x
-written_attempts u b c r x e a =
-    attempts_as (Shows sort.Str) b c r rtype.Ref (ActsOn u x (λ v. give (StrVal (text_of v)))) (ActsOn u x (unary_goes unary.Written sort.Str))
-    (λ regs s res f. record { v = f.v; shows = f.shows; does = f.does ∙ ap (λ z. needs z (give (StrVal (text_of f.v))) s) (kind_text u e f.v f.shows.1) })
-    a
+-- where a value has no text the source is stuck
+written_attempts : (u : Sort) (b c : Building) (r x : ℕ) → Attempts (Shows sort.Str) b c r rtype.Ref (ActsOn u x (λ v. give (StrVal (text_of v)))) → Applies unary.Written sort.Str u b c r x
+written_attempts u b c r x a = record {
+  extends = a.extends;
+  type = a.type;
+  runs = λ p fn h placed z room regs below s match res on.
+      let go : Does Value = give (StrVal (text_of on.v)) in
+      ends_of p s.turns _ res (needs (has_text on.v) go s) _ _ on.does
+      (ends_needed p s.turns _ (has_text on.v) go s _ _ (λ e. a.runs p fn h placed z room regs below s match (go s) record { v = on.v; shows = on.shows; does = refl }));
+}
 
 module _ (op : Unary) (t : Sort) (e : TExpr) (b c : Building) (r x : ℕ) where
   abbrev Whole : Type 0
@@ -74,7 +72,7 @@ module _ (op : Unary) (t : Sort) (e : TExpr) (b c : Building) (r x : ℕ) where
   pub applies_written : op ≡ unary.Written → UnarySuits op t (sort_of e.ty) → Attempts (Shows sort.Str) b c r rtype.Ref (ActsOn (sort_of e.ty) x (λ v. give (StrVal (text_of v)))) → Whole
   applies_written is suits a =
       let h = suited unary.Written is suits in
-      moved op unary.Written t sort.Str (part_sort t (typed_expr e)) (sort_of e.ty) b c r x is h.0 (own_sort t sort.Str e h.0 refl) (written_attempts (sort_of e.ty) b c r x h.1 a)
+      moved op unary.Written t sort.Str (part_sort t (typed_expr e)) (sort_of e.ty) b c r x is h.0 (own_sort t sort.Str e h.0 refl) (written_attempts (sort_of e.ty) b c r x a)
 
 -- ---- two parts
 

@@ -1,5 +1,5 @@
 -- Arguments one after another.
-use Rattle.ir_builder_expressions.proofs.Common.{◌≡◌, refl, sym, ◌∙◌, ap, subst, ℕ, ◌+◌, ◌<◌, ◌≤◌, arith, le_refl, List, [], ◌∷◌, ◌++◌, length, map, Some, take, drop, get_or, add-one, drop_more, take_all, map_push, Value, TExpr, Sort, TypedModule, Variable, TypedExpr, type_of, exprs_of, typed_expr, State, Gives, on_to, Reg, Declared, type_of_reg, Regs, Building, Extends, Setting, rtype_of, HasRoom, IsThrown, means, Shows, ShowAll, HaveTypes, ArrivesAll, ComputesAll, extends_refl, extends_trans, type_kept, placed_part, ends_now, ends_of, on_assoc, room_on, same_refl, same_trans, computes_then, computes_all_then, Suits, ArgumentsSuit, SomeSuit, means_all, Emits, EmitsAll, Walks, show_kept}
+use Rattle.ir_builder_expressions.proofs.Common.{◌≡◌, refl, sym, ◌∙◌, ap, subst, ℕ, ◌+◌, ◌<◌, ◌≤◌, arith, le_refl, List, [], ◌∷◌, ◌++◌, length, map, Some, take, drop, get_or, add-one, drop_more, take_all, map_push, Value, TExpr, Sort, TypedModule, Variable, TypedExpr, type_of, exprs_of, typed_expr, State, Gives, on_to, Reg, Declared, type_of_reg, Regs, Building, Extends, Setting, rtype_of, HasRoom, IsThrown, means, Shows, ShowAll, HaveTypes, ArrivesAll, ComputesAll, extends_refl, extends_trans, type_kept, placed_part, ends_now, ends_of, on_assoc, room_on, computes_then, computes_all_then, Suits, ArgumentsSuit, SomeSuit, means_all, Emits, EmitsAll, Walks, show_kept}
 use Rattle.std.proofs.Math.Seq.{take-suc}
 use Rattle.ir_builder_expressions.proofs.WalkingLemmas.{walks_refl, walks_trans}
 
@@ -36,7 +36,7 @@ pub none_emitted : (x : Setting) (b : Building) → ComputesAll x [] (means_all 
 none_emitted x b = record {
   extends = extends_refl b;
   types = tt;
-  runs = λ p fn h at n calls regs below s match le. ends_now p [] s _ (ArrivesAll [] fn (length b.blocks) (length b.ops) below (length b.regs) regs x s []) (IsThrown fn h below x (length b.regs) regs) record { now = regs; is = refl; shows = tt; kept = λ j lt. refl; same = same_refl x regs s match };
+  runs = λ p fn h at n calls regs below s match le. ends_now p [] s _ (ArrivesAll [] fn (length b.blocks) (length b.ops) below (length b.regs) regs s []) (IsThrown fn h below x (length b.regs) regs) record { now = regs; is = refl; shows = tt; kept = λ j lt. refl; same = refl };
 }
 
 pub snoc_emitted : (x : Setting) (ts : List Sort) (es : List TypedExpr) (e : TypedExpr) (b0 b1 b2 : Building) (rs : List Reg) (r : Reg) → HasRoom x b0 → EmitsAll x ts (exprs_of es) b0 b1 rs → Emits x e b1 b2 r.0 → EmitsAll x (ts ++ type_of e ∷ []) (exprs_of (es ++ e ∷ [])) b0 b2 (rs ++ r ∷ [])
@@ -50,12 +50,12 @@ snoc_emitted x ts es e b0 b1 b2 rs r room q c =
       runs = λ p fn h at n calls regs below s match le.
           let p1 = placed_part p fn b0 b0 b1 b2 h (le_refl _) c.extends at in
           let p2 = placed_part p fn b0 b1 b2 b2 h k1 (extends_refl b2) at in
-          let R = ArrivesAll (ts ++ type_of e ∷ []) fn (length b2.blocks) (length b2.ops) below (length b0.regs) regs x s (rs ++ r ∷ []) in
+          let R = ArrivesAll (ts ++ type_of e ∷ []) fn (length b2.blocks) (length b2.ops) below (length b0.regs) regs s (rs ++ r ∷ []) in
           ends_of p s.turns _ _ _ R (IsThrown fn h below x (length b0.regs) regs) (snoc_means x n es e s)
           (computes_all_then p fn h below x n calls ts (means_all x (exprs_of es)) b0 b1 rs regs s _ R (length b0.regs) regs q p1 room (le_refl _) (λ j i z o. refl) match le
           (λ now vs s1 le1 shows kept same1 match1. computes_then p fn h below x n calls (Shows (type_of e)) (rtype_of (type_of e)) (means x e) b1 b2 r.0 now s1 _ R (length b0.regs) regs c p2 (room_on x b0 b1 q.extends room) l1 (λ j i z o. kept j z) match1 le1
           (λ now2 v s2 le2 shows2 kept2 same2 match2.
-          ends_now p (vs ++ v ∷ []) s2 _ R (IsThrown fn h below x (length b0.regs) regs) record { now = now2; is = refl; shows = show_snoc ts (type_of e) vs v now2 rs r (show_kept b1 ts vs rs now now2 q.types kept2 shows) shows2; kept = λ j lt. kept2 j (omega arith) ∙ kept j lt; same = same_trans x s s1 s2 same1 same2 })));
+          ends_now p (vs ++ v ∷ []) s2 _ R (IsThrown fn h below x (length b0.regs) regs) record { now = now2; is = refl; shows = show_snoc ts (type_of e) vs v now2 rs r (show_kept b1 ts vs rs now now2 q.types kept2 shows) shows2; kept = λ j lt. kept2 j (omega arith) ∙ kept j lt; same = same2 ∙ same1 })));
     }
 
 -- one turn of the loop over the arguments

@@ -1,5 +1,5 @@
 -- What is asked of an expression is asked of its parts, and what its parts promise it promises.
-use Rattle.ir_builder_expressions.proofs.Common.{◌≡◌, sym, ◌∙◌, ap, subst, ℕ, Bool, List, map, Some, None, ℤ, Box, Global, CmpOp, TExpr, TKind, Sort, TypedExpr, TypedNode, typed, typed_expr, typed_node, exprs_of, comparisons_of, typed_comparison, TypedModule, Variable, typed_expr_of, typed_node-Bool, typed_node-Local, typed_node-Global, typed_expr-Compare, typed_node-And, typed_node-Or, typed_node-Cond, typed_node-Call, typed_node-Int, typed_node-Str, typed_node-Input, Building, Setting, Suits, NodeSuits, is_scalar, ChoiceSuits, Emits}
+use Rattle.ir_builder_expressions.proofs.Common.{◌≡◌, sym, ◌∙◌, ap, subst, ℕ, Bool, List, map, Some, None, ℤ, Box, Global, CmpOp, TExpr, TKind, Sort, TypedExpr, TypedNode, typed, typed_expr, typed_node, exprs_of, comparisons_of, typed_comparison, TypedModule, Variable, typed_expr_of, typed_node-Bool, typed_node-Local, typed_node-Global, typed_expr-Compare, typed_node-And, typed_node-Or, typed_node-Cond, typed_node-Call, typed_node-Int, typed_node-Str, typed_node-Input, Building, Setting, Suits, NodeSuits, is_scalar, ChoiceSuits, Emits, looked_at, Shows, EmitsNode}
 use Rattle.py_typed.specs.declared.expression.TKind as kind
 use Rattle.py_typed.specs.Sorts.{sort as sort_of}
 use Rattle.py_typed.specs.Expressions as tree
@@ -74,3 +74,7 @@ emits_as x e n t b c r is same q =
     let P : Sort → Type 0 = λ u. Emits x (typed n u e.span) b c r in
     let R : TypedExpr → Type 0 = λ y. Emits x y b c r in
     subst R (sym is) (subst P (sym same) q)
+
+-- and what its node promises, whose value is then looked at
+pub emits_node : (x : Setting) (e : TExpr) (n : TypedNode) (t : Sort) (b c : Building) (r : ℕ) → Is e n → sort_of e.ty ≡ t → EmitsNode x n t b c r → Emits x (typed_expr e) b c r
+emits_node x e n t b c r is same q = emits_as x e n t b c r is same (looked_at x (Shows t) n t e.span b c r (λ v h kind k. k.0) q)

@@ -1,8 +1,9 @@
 -- Calls, and their arguments from the left.
-use Rattle.ir_builder_expressions.proofs.Common.{◌≡◌, refl, sym, ◌∙◌, ap, subst, ℕ, suc, ◌+◌, ◌<◌, arith, le_refl, true, false, List, [], ◌∷◌, length, map, Option, Some, None, slice_get, ◌&&◌, option_map, option_and_then, Value, Span, Sort, TypedFunc, typed, Call, TypedExprs, State, RType, I64, Ref, Reg, Program, Declared, type_of_reg, Held, Holds, error_of, is_error, Regs, put, first_regs, Building, Waiting, Leaves, Strict, read_all, is_type, are_types, is_fit, is_tested, away, registers_of, item_at, handler_at, step, put_same, put_other, call_step, Setting, rtype_of, Has, Adds, world, running, returning, HasRoom, IsThrown, parameter_sorts, BeginWith, HasHead, Shows, Arrives, ShowAll, HaveTypes, extends_refl, extends_trans, type_has, has_less, adds_has, placed_part, guard_at, leads_refl, leads_step, ends_both, ends_from, read_is, room_on, same_trans, match_kept, thrown_now, computes_all_then, failed_off, kinds_shown, means_all, Emits, EmitsAll}
+use Rattle.ir_builder_expressions.proofs.Common.{◌≡◌, refl, sym, ◌∙◌, ap, subst, ℕ, suc, ◌+◌, ◌<◌, arith, le_refl, true, false, List, [], ◌∷◌, length, map, Option, Some, None, slice_get, ◌&&◌, option_map, option_and_then, Value, Span, Sort, TypedFunc, typed, Call, TypedExprs, State, RType, I64, Ref, Reg, Program, Declared, type_of_reg, Held, Holds, error_of, is_error, Regs, put, first_regs, Building, Waiting, Leaves, Strict, read_all, is_type, are_types, is_fit, is_tested, away, registers_of, item_at, handler_at, step, put_same, put_other, call_step, Setting, rtype_of, Has, Adds, world, running, returning, HasRoom, IsThrown, parameter_sorts, BeginWith, HasHead, Arrives, ShowAll, HaveTypes, extends_refl, extends_trans, type_has, has_less, adds_has, placed_part, guard_at, leads_refl, leads_step, ends_both, ends_from, read_is, room_on, match_kept, thrown_now, computes_all_then, failed_off, HasKind, Showing, means_all, Emits, EmitsAll}
 use Rattle.std.proofs.lemmas.Bool.{eq-eqb}
 use Rattle.value_core.specs.Exceptions.{Thrown}
-use Rattle.source_meaning.specs.SourceRun.{call_of}
+use Rattle.ir_builder_frames.specs.Watching.{calls_in}
+use Rattle.ir_builder_frames.proofs.WatchLemmas.{looked_at}
 use Rattle.ir_core.specs.declared.code.RType.TheVariants.{Int, Bool as BoolType}
 use Rattle.ir_core.specs.declared.code.Op.TheVariants as op
 use Rattle.ir_core.specs.declared.code.Func.{Func}
@@ -72,46 +73,47 @@ pub call_emits : {line : ℕ} (x : Setting) (f : ℕ) (g : TypedFunc) (es : Type
 call_emits x f g es place b0 b1 b2 rs r is room q a =
     let k1 = q.extends.blocks_grow in
     let l1 = q.extends.regs_grow in
-    record {
+    let K : Showing = λ v h. HasKind g.ret v → h ≡ Holds v in
+    looked_at x K (Call f es) g.ret place b0 b2 r (λ v h kind k. k kind) record {
       extends = extends_trans b0 b1 b2 q.extends a.extends;
       type = a.type;
       runs = λ p fn h at n calls regs below s match le.
           let has1 = has_less p fn b1 b2 a.extends at.has in
           let p1 = placed_part p fn b0 b0 b1 b2 h (le_refl _) a.extends at in
           let p2 = placed_part p fn b0 b1 b2 b2 h k1 (extends_refl b2) at in
-          let R = Arrives (Shows g.ret) fn (length b2.blocks) (length b2.ops) below (length b0.regs) regs x s r in
+          let R = Arrives K fn (length b2.blocks) (length b2.ops) below (length b0.regs) regs s r in
           let T = IsThrown fn h below x (length b0.regs) regs in
           let target = type_has p fn b2 r (rtype_of g.ret) at.has a.type in
-          computes_all_then p fn h below x n calls (parameter_sorts g) (means_all x es) b0 b1 rs regs s (call_of x.source n f) R (length b0.regs) regs q p1 room (le_refl _) (λ j i z o. refl) match le
+          computes_all_then p fn h below x n calls (parameter_sorts g) (means_all x es) b0 b1 rs regs s (calls_in x.source n f) R (length b0.regs) regs q p1 room (le_refl _) (λ j i z o. refl) match le
           (λ now vs s1 le1 shows kept same1 match1.
           let code = calls.there f g is in
           let waits : Waiting = record { frame = record { fn = fn; block = length b1.blocks; place = length b1.ops; regs = now }; into = record { 0 = r } } in
           let types = types_has p fn b1 (parameter_sorts g) rs has1 q.types in
           let at_call = adds_has p fn b1 b2 r (rtype_of g.ret) _ a at.has in
           let enter = call_step Strict p (record { fn = fn; block = length b1.blocks; place = length b1.ops; regs = now }) below (world None s1) (record { 0 = r }) f rs code.0 (map Holds vs) at_call refl code.1 (all_read (registers_of p fn) now (parameter_sorts g) vs rs types shows) (call_is_fit (registers_of p fn) code.0 g (record { 0 = r }) rs code.2 types target) in
-          let body = calls.each f g code.0 vs (waits ∷ below) s1 is code.1 (kinds_shown (parameter_sorts g) vs now rs shows) match1.globals le1 in
+          let body = calls.each f g code.0 vs (waits ∷ below) s1 is code.1 le1 in
           let here = guard_at p fn b1 b2 h (let z = a.blocks in omega arith) p2 (length b1.blocks) (sym a.blocks) in
           let put_kept : (w : Held) (j : ℕ) → j < length b1.regs → put now r w j ≡ now j = λ w j lt. put_other now r j w (let z = a.made in λ e. omega arith) in
           let edge = at.has.edges.each _ _ r _ _ at_call refl in
-          ends_from p s1.turns s1.turns _ (running f 0 0 (first_regs code.0.regs (map Holds vs)) (waits ∷ below) (world None s1)) (call_of x.source n f vs s1) R T (le_refl _) (leads_step p _ _ enter)
-          (ends_both p s1.turns _ (call_of x.source n f vs s1) _ R _ T
+          ends_from p s1.turns s1.turns _ (running f 0 0 (first_regs code.0.regs (map Holds vs)) (waits ∷ below) (world None s1)) (calls_in x.source n f vs s1) R T (le_refl _) (leads_step p _ _ enter)
+          (ends_both p s1.turns _ (calls_in x.source n f vs s1) _ R _ T
           (λ v s2 d c.
-          let back : returning p v (waits ∷ below) (world None s2) ≡ running fn (length b1.blocks) (length b1.ops + 1) (put now r (Holds v)) below (world None s2) = rw target refl in (
+          let back : returning p c.0 (waits ∷ below) (world None s2) ≡ running fn (length b1.blocks) (length b1.ops + 1) (put now r (Holds c.0)) below (world None s2) = rw target refl in (
             d,
             leads_refl p d,
             record {
-              now = put now r (Holds v);
+              now = put now r (Holds c.0);
               is = c.3 ∙ back ∙ rw (a.blocks, a.ops) refl;
-              shows = subst (Shows g.ret v) (sym (put_same now r (Holds v))) (refl, c.0);
-              kept = λ j lt. put_kept (Holds v) j (omega arith) ∙ kept j lt;
-              same = same_trans x s s1 s2 same1 record { locals = c.1; globals = c.2 };
+              shows = λ kind. put_same now r (Holds c.0) ∙ ap Holds (c.1 kind);
+              kept = λ j lt. put_kept (Holds c.0) j (omega arith) ∙ kept j lt;
+              same = c.2 ∙ same1;
             },
           ))
           (λ v s2 d c.
-          let gone = c.1.1 in
+          let gone = c.1 in
           let out = leaves_step p f code.0 fn (length b1.blocks) (length b1.ops) now r (rtype_of g.ret) below gone.0 s2 code.1 target edge in
           let w : Held = error_of (rtype_of g.ret) in
-          let match2 = match_kept x b1 now (put now r w) s1 s2 (room_on x b0 b1 q.extends room) (λ j lt. put_kept w j (let z = room.top in omega arith)) record { locals = c.0; globals = c.1.0 } match1 in (
+          let match2 = match_kept x b1 now (put now r w) s1 s2 (room_on x b0 b1 q.extends room) (λ j lt. put_kept w j (let z = room.top in omega arith)) c.0 match1 in (
             away (handler_at p fn (length b1.blocks)) (record { fn = fn; block = length b1.blocks; place = length b1.ops + 1; regs = put now r w }) below (world (Some gone.0) s2),
             record { count = 1; is = ap (step Strict p) gone.2 ∙ out },
             let P : Value → Type 0 = λ y. IsThrown fn h below x (length b0.regs) regs y s2 (away (handler_at p fn (length b1.blocks)) (record { fn = fn; block = length b1.blocks; place = length b1.ops + 1; regs = put now r w }) below (world (Some gone.0) s2)) in

@@ -1,5 +1,5 @@
 -- The comparisons of a chain, from the left, up to the first that does not hold.
-use Rattle.ir_builder_expressions.proofs.Common.{◌≡◌, refl, ◌∙◌, ap, ℕ, Bool, true, false, length, if◌then◌else◌, Value, BoolVal, Span, CmpOp, Sort, TypedExpr, typed, type_of, Compare, Comparisons, no_comparisons, comparison_then, State, Gives, ◌>>=◌, give, holds, Lit, Holds, Building, Setting, rtype_of, HasType, Adds, HasRoom, IsThrown, means, Shows, Meaning, Arrives, Computes, Attempts, extends_refl, extends_trans, type_kept, ends_now, ends_of, literal_makes, room_on, same_refl, made_computes, ActsOnTwo, holds_as, literal_of_truth, means_chain, Emits, EmitsChain, Opens, Brings, Meets, Behind, HasValue, ComputesFrom, Told, any_from, value_from, from_by, value_stays, Beside, part_from, computes_behind, truth_from, choice_by}
+use Rattle.ir_builder_expressions.proofs.Common.{◌≡◌, refl, ◌∙◌, ap, ℕ, Bool, true, false, length, if◌then◌else◌, Value, BoolVal, CmpOp, Sort, TypedExpr, type_of, Compare, Comparisons, no_comparisons, comparison_then, State, Gives, ◌>>=◌, give, holds, Lit, Holds, Building, Setting, rtype_of, HasType, Adds, HasRoom, IsThrown, means, Shows, Meaning, Arrives, Computes, Attempts, extends_refl, extends_trans, type_kept, ends_now, ends_of, literal_makes, room_on, made_computes, ActsOnTwo, holds_as, literal_of_truth, means_chain, EmitsChain, Opens, Brings, Meets, Behind, HasValue, ComputesFrom, Told, any_from, value_from, from_by, value_stays, Beside, part_from, computes_behind, truth_from, choice_by, EmitsNode}
 use Rattle.py_typed.specs.Sorts as sort
 use Rattle.ir_core.specs.declared.code.RType.TheVariants as rtype
 
@@ -27,10 +27,10 @@ rest_done x s u left holds b type = record {
   extends = extends_refl b;
   type = type;
   runs = λ p fn h at n calls regs below st z match le told.
-      let R = Arrives (Shows sort.Bool) fn (length b.blocks) (length b.ops) below (length b.regs) regs x st holds in
+      let R = Arrives (Shows sort.Bool) fn (length b.blocks) (length b.ops) below (length b.regs) regs st holds in
       let T = IsThrown fn h below x (length b.regs) regs in
       ends_of p st.turns _ _ (Gives (BoolVal z.1) st) R T (flag_back z.1 st)
-      (ends_now p (BoolVal z.1) st _ R T record { now = regs; is = refl; shows = (told.1, (z.1, refl)); kept = λ j lt. refl; same = same_refl x regs st match });
+      (ends_now p (BoolVal z.1) st _ R T record { now = regs; is = refl; shows = (told.1, (z.1, refl)); kept = λ j lt. refl; same = refl });
 }
 
 -- other comparisons, in a choice by its truth
@@ -53,5 +53,5 @@ chain_from x s u w x0 op e more b0 b1 b2 b3 q c r room type ce made rest =
     (from_by x _ (Told (HasValue w q) c) sort.Bool (λ z. (z.0.1, z.1)) (rest_goes x (type_of e) more) b2 b3 r (λ z regs k. (k.0.1, k.1)) rest))
 
 -- the first operand, and the chain behind it
-pub compare_emits : (x : Setting) (u : Sort) (e : TypedExpr) (more : Comparisons) (place : Span) (b0 b1 b2 : Building) (q r : ℕ) → HasRoom x b0 → Computes x (Shows u) (rtype_of u) (means x e) b0 b1 q → EmitsChain x (type_of e) u q more b1 b2 r → Emits x (typed (Compare e more) sort.Bool place) b0 b2 r
-compare_emits x u e more place b0 b1 b2 q r room c chain = computes_behind x u q sort.Bool (means x e) (λ n v. means_chain x (type_of e) v more n) b0 b1 b2 r room c chain
+pub compare_emits : (x : Setting) (u : Sort) (e : TypedExpr) (more : Comparisons) (b0 b1 b2 : Building) (q r : ℕ) → HasRoom x b0 → Computes x (Shows u) (rtype_of u) (means x e) b0 b1 q → EmitsChain x (type_of e) u q more b1 b2 r → EmitsNode x (Compare e more) sort.Bool b0 b2 r
+compare_emits x u e more b0 b1 b2 q r room c chain = computes_behind x u q sort.Bool (means x e) (λ n v. means_chain x (type_of e) v more n) b0 b1 b2 r room c chain

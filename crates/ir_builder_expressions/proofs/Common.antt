@@ -6,7 +6,7 @@ pub use Rattle.ir_builder_comparisons.specs.Comparing.{Compares, FindsTruth, is_
 pub use Rattle.ir_builder_expressions.specs.Applying.{Applied, BinarySuits, UnarySuits, applied_in, arithmetic_of, binary_goes, negation_of, node_in, one, seen, two, unary_goes}
 pub use Rattle.ir_builder_expressions.specs.Arms.{ArmSuits, ChoiceSuits, EmitsArm, EmitsChoice, arm_of, arm_sort, means_arm}
 pub use Rattle.ir_builder_expressions.specs.Comparing.{compared_in, holds_as, is_brought, is_shown_as, kind_sort}
-pub use Rattle.ir_builder_expressions.specs.Emitting.{Emits, EmitsAll, EmitsChain, EmitsOne, EmitsPart, EmitsSide, EmitsTwo, means_all, means_chain}
+pub use Rattle.ir_builder_expressions.specs.Emitting.{Emits, EmitsAll, EmitsChain, EmitsOne, EmitsPart, EmitsSide, EmitsTwo, means_all, means_chain, EmitsNode}
 pub use Rattle.ir_builder_expressions.specs.Linking.{Begins, Ended, Linked, Met, Pending}
 pub use Rattle.ir_builder_expressions.specs.Literals.{literal_of_truth}
 pub use Rattle.ir_builder_expressions.specs.Parts.{fitting_in, is_i64, is_pair, is_scalar, is_text, literal_in, native_in, part_sort, sort_by}
@@ -20,14 +20,16 @@ pub use Rattle.ir_builder_expressions.specs.declared.applying.Unary.{Unary}
 pub use Rattle.ir_builder_expressions.specs.declared.applying.Unary.TheVariants.{Coerced, Counted, Inverted, Negated, Tested, Written}
 pub use Rattle.ir_builder_expressions.specs.declared.chain.Link.{Link}
 pub use Rattle.ir_builder_expressions.specs.declared.comparing.Side.{Side}
-pub use Rattle.ir_builder_frames.proofs.AttemptLemmas.{both_attempt, failed_off, kinds_shown}
-pub use Rattle.ir_builder_frames.proofs.ComingLemmas.{ends_both, ends_from, ends_lead, ends_map, ends_now, ends_of, leads_refl, leads_step, leads_trans, on_assoc}
+pub use Rattle.ir_builder_frames.proofs.AttemptLemmas.{both_attempt, failed_off}
+pub use Rattle.ir_builder_frames.proofs.ComingLemmas.{ends_both, ends_needed, ends_from, ends_lead, ends_map, ends_now, ends_of, leads_refl, leads_step, leads_trans, on_assoc}
 pub use Rattle.ir_builder_frames.proofs.HeldLemmas.{adds_has, extends_refl, extends_trans, get_below, guard_at, has_less, ok_join, ok_map, placed_part, pushes_has, type_below, type_has, type_kept}
-pub use Rattle.ir_builder_frames.proofs.MatchLemmas.{computes_all_then, computes_of, computes_then, made_computes, match_kept, room_on, same_refl, same_trans, thrown_at, thrown_from, thrown_now}
+pub use Rattle.ir_builder_frames.proofs.MatchLemmas.{computes_all_then, computes_of, computes_then, made_computes, match_kept, room_on, thrown_at, thrown_from, thrown_now}
+pub use Rattle.ir_builder_frames.proofs.WatchLemmas.{looked_at, watched}
+pub use Rattle.ir_builder_frames.specs.Watching.{watch}
 pub use Rattle.ir_builder_frames.proofs.StepLemmas.{literal_makes, read_is}
 pub use Rattle.ir_builder_frames.specs.Calling.{Adds, Closes, Patches, Pushes}
 pub use Rattle.ir_builder_frames.specs.Coming.{Ends, Leads, returning, running, world}
-pub use Rattle.ir_builder_frames.specs.Computing.{Arrives, ArrivesAll, Attempts, Computes, ComputesAll, HaveTypes, Makes, Meaning, ShowAll, Showing, Shows, means}
+pub use Rattle.ir_builder_frames.specs.Computing.{Arrives, ArrivesAll, Attempts, Computes, ComputesAll, HaveTypes, Makes, Meaning, ShowAll, Itself, Showing, Shows, means, means_node}
 pub use Rattle.ir_builder_frames.specs.Kinds.{Answers, AreAlike, Calls, IsAmong, IsOf, KeepsKinds, KeepsKindsIf, LiteralFits, ReadsGlobal, Surrounding, Take, head_of}
 pub use Rattle.ir_builder_frames.specs.Matching.{BeginWith, HasHead, HasKind, HasRoom, IsThrown, Matches, flag_in, flag_of, parameter_sorts}
 pub use Rattle.ir_builder_frames.specs.Operands.{ActsOnAll}
@@ -35,7 +37,7 @@ pub use Rattle.ir_builder_frames.specs.Placing.{Has, HasType, Placed, or_other}
 pub use Rattle.ir_builder_frames.specs.Settings.{Setting, rtype_of}
 pub use Rattle.ir_builder_frames.specs.Shaped.{AllBelow, Keeps}
 pub use Rattle.ir_builder_frames.specs.declared.frame.Vars.{Vars}
-pub use Rattle.ir_builder_operations.proofs.KindLemmas.{by_bool, by_i64, by_int, by_text}
+pub use Rattle.ir_builder_operations.proofs.KindLemmas.{by_bool}
 pub use Rattle.ir_builder_operations.proofs.PartLemmas.{as_one, as_two, show_kept, stays}
 pub use Rattle.ir_builder_operations.proofs.ThenLemmas.{attempts_as, attempts_then, two_attempts}
 pub use Rattle.ir_builder_operations.specs.Operating.{Acts, ActsOn, ActsOnTwo, is_arithmetic, is_whole, is_written}
@@ -56,7 +58,7 @@ pub use Rattle.py_syntax.specs.declared.expression.BinOp.{BinOp}
 pub use Rattle.py_syntax.specs.declared.expression.CmpOp.{CmpOp}
 pub use Rattle.py_syntax.specs.declared.token.Span.{Span}
 pub use Rattle.py_typed.proofs.ExpressionLemmas.{type_at, typed_expr-Compare, typed_expr_of, typed_node-And, typed_node-Arith, typed_node-At, typed_node-Bool, typed_node-Call, typed_node-Coerce, typed_node-Concat, typed_node-Cond, typed_node-Global, typed_node-Input, typed_node-Int, typed_node-Len, typed_node-Local, typed_node-Neg, typed_node-Not, typed_node-Or, typed_node-Str, typed_node-ToStr, typed_node-Truth}
-pub use Rattle.py_typed.specs.Expressions.{And, Arith, At, Call, Coerce, Compare, Comparisons, Concat, Cond, Flag, Len, Local, Neg, Not, Or, ToStr, Truth, TypedExpr, TypedExprs, TypedNode, comparison_then, comparisons_of, expr_step, expr_then, exprs_of, no_comparisons, no_exprs, node_step, type_of, typed, typed_comparison, typed_expr, typed_node}
+pub use Rattle.py_typed.specs.Expressions.{And, Arith, At, Call, Coerce, Compare, Comparisons, Concat, Cond, Len, Local, Neg, Not, Or, ToStr, Truth, TypedExpr, TypedExprs, TypedNode, comparison_then, comparisons_of, expr_step, expr_then, exprs_of, no_comparisons, no_exprs, node_step, type_of, typed, typed_comparison, typed_expr, typed_node}
 pub use Rattle.py_typed.specs.Fits.{is_number}
 pub use Rattle.py_typed.specs.Sorts.{Sort, sort}
 pub use Rattle.py_typed.specs.Statements.{TypedFunc, TypedModule, Variable, typed_module, variable}

@@ -1,5 +1,5 @@
 -- Operations behind the code of parts.
-use Rattle.ir_builder_expressions.proofs.Common.{refl, ◌∙◌, ℕ, arith, le_refl, length, Value, State, Outcome, Does, on_to, RType, Regs, Building, Setting, HasRoom, Showing, Meaning, Computes, Attempts, extends_refl, extends_trans, placed_part, ends_map, room_on, same_trans, thrown_from, computes_then, Acts}
+use Rattle.ir_builder_expressions.proofs.Common.{refl, ◌∙◌, ℕ, arith, le_refl, length, Value, State, Outcome, Does, on_to, RType, Regs, Building, Setting, HasRoom, Showing, Meaning, Computes, Attempts, extends_refl, extends_trans, placed_part, ends_map, room_on, thrown_from, computes_then, Acts}
 
 -- behind the code of a part
 pub part_attempts : (x : Setting) (K L : Showing) (t u : RType) (m : Meaning Value) (go : Value → Does Value) (from : Regs → State → Outcome Value → Type 0) (b0 b1 b2 : Building) (q r : ℕ) → HasRoom x b0 → Computes x K t m b0 b1 q → Attempts L b1 b2 r u from → ((v : Value) (s : State) (regs : Regs) → K v (regs q) → from regs s (go v s)) → Computes x L u (λ n s. on_to (m n s) go) b0 b2 r
@@ -15,7 +15,7 @@ part_attempts x K L t u m go from b0 b1 b2 q r room c made gives =
           computes_then p fn h below x n calls K t m b0 b1 q regs s go _ (length b0.regs) regs c p1 room (le_refl _) (λ j i z o. refl) match le
           (λ now v s1 le1 shows kept same1 match1.
           ends_map p s1.turns _ (go v s1) _ _ _ _
-          (λ z s2 d a. record { now = a.now; is = a.is; shows = a.shows; kept = λ j lt. a.kept j (omega arith) ∙ kept j lt; same = same_trans x s s1 s2 same1 a.same })
+          (λ z s2 d a. record { now = a.now; is = a.is; shows = a.shows; kept = λ j lt. a.kept j (omega arith) ∙ kept j lt; same = a.same ∙ same1 })
           (λ z s2 d e. thrown_from fn h below x (length b0.regs) (length b1.regs) regs now z s2 d l1 (λ j i lt o. kept j lt) e)
           (made.runs p fn h p2 x (room_on x b0 b1 c.extends room) now below s1 match1 (go v s1) (gives v s1 now shows)));
     }

@@ -1,11 +1,11 @@
 -- How the lines of the code of an expression come from those of its parts.
 use Rattle.std.proofs.Common.{Result, Ok, Err, IfOk, OnOk}
-use Rattle.ir_builder_expressions.proofs.Common.{◌≡◌, refl, sym, ◌∙◌, ap, subst, ℕ, ◌+◌, ◌-◌, ◌<◌, ◌≤◌, Bool, arith, take, take_all, Box, Global, Bor, arm_of, List, [], ◌∷◌, ◌++◌, length, map, drop, get_or, Option, Some, None, ℤ, drop_more, drop_all, CmpOp, TExpr, TypedExpr, TypedNode, typed, typed_expr, typed_node, typed_expr_of, type_of, exprs_of, comparisons_of, typed_comparison, Building, Extends, Program, Setting, Has, has_less, Meets, Link, Ended, Emits, EmitsSide, Side, kind_sort, literal_in, Applied, applied_in, node_in}
+use Rattle.ir_builder_expressions.proofs.Common.{◌≡◌, refl, sym, ◌∙◌, ap, subst, ℕ, ◌+◌, ◌-◌, ◌<◌, ◌≤◌, arith, take, take_all, Box, Global, Bor, arm_of, List, [], ◌∷◌, ◌++◌, length, map, drop, get_or, Option, Some, None, ℤ, drop_more, drop_all, CmpOp, TExpr, TypedExpr, TypedNode, typed, typed_expr, typed_node, typed_expr_of, type_of, exprs_of, comparisons_of, typed_comparison, Building, Extends, Program, Setting, Has, has_less, Meets, Link, Ended, Emits, EmitsSide, Side, kind_sort, literal_in, Applied, applied_in, node_in}
 use Rattle.py_typed.specs.declared.expression.TKind as kind
 use Rattle.py_typed.specs.Expressions as tree
 use Rattle.ir_builder_frames.specs.Lines.{OwnLines}
 use Rattle.ir_builder_expressions.specs.Lined.{listed, operands_in, parts_in_arm, parts_applied, parts_of, IsCodeOf, Around, Lined, LinedParts, lined, own, part}
-use Rattle.ir_builder_expressions.proofs.ArmLemmas.{Is, is_int, is_text, is_input, is_bool as is_flag, is_local, is_global, is_compare, is_call}
+use Rattle.ir_builder_expressions.proofs.ArmLemmas.{Is, is_compare, is_call}
 use Rattle.ir_builder_expressions.proofs.GoingLemmas.{next_of}
 
 pub always : {A E : Type 0} (res : Result A E) (P : Type 0) → P → OnOk res P
@@ -61,7 +61,7 @@ pub lined_node : (x : Setting) (e : TExpr) (n : TypedNode) (a b : Building) → 
 lined_node x e n a b is h = let P : TypedExpr → Type 0 = λ z. Lined x z a b in subst P (sym is) (lined h)
 
 -- one that has no parts
-lined_leaf : (x : Setting) (e : TExpr) (n : TypedNode) (a b : Building) → Is e n → parts_of n ≡ [] → Extends a b → OwnLines e.span.line a b → Lined x (typed_expr e) a b
+pub lined_leaf : (x : Setting) (e : TExpr) (n : TypedNode) (a b : Building) → Is e n → parts_of n ≡ [] → Extends a b → OwnLines e.span.line a b → Lined x (typed_expr e) a b
 lined_leaf x e n a b is none kept h = lined_node x e n a b is (let P : List TypedExpr → Type 0 = λ es. LinedParts x e.span.line es a b in subst P (sym none) (own (around_by e.span.line a b kept h)))
 
 -- one whose node is not looked at
@@ -169,24 +169,6 @@ chain_none x l (r ∷ more) b c lt kept p = absurd (omega arith)
 -- ---- nodes of each kind
 
 module _ (x : Setting) (e : TExpr) where
-  pub int_lined : (n : ℤ) (a b : Building) → e.kind ≡ kind.Int n → Extends a b → OwnLines e.span.line a b → Lined x (typed_expr e) a b
-  int_lined n a b is kept h = lined_leaf x e (tree.Int n) a b (is_int e n is) refl kept h
-
-  pub text_lined : (text : List ℕ) (a b : Building) → e.kind ≡ kind.Str text → Extends a b → OwnLines e.span.line a b → Lined x (typed_expr e) a b
-  text_lined text a b is kept h = lined_leaf x e (tree.Str text) a b (is_text e text is) refl kept h
-
-  pub flag_lined : (value : Bool) (a b : Building) → e.kind ≡ kind.Bool value → Extends a b → OwnLines e.span.line a b → Lined x (typed_expr e) a b
-  flag_lined value a b is kept h = lined_leaf x e (tree.Flag value) a b (is_flag e value is) refl kept h
-
-  pub local_lined : (i : ℕ) (a b : Building) → e.kind ≡ kind.Local i → Extends a b → OwnLines e.span.line a b → Lined x (typed_expr e) a b
-  local_lined i a b is kept h = lined_leaf x e (tree.Local i) a b (is_local e i is) refl kept h
-
-  pub global_lined : (i : ℕ) (a b : Building) → e.kind ≡ kind.Global i → Extends a b → OwnLines e.span.line a b → Lined x (typed_expr e) a b
-  global_lined i a b is kept h = lined_leaf x e (tree.Global i) a b (is_global e i is) refl kept h
-
-  pub input_lined : (a b : Building) → e.kind ≡ kind.Input → Extends a b → OwnLines e.span.line a b → Lined x (typed_expr e) a b
-  input_lined a b is kept h = lined_leaf x e tree.Input a b (is_input e is) refl kept h
-
   pub call_lined : (f : ℕ) (args : List TExpr) (a b c : Building) → e.kind ≡ kind.Call f args → LinedParts x e.span.line (listed_of args) a b → Extends b c → OwnLines e.span.line b c → Lined x (typed_expr e) a c
   call_lined f args a b c is h kept p = lined_node x e (tree.Call f (exprs_of (map typed_expr args))) a c (is_call e f args is) (lined_then h (around_by e.span.line b c kept p))
 

@@ -1,5 +1,5 @@
 -- The code of literals, of a part of an operation, and of an operation on its parts.
-use Rattle.ir_builder_expressions.proofs.Common.{◌≡◌, refl, sym, ap, subst, ℕ, arith, Bool, true, false, List, Option, Some, None, nat_tests, ℤ, pos, negsuc, FitsSigned, if◌then◌else◌, w128, lies_within, IntVal, StrVal, Span, Sort, TypedExpr, typed, type_of, on_to, State, Gives, Number, Lit, Holds, Building, Setting, rtype_of, Adds, HasRoom, means, Shows, Computes, Makes, Attempts, literal_makes, computes_of, made_computes, both_attempt, ActsOn, ActsOnTwo, Unary, Binary, fitting_in, native_in, sort_by, part_sort, literal_in, unary_goes, binary_goes, Emits, EmitsPart, EmitsOne, EmitsTwo}
+use Rattle.ir_builder_expressions.proofs.Common.{◌≡◌, refl, sym, ap, subst, ℕ, arith, Bool, true, false, Option, Some, None, nat_tests, ℤ, pos, negsuc, FitsSigned, if◌then◌else◌, w128, lies_within, IntVal, Span, Sort, TypedExpr, typed, type_of, on_to, State, Number, Lit, Holds, Building, Setting, rtype_of, Adds, HasRoom, means, Shows, Computes, Attempts, literal_makes, computes_of, made_computes, both_attempt, ActsOn, ActsOnTwo, Unary, Binary, fitting_in, native_in, sort_by, part_sort, literal_in, unary_goes, binary_goes, Emits, EmitsPart, EmitsOne, EmitsTwo, Meaning, give, watch, watched, Value, means_node, EmitsNode}
 use Rattle.py_typed.specs.Sorts as sort
 use Rattle.py_typed.specs.Expressions as tree
 use Rattle.source_meaning.specs.Operations.{item_at}
@@ -12,12 +12,6 @@ use Rattle.ir_builder_expressions.proofs.FollowLemmas.{part_attempts}
 pub int_fits : (n : ℤ) → lies_within 127 n ≡ true → FitsSigned w128 n
 int_fits (pos n) e = record { sfits = grind (arith, nat_tests, e) }
 int_fits (negsuc n) e = record { sfits = grind (arith, nat_tests, e) }
-
-pub int_emits : (x : Setting) (n : ℤ) (place : Span) (b c : Building) (r : ℕ) → lies_within 127 n ≡ true → Makes b c r rtype.Int (λ regs h. h ≡ Holds (IntVal n)) → Emits x (typed (tree.Int n) sort.Int place) b c r
-int_emits x n place b c r within made = made_computes x (Shows sort.Int) rtype.Int _ _ b c r made (λ k s regs. (IntVal n, Holds (IntVal n), refl, refl, (refl, (n, refl, within))))
-
-pub text_emits : (x : Setting) (text : List ℕ) (place : Span) (b c : Building) (r : ℕ) → Makes b c r rtype.Ref (λ regs h. h ≡ Holds (StrVal text)) → Emits x (typed (tree.Str text) sort.Str place) b c r
-text_emits x text place b c r made = made_computes x (Shows sort.Str) rtype.Ref _ _ b c r made (λ k s regs. (StrVal text, Holds (StrVal text), refl, refl, (refl, (text, refl))))
 
 -- ---- a part
 
@@ -41,7 +35,7 @@ pub literal_is : (k : tree.TypedNode) (t : Sort) (place : Span) (n : ℤ) → li
 literal_is (tree.Int m) t place n e = let f : Some m ≡ Some n = e in ap (λ z. typed (tree.Int z) t place) (cc (sym f))
 literal_is _ t place n e = absurd (cc)
 
-literal_means : (x : Setting) (e : TypedExpr) (k : ℕ) (i : ℤ) (s : State) → literal_in e ≡ Some i → means x e k s ≡ Gives (IntVal i) s
+literal_means : (x : Setting) (e : TypedExpr) (k : ℕ) (i : ℤ) (s : State) → literal_in e ≡ Some i → means x e k s ≡ watch x.source (type_of e) (IntVal i) s
 literal_means x (typed node t place) k i s e = ap (λ y. means x y k s) (sym (literal_is node t place i e))
 
 pub native_part : {line : ℕ} (x : Setting) (t : Sort) (e : TypedExpr) (n : ℤ) (b c : Building) (r : ℕ) → native_in t (literal_in e) ≡ Some n → Adds b c r rtype.I64 (Lit record { 0 = r } (Number n)) line → EmitsPart x t e b c r
@@ -49,7 +43,9 @@ native_part x t e n b c r is a =
     let h = native_is t (literal_in e) n is in
     let part : sort.I64 ≡ part_sort t e = ap (λ o. sort_by o (type_of e)) (sym is) in
     let P : Sort → Type 0 = λ u. Computes x (Shows u) (rtype_of u) (means x e) b c r in
-    subst P part (made_computes x (Shows sort.I64) rtype.I64 (means x e) _ b c r (literal_makes b c r rtype.I64 _ (Holds (IntVal n)) a refl) (λ k s regs. (IntVal n, Holds (IntVal n), literal_means x e k n s h.0, refl, (refl, (n, refl, h.1)))))
+    let number : Meaning Value = λ k. give (IntVal n) in
+    let made = made_computes x (Shows sort.I64) rtype.I64 number _ b c r (literal_makes b c r rtype.I64 _ (Holds (IntVal n)) a refl) (λ k s regs. (IntVal n, Holds (IntVal n), refl, refl, (refl, (n, refl, h.1)))) in
+    subst P part (computes_of x (Shows sort.I64) rtype.I64 _ (means x e) b c r (λ k s. literal_means x e k n s h.0) (watched x (Shows sort.I64) (Shows sort.I64) rtype.I64 (type_of e) number b c r (λ v h kind q. q) made))
 
 pub own_part : (x : Setting) (t : Sort) (e : TypedExpr) (b c : Building) (r : ℕ) → native_in t (literal_in e) ≡ None → Emits x e b c r → EmitsPart x t e b c r
 own_part x t e b c r is q =
@@ -70,7 +66,7 @@ two_emit x op t a b b0 b1 b2 b3 q q' r room c d made =
     (λ v w s regs k l. record { v = v; left = k; w = w; right = l; does = refl })
 
 -- a letter of a text
-pub item_emits : (x : Setting) (a b : TypedExpr) (t : Sort) (place : Span) (b0 b1 : Building) (r : ℕ) → type_of a ≡ sort.Str → EmitsTwo x binary.Indexed t a b b0 b1 r → Emits x (typed (tree.At a b) t place) b0 b1 r
-item_emits x a b t place b0 b1 r is q =
-    computes_of x (Shows t) (rtype_of t) (λ n s. on_to (means x a n s) (λ v s1. on_to (means x b n s1) (binary_goes binary.Indexed t v))) (means x (typed (tree.At a b) t place)) b0 b1 r
+pub item_emits : (x : Setting) (a b : TypedExpr) (t : Sort) (b0 b1 : Building) (r : ℕ) → type_of a ≡ sort.Str → EmitsTwo x binary.Indexed t a b b0 b1 r → EmitsNode x (tree.At a b) t b0 b1 r
+item_emits x a b t b0 b1 r is q =
+    computes_of x (Shows t) (rtype_of t) (λ n s. on_to (means x a n s) (λ v s1. on_to (means x b n s1) (binary_goes binary.Indexed t v))) (means_node x (tree.At a b) t) b0 b1 r
     (λ n s. ap (λ u. on_to (means x a n s) (λ v s1. on_to (means x b n s1) (item_at u v))) is) q

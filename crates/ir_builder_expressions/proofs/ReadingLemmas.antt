@@ -1,10 +1,11 @@
 -- Reading a variable that may be unset, of the function or of the module.
-use Rattle.ir_builder_expressions.proofs.Common.{◌≡◌, ◌⊎◌, inr, ℕ, zero, suc, ◌<◌, ◌≤◌, ◌++◌, true, false, List, [], ◌∷◌, length, Option, Some, None, refl, sym, ap, ◌∙◌, subst, arith, le_refl, slice_get, pos, nat_lt, if◌then◌else◌, codes, nat_tests, length-map, Value, BoolVal, UnboundLocalError, Span, Sort, sort, State, Gives, Raises, raise_new, Var, Variable, TypedModule, variable, typed, Local, name_at, value_in, read_global, Lit, Prim, PArg, RType, Number, Program, Held, Unset, Holds, Regs, is_error, Building, with_last, held, Extends, Waiting, Strict, away, item_at, handler_at, registers_of, step, op_step, goto_step, error_step, Vars, Adds, Pushes, Closes, Patches, Setting, rtype_of, HasType, Has, Placed, or_other, world, running, Leads, Ends, means, Shows, Arrives, Computes, IsAmong, KeepsKindsIf, Answers, ReadsGlobal, HasKind, flag_of, flag_in, Matches, HasRoom, IsThrown, leads_step, leads_trans, ends_of, ends_lead, extends_trans, get_below, has_less, type_kept, type_has, pushes_has, adds_has, placed_part, guard_at, same_refl, thrown_at, Emits, IsSimpleAt, reports_unbound, TestsSet, setting_in, HasRegisters, EmitsLocal, EmitsGlobal}
+use Rattle.ir_builder_expressions.proofs.Common.{◌≡◌, ◌⊎◌, inr, ℕ, zero, suc, ◌<◌, ◌≤◌, ◌++◌, true, false, List, [], ◌∷◌, length, Option, Some, None, refl, sym, ap, ◌∙◌, subst, arith, le_refl, slice_get, pos, nat_lt, if◌then◌else◌, codes, nat_tests, length-map, Value, BoolVal, UnboundLocalError, Span, Sort, sort, State, Gives, Raises, raise_new, Var, Variable, TypedModule, variable, typed, Local, name_at, value_in, read_global, Lit, Prim, PArg, RType, Number, Program, Held, Unset, Holds, Regs, is_error, Building, with_last, held, Extends, Waiting, Strict, away, item_at, handler_at, registers_of, step, op_step, goto_step, error_step, Vars, Adds, Pushes, Closes, Patches, Setting, rtype_of, HasType, Has, Placed, or_other, world, running, Leads, Ends, Arrives, Computes, IsAmong, KeepsKindsIf, Answers, ReadsGlobal, flag_of, flag_in, Matches, HasRoom, IsThrown, leads_step, leads_trans, ends_of, ends_lead, extends_trans, get_below, has_less, type_kept, type_has, pushes_has, adds_has, placed_part, guard_at, thrown_at, Emits, IsSimpleAt, reports_unbound, TestsSet, setting_in, HasRegisters, EmitsLocal, EmitsGlobal, means_node, looked_at, Itself}
 use Rattle.std.proofs.lemmas.Option.{slice_get-get_or}
 use Rattle.std.specs.Prelude.{get_or, map}
 use Rattle.c_core.specs.declared.primitive.Primitive.TheVariants as prim
 use Rattle.c_core.specs.declared.primitive.GlobalPrim.TheVariants as global
 use Rattle.c_core.specs.Step.{unbound}
+use Rattle.py_typed.specs.Expressions as tree
 use Rattle.ir_core.specs.declared.code.PArg.TheVariants as arg
 use Rattle.ir_core.specs.declared.code.Last.TheVariants.{Goto, IfError, Unreachable}
 use Rattle.ir_core.specs.declared.code.RType.TheVariants as rtype
@@ -107,32 +108,32 @@ other_flag f regs j le = let e : nat_lt j f.params ≡ false = grind (arith, nat
 
 module _ (x : Setting) (i : ℕ) (w : Variable) (t : Sort) (place : Span) (b c : Building) (at : slice_get x.variables i ≡ Some w) (is : w.1 ≡ t) (tests : TestsSet b c (flag_of x.frame.locals i) w.0) (p : Program) (fn : ℕ) (h : Option ℕ) (placed : Placed p fn b c h) (n : ℕ) (regs : Regs) (below : List Waiting) (s : State) (match : Matches x regs s) where
   abbrev Good : Value → State → Rattle.ir_core.specs.Meaning.Config → Type 0
-  Good = Arrives (Shows t) fn (length c.blocks) (length c.ops) below (length b.regs) regs x s i
+  Good = Arrives Itself fn (length c.blocks) (length c.ops) below (length b.regs) regs s i
 
   abbrev Bad : Value → State → Rattle.ir_core.specs.Meaning.Config → Type 0
   Bad = IsThrown fn h below x (length b.regs) regs
 
-  reads : (o : Option Value) → slice_get s.locals i ≡ Some o → Keeps w.1 (regs i) (regs (flag_of x.frame.locals i)) o → Ends p s.turns (running fn (length b.blocks) (length b.ops) regs below (world None s)) (means x (typed (Local i) t place) n s) Good Bad
+  reads : (o : Option Value) → slice_get s.locals i ≡ Some o → Keeps (regs i) (regs (flag_of x.frame.locals i)) o → Ends p s.turns (running fn (length b.blocks) (length b.ops) regs below (world None s)) (means_node x (Local i) t n s) Good Bad
   reads None e k =
       let d = tests.unset p fn h placed regs below s k in
-      let name : means x (typed (Local i) t place) n s ≡ Raises (Rattle.value_core.specs.Value.ExcVal (unbound w.0)) s =
+      let name : means_node x (Local i) t n s ≡ Raises (Rattle.value_core.specs.Value.ExcVal (unbound w.0)) s =
       ap (λ o. value_in (raise_new UnboundLocalError (codes "local variable '" ++ name_at x.variables i ++ codes "' referenced before assignment")) o s) e
       ∙ ap (λ z. Raises (Rattle.value_core.specs.Value.ExcVal (unbound z)) s) (name_is x.variables i w at) in
       ends_of p s.turns _ _ _ Good Bad name
       (le_refl s.turns, _, d.2, thrown_at p fn d.0 d.1 h below x (length b.regs) regs regs (unbound w.0) s match (λ j l u o. refl))
   reads (Some v) e k =
-      let gives : means x (typed (Local i) t place) n s ≡ Gives v s = ap (λ o. value_in (raise_new UnboundLocalError (codes "local variable '" ++ name_at x.variables i ++ codes "' referenced before assignment")) o s) e in
+      let gives : means_node x (Local i) t n s ≡ Gives v s = ap (λ o. value_in (raise_new UnboundLocalError (codes "local variable '" ++ name_at x.variables i ++ codes "' referenced before assignment")) o s) e in
       ends_of p s.turns _ _ _ Good Bad gives
-      (ends_lead p v s _ _ Good Bad (tests.set p fn placed.has regs below s (BoolVal true) k.1) record { now = regs; is = refl; shows = (k.0, subst (λ z. HasKind z v) is k.2); kept = λ j lt. refl; same = same_refl x regs s match })
+      (ends_lead p v s _ _ Good Bad (tests.set p fn placed.has regs below s (BoolVal true) k.1) record { now = regs; is = refl; shows = k.0; kept = λ j lt. refl; same = refl })
 
 variable_emits : (x : Setting) (i : ℕ) (w : Variable) (t : Sort) (place : Span) (b c : Building) → slice_get x.variables i ≡ Some w → w.1 ≡ t → x.frame.locals.params ≤ i → HasRoom x b → TestsSet b c (flag_of x.frame.locals i) w.0 → Emits x (typed (Local i) t place) b c i
-variable_emits x i w t place b c at is other room tests = record {
+variable_emits x i w t place b c at is other room tests = looked_at x Itself (Local i) t place b c i (λ v h kind k. k) record {
   extends = tests.extends;
   type = type_kept b c i (rtype_of t) tests.extends (subst (λ z. HasType b i (rtype_of z)) is (room.declared i w at));
   runs = λ p fn h placed n calls regs below s match le.
       let m = match.each i w at in
       let flag = other_flag x.frame.locals regs i other in
-      reads x i w t place b c at is tests p fn h placed n regs below s match m.0 m.1 (subst (λ z. Keeps w.1 (regs i) z m.0) flag m.2);
+      reads x i w t place b c at is tests p fn h placed n regs below s match m.0 m.1 (subst (λ z. Keeps (regs i) z m.0) flag m.2);
 }
 
 -- ---- of a declared variable, in whatever module
@@ -180,10 +181,10 @@ module _ (m : TypedModule) (vs : List Var) (are : m.globals ≡ map variable vs)
       let x : Setting = setting_in m ws frame in
       let same : variable v ≡ suits.1 = (let z : Some (variable v) ≡ Some suits.1 = sym global_at ∙ suits.2 in cc) in
       let sort_is : sort v.ty ≡ u = ap (λ (z : Variable). z.1) same ∙ suits.3 in
-      let P : Sort → Type 0 = λ z. Computes x (Shows z) (rtype_of z) (λ n. read_global m.globals i) b c r in
+      let P : Sort → Type 0 = λ z. Computes x Itself (rtype_of z) (λ n. read_global m.globals i) b c r in
       let typed_add : Adds b c r (rtype_of (sort v.ty)) (Prim (Some record { 0 = r }) (prim.Global global.Get) args) line = subst (λ z. Adds b c r z (Prim (Some record { 0 = r }) (prim.Global global.Get) args) line) type a in
       let add : Adds b c r (rtype_of (sort v.ty)) (Prim (Some record { 0 = r }) (prim.Global global.Get) (arg.Global v.name ∷ [])) line = subst (λ z. Adds b c r (rtype_of (sort v.ty)) (Prim (Some record { 0 = r }) (prim.Global global.Get) z) line) args_name typed_add in
-      subst P sort_is (global_computes x i (variable v) b c r room global_at add)
+      looked_at x Itself (tree.Global i) u place b c r (λ w h kind k. k) (subst P sort_is (global_computes x i (variable v) b c r room global_at add))
 
   -- its global is there
   pub global_kinds : (b c : Building) → KeepsKindsIf (λ g. Answers t b.regs (prim.Global global.Get) args ⊎ ReadsGlobal g t (prim.Global global.Get) args) b c → KeepsKindsIf (IsAmong m) b c

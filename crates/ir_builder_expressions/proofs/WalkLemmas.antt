@@ -1,15 +1,14 @@
 -- The code of a declared expression of each kind, and what its parts need.
-use Rattle.ir_builder_expressions.proofs.Common.{◌≡◌, refl, sym, ◌∙◌, ap, subst, ℕ, ◌<◌, Bool, true, List, [], ◌∷◌, length, map, Some, ℤ, slice_get, Box, Global, lies_within, IntVal, StrVal, CmpOp, TExpr, Sort, type_of, typed_expr, exprs_of, comparisons_of, typed_comparison, TypedFunc, look, next_line, type_at, RType, Reg, Lit, Holds, Building, Extends, Setting, rtype_of, Adds, HasRoom, parameter_sorts, means, Shows, Computes, Makes, Attempts, HaveTypes, AllBelow, Keeps, Surrounding, Calls, KeepsKindsIf, get_below, type_below, Acts, is_scalar, Side, kind_sort, IsSimpleAt, Suits, SomeSuit, ComparisonsSuit, literal_of_truth, EmitsLocal, EmitsGlobal, Emits, EmitsAll, EmitsSide, EmitsChain, Walks}
+use Rattle.ir_builder_expressions.proofs.Common.{◌≡◌, refl, sym, ◌∙◌, ap, subst, ℕ, ◌<◌, Bool, true, List, [], ◌∷◌, length, map, Some, ℤ, slice_get, Box, Global, lies_within, IntVal, StrVal, CmpOp, TExpr, Sort, type_of, typed_expr, exprs_of, comparisons_of, typed_comparison, TypedFunc, look, next_line, type_at, RType, Reg, Lit, Holds, Building, Extends, Setting, rtype_of, Adds, HasRoom, parameter_sorts, means, Shows, Computes, Makes, Attempts, HaveTypes, AllBelow, Keeps, Surrounding, Calls, KeepsKindsIf, get_below, type_below, Acts, is_scalar, Side, kind_sort, IsSimpleAt, Suits, SomeSuit, ComparisonsSuit, literal_of_truth, EmitsLocal, EmitsGlobal, Emits, EmitsAll, EmitsSide, EmitsChain, Walks, BoolVal, literal_makes, Gives, made_computes, means_node, looked_at, State, Itself, TypedNode, Value}
 use Rattle.py_typed.specs.declared.expression.TKind as kind
 use Rattle.py_typed.specs.Sorts as sort
 use Rattle.py_typed.specs.Sorts.{sort as sort_of}
 use Rattle.py_typed.specs.Expressions as tree
 use Rattle.ir_core.specs.declared.code.RType.TheVariants as rtype
 use Rattle.ir_core.specs.declared.code.Op.TheVariants.{Call as CallOp}
-use Rattle.ir_builder_expressions.proofs.ArmLemmas.{asked, emits_as, is_int, is_text, is_input, is_bool as is_flag, is_local, is_global, is_compare, is_call}
+use Rattle.ir_builder_expressions.proofs.ArmLemmas.{Is, asked, emits_as, emits_node, is_int, is_text, is_input, is_bool as is_flag, is_local, is_global, is_compare, is_call}
 use Rattle.ir_builder_expressions.proofs.FollowLemmas.{acts_computes}
-use Rattle.ir_builder_expressions.proofs.PieceLemmas.{int_emits, text_emits}
-use Rattle.ir_builder_expressions.proofs.NodeLemmas.{flag_emits}
+use Rattle.ir_builder_expressions.proofs.NodeLemmas.{truth_held}
 use Rattle.ir_builder_expressions.proofs.ChainLemmas.{compare_emits}
 use Rattle.ir_builder_expressions.proofs.CallLemmas.{call_emits}
 use Rattle.ir_builder_expressions.proofs.ArgumentLemmas.{suit_types}
@@ -21,22 +20,24 @@ Part = Box TExpr Global
 module _ (x : Setting) (e : TExpr) (suits : Suits x.source x.variables (typed_expr e)) where
   -- ---- what has no parts
 
+  made_walked : (n : TypedNode) (t : Sort) (v : Value) (b c : Building) (r : ℕ) → Is e n → sort_of e.ty ≡ t → Makes b c r (rtype_of t) (λ regs h. h ≡ Holds v) → ((k : ℕ) (s : State) → means_node x n t k s ≡ Gives v s) → Emits x (typed_expr e) b c r
+  made_walked n t v b c r is same made gives =
+      emits_as x e n t b c r is same (looked_at x Itself n t e.span b c r (λ w h kind q. q) (made_computes x Itself (rtype_of t) (means_node x n t) _ b c r made (λ k s regs. (v, Holds v, gives k s, refl, refl))))
+
   pub flag_walked : {line : ℕ} (value : Bool) (b c : Building) (r : ℕ) → e.kind ≡ kind.Bool value → Adds b c r rtype.Bool (Lit record { 0 = r } (literal_of_truth value)) line → Emits x (typed_expr e) b c r
-  flag_walked value b c r is a = emits_as x e (tree.Flag value) sort.Bool b c r (is_flag e value is) (asked x.source x.variables e (tree.Flag value) (is_flag e value is) suits) (flag_emits x value e.span b c r a)
+  flag_walked value b c r is a = made_walked (tree.Flag value) sort.Bool (BoolVal value) b c r (is_flag e value is) (asked x.source x.variables e (tree.Flag value) (is_flag e value is) suits) (literal_makes b c r rtype.Bool _ (Holds (BoolVal value)) a (truth_held value)) (λ k s. refl)
 
   pub int_within : (n : ℤ) → e.kind ≡ kind.Int n → lies_within 127 n ≡ true
   int_within n is = (asked x.source x.variables e (tree.Int n) (is_int e n is) suits).1
 
   pub int_walked : (n : ℤ) (b c : Building) (r : ℕ) → e.kind ≡ kind.Int n → Makes b c r rtype.Int (λ regs h. h ≡ Holds (IntVal n)) → Emits x (typed_expr e) b c r
-  int_walked n b c r is made =
-      let h = asked x.source x.variables e (tree.Int n) (is_int e n is) suits in
-      emits_as x e (tree.Int n) sort.Int b c r (is_int e n is) h.0 (int_emits x n e.span b c r h.1 made)
+  int_walked n b c r is made = made_walked (tree.Int n) sort.Int (IntVal n) b c r (is_int e n is) (asked x.source x.variables e (tree.Int n) (is_int e n is) suits).0 made (λ k s. refl)
 
   pub text_walked : (text : List ℕ) (b c : Building) (r : ℕ) → e.kind ≡ kind.Str text → Makes b c r rtype.Ref (λ regs h. h ≡ Holds (StrVal text)) → Emits x (typed_expr e) b c r
-  text_walked text b c r is made = emits_as x e (tree.Str text) sort.Str b c r (is_text e text is) (asked x.source x.variables e (tree.Str text) (is_text e text is) suits) (text_emits x text e.span b c r made)
+  text_walked text b c r is made = made_walked (tree.Str text) sort.Str (StrVal text) b c r (is_text e text is) (asked x.source x.variables e (tree.Str text) (is_text e text is) suits) made (λ k s. refl)
 
   pub input_walked : (b c : Building) (r : ℕ) → e.kind ≡ kind.Input → HasRoom x b → Attempts (Shows sort.Str) b c r rtype.Ref (Acts (look (λ s. s.items) next_line)) → Emits x (typed_expr e) b c r
-  input_walked b c r is room a = emits_as x e tree.Input sort.Str b c r (is_input e is) (asked x.source x.variables e tree.Input (is_input e is) suits) (acts_computes x (Shows sort.Str) rtype.Ref (look (λ s. s.items) next_line) b c r room a)
+  input_walked b c r is room a = emits_node x e tree.Input sort.Str b c r (is_input e is) (asked x.source x.variables e tree.Input (is_input e is) suits) (acts_computes x (Shows sort.Str) rtype.Ref (look (λ s. s.items) next_line) b c r room a)
 
   pub local_below : (i : ℕ) → e.kind ≡ kind.Local i → i < length x.variables
   local_below i is =
@@ -80,7 +81,7 @@ module _ (x : Setting) (e : TExpr) (suits : Suits x.source x.variables (typed_ex
       let n = asked x.source x.variables e (tree.Compare (typed_expr a.value) (comparisons_of (map typed_comparison cs))) (is_compare e a cs is) suits in
       let P : TExpr → Type 0 = λ z. Computes x (Shows (kind_sort q.shown)) (rtype_of (kind_sort q.shown)) (means x (typed_expr z)) b0 b1 q.reg.0 in
       let Q : Sort → Type 0 = λ t. EmitsChain x t (kind_sort q.shown) q.reg.0 (comparisons_of (map typed_comparison cs)) b1 b2 r in
-      emits_as x e (tree.Compare (typed_expr a.value) (comparisons_of (map typed_comparison cs))) sort.Bool b0 b2 r (is_compare e a cs is) n.0 (compare_emits x (kind_sort q.shown) (typed_expr a.value) (comparisons_of (map typed_comparison cs)) e.span b0 b1 b2 q.reg.0 r room (subst P same side.emits) (subst Q (side_type a p q b0 b1 same side) chain))
+      emits_node x e (tree.Compare (typed_expr a.value) (comparisons_of (map typed_comparison cs))) sort.Bool b0 b2 r (is_compare e a cs is) n.0 (compare_emits x (kind_sort q.shown) (typed_expr a.value) (comparisons_of (map typed_comparison cs)) b0 b1 b2 q.reg.0 r room (subst P same side.emits) (subst Q (side_type a p q b0 b1 same side) chain))
 
   -- ---- calls
 

@@ -2,10 +2,10 @@
 use Rattle.std.specs.Prelude.{◌≡◌, ℕ, true, List}
 use Rattle.value_core.specs.Value.{Value}
 use Rattle.py_typed.specs.Sorts.{Sort, Bool}
-use Rattle.py_typed.specs.Expressions.{TypedExpr, TypedExprs, Comparisons, type_of}
-use Rattle.source_meaning.specs.ExpressionMeaning.{expressions, chain}
+use Rattle.py_typed.specs.Expressions.{TypedExpr, TypedNode, TypedExprs, Comparisons, type_of}
+use Rattle.source_soundness.specs.Watched.{expressions, chain}
 use Rattle.source_meaning.specs.State.{on_to}
-use Rattle.source_meaning.specs.SourceRun.{call_of}
+use Rattle.ir_builder_frames.specs.Watching.{watch, calls_in}
 use Rattle.ir_core.specs.declared.code.Reg.{Reg}
 use Rattle.ir_core.specs.Building.{Building}
 use Rattle.ir_builder_frames.specs.Settings.{Setting, rtype_of}
@@ -15,19 +15,23 @@ use Rattle.ir_builder_expressions.specs.Parts.{part_sort}
 use Rattle.ir_builder_expressions.specs.Applying.{unary_goes, binary_goes}
 use Rattle.ir_builder_expressions.specs.declared.comparing.Side.{Side}
 use Rattle.ir_builder_expressions.specs.Comparing.{kind_sort, is_shown_as}
-use Rattle.ir_builder_frames.specs.Computing.{Shows, Meaning, means, Computes, ComputesAll}
+use Rattle.ir_builder_frames.specs.Computing.{Shows, Meaning, means, means_node, Computes, ComputesAll}
 use Rattle.ir_builder_choices.specs.Choosing.{HasValue, ComputesFrom}
 
 -- what several expressions mean, one after another, and what a chain of comparisons means
 abbrev pub means_all : Setting → TypedExprs → Meaning (List Value)
-means_all x es n = expressions x.source.classes.classes (call_of x.source n) x.source.globals x.variables es
+means_all x es n = expressions (watch x.source) x.source.classes.classes (calls_in x.source n) x.source.globals x.variables es
 
 abbrev pub means_chain : Setting → Sort → Value → Comparisons → Meaning Value
-means_chain x s v more n = chain x.source.classes.classes (call_of x.source n) x.source.globals x.variables s v more
+means_chain x s v more n = chain (watch x.source) x.source.classes.classes (calls_in x.source n) x.source.globals x.variables s v more
 
 -- its value is in a register
 abbrev pub Emits : Setting → TypedExpr → Building → Building → ℕ → Type 0
 Emits x e old new r = Computes x (Shows (type_of e)) (rtype_of (type_of e)) (means x e) old new r
+
+-- that of its node, which is not looked at yet, is in a register
+abbrev pub EmitsNode : Setting → TypedNode → Sort → Building → Building → ℕ → Type 0
+EmitsNode x k t old new r = Computes x (Shows t) (rtype_of t) (means_node x k t) old new r
 
 -- it is, as a part of an operation whose result is of a type
 abbrev pub EmitsPart : Setting → Sort → TypedExpr → Building → Building → ℕ → Type 0

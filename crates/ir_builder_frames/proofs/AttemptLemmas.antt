@@ -1,16 +1,15 @@
 -- Operations that may fail: what they leave in registers, and where their exceptions go.
-use Rattle.ir_builder_frames.proofs.Common.{◌&&◌, map, ◌≡◌, ℕ, ◌+◌, ◌<◌, ◌≤◌, true, false, cond, List, [], ◌∷◌, length, Option, Some, None, refl, sym, ap, ◌∙◌, subst, arith, le_refl, Thrown, Value, ExcVal, row_of, Primitive, Sort, State, Outcome, Gives, Raises, Stops, Stop, Does, on_to, RType, Reg, PArg, Var, Prim, Program, Do, Failing, NeverFails, MayFail, AlwaysFails, failing, Declared, type_of_reg, edge_of_kind, edge_of_prim, kind_by_result, type_given, Held, Holds, Regs, put, error_of, World, Argument, Given, Effect, Fails, effect, Building, Frame, Waiting, Config, Runs, Ended, Stuck, Strict, read, arguments, typed, applied, is_tested, is_asked, is_clear, away, registers_of, item_at, handler_at, failed, step, put_same, put_other, op_step, Setting, rtype_of, Has, Placed, where_it_may, Adds, world, running, Ends, HaveKinds, Matches, SameLocals, HasRoom, IsThrown, CallsWork, Showing, Meaning, Arrives, Computes, ShowAll, Attempts}
+use Rattle.ir_builder_frames.proofs.Common.{◌&&◌, map, ◌≡◌, ℕ, ◌+◌, ◌<◌, ◌≤◌, true, false, cond, List, [], ◌∷◌, length, Option, Some, None, refl, sym, ap, ◌∙◌, subst, arith, le_refl, Thrown, Value, ExcVal, row_of, Primitive, Sort, State, Outcome, Gives, Raises, Stops, Stop, Does, on_to, RType, Reg, PArg, Var, Prim, Program, Do, Failing, NeverFails, MayFail, AlwaysFails, failing, Declared, type_of_reg, edge_of_kind, edge_of_prim, kind_by_result, type_given, Held, Holds, Regs, put, error_of, World, Argument, Given, Effect, Fails, effect, Building, Frame, Waiting, Config, Runs, Ended, Stuck, Strict, read, arguments, typed, applied, is_tested, is_asked, is_clear, away, registers_of, item_at, handler_at, failed, step, put_same, put_other, op_step, Setting, rtype_of, Has, Placed, where_it_may, Adds, world, running, Ends, HaveKinds, Matches, HasRoom, IsThrown, Showing, Meaning, Arrives, Computes, ShowAll, Attempts}
 use Rattle.value_core.specs.Ending.{Ending}
 use Rattle.source_meaning.specs.SourceRun.{ending_by}
 use Rattle.ir_core.specs.declared.code.RType.TheVariants.{Int, I64, Bool as BoolType, Ref}
 use Rattle.ir_core.specs.Effects.{Gives as Giving, Ends as Finishing}
-use Rattle.ir_builder_frames.specs.Matching.{HaveTypes as HaveValues}
 use Rattle.ir_builder_frames.specs.Computing.{HaveTypes}
 use Rattle.ir_builder_frames.specs.Operands.{ActsOnAll}
 use Rattle.ir_builder_frames.proofs.HeldLemmas.{extends_refl, extends_trans, has_less, type_below, type_has, adds_has, placed_part, guard_at}
-use Rattle.ir_builder_frames.proofs.ComingLemmas.{leads_step, ends_of, ends_map}
+use Rattle.ir_builder_frames.proofs.ComingLemmas.{leads_step, ends_so, ends_of, ends_map}
 use Rattle.ir_builder_frames.proofs.StepLemmas.{read_is}
-use Rattle.ir_builder_frames.proofs.MatchLemmas.{room_on, same_trans, match_kept, thrown_now, thrown_from, computes_then}
+use Rattle.ir_builder_frames.proofs.MatchLemmas.{room_on, match_kept, thrown_now, thrown_from, computes_then}
 
 -- ---- where no test stands behind
 
@@ -61,14 +60,13 @@ abbrev pub ShownIfGiven : Showing → Answer → Type 0
 ShownIfGiven K (Answers v) = K v (Holds v)
 ShownIfGiven K a = Unit {0}
 
--- a state behind another, with the same variables and turns: objects, output and input may be others
+-- a state behind another, with the same variables of the function and turns: all else may be another
 pub record LeavesVariables (before behind : State) : Type 0 where
   pub locals : behind.locals ≡ before.locals
-  pub globals : behind.globals ≡ before.globals
   pub turns : behind.turns ≡ before.turns
 
 pub leaves_all : (s : State) → LeavesVariables s s
-leaves_all s = record { locals = refl; globals = refl; turns = refl }
+leaves_all s = record { locals = refl; turns = refl }
 
 -- an effect of a primitive on what the machine has in a state is what the source does in it
 pub record ActsAs (K : Showing) (q : Primitive) (found : Effect) (s : State) (res : Outcome Value) : Type 0 where
@@ -129,7 +127,7 @@ module _ (p : Program) (fn k i : ℕ) (regs : Regs) (below : List Waiting) (s : 
 ends_by : (p : Program) (K : Showing) (t : ℕ) (c : Config) (u : State) (a : Answer) (R T : Value → State → Config → Type 0) (good : Value → Config) (bad : Thrown → Config) → u.turns ≤ t → step Strict p c ≡ ByAnswer good bad (λ e. Ended e (world None u)) a → ((v : Value) → K v (Holds v) → R v u (good v)) → ((e : Thrown) → T (ExcVal e) u (bad e)) → ShownIfGiven K a → Ends p t c (outcome_of a u) R T
 ends_by p K t c u (Answers v) R T good bad le is well badly shown = (le, good v, leads_step p c (good v) is, well v shown)
 ends_by p K t c u (Throws e) R T good bad le is well badly shown = (le, bad e, leads_step p c (bad e) is, badly e)
-ends_by p K t c u (Finishes x e by) R T good bad le is well badly shown = (e, by, leads_step p c _ is)
+ends_by p K t c u (Finishes x e by) R T good bad le is well badly shown = ends_so p t c x e u R T by (leads_step p c _ is)
 
 -- what a primitive does with its arguments, as the source does it
 pub record DoesAs (K : Showing) (p : Program) (fn r : ℕ) (q : Primitive) (args : List PArg) (regs : Regs) (s : State) (res : Outcome Value) : Type 0 where
@@ -138,16 +136,16 @@ pub record DoesAs (K : Showing) (p : Program) (fn r : ℕ) (q : Primitive) (args
   pub acts : ActsAs K q (typed (registers_of p fn) (Some record { 0 = r }) args (effect p q values (world None s))) s res
 
 -- where the code of a single operation comes to
-pub prim_ends : {line : ℕ} (K : Showing) (b c : Building) (r : ℕ) (t : RType) (q : Primitive) (args : List PArg) → Adds b c r t (Prim (Some record { 0 = r }) q args) line → (p : Program) (fn : ℕ) (h : Option ℕ) → Placed p fn b c h → (x : Setting) → HasRoom x b → (regs : Regs) (below : List Waiting) (s : State) → Matches x regs s → (res : Outcome Value) → DoesAs K p fn r q args regs s res → Ends p s.turns (running fn (length b.blocks) (length b.ops) regs below (world None s)) res (Arrives K fn (length c.blocks) (length c.ops) below (length b.regs) regs x s r) (IsThrown fn h below x (length b.regs) regs)
+pub prim_ends : {line : ℕ} (K : Showing) (b c : Building) (r : ℕ) (t : RType) (q : Primitive) (args : List PArg) → Adds b c r t (Prim (Some record { 0 = r }) q args) line → (p : Program) (fn : ℕ) (h : Option ℕ) → Placed p fn b c h → (x : Setting) → HasRoom x b → (regs : Regs) (below : List Waiting) (s : State) → Matches x regs s → (res : Outcome Value) → DoesAs K p fn r q args regs s res → Ends p s.turns (running fn (length b.blocks) (length b.ops) regs below (world None s)) res (Arrives K fn (length c.blocks) (length c.ops) below (length b.regs) regs s r) (IsThrown fn h below x (length b.regs) regs)
 prim_ends K b c r t q args a p fn h placed x room regs below s match res d =
-    let R = Arrives K fn (length c.blocks) (length c.ops) below (length b.regs) regs x s r in
+    let R = Arrives K fn (length c.blocks) (length c.ops) below (length b.regs) regs s r in
     let T = IsThrown fn h below x (length b.regs) regs in
     let at = adds_has p fn b c r t _ a placed.has in
     let target = type_has p fn c r t placed.has a.type in
     let here = guard_at p fn b c h (let z = a.blocks in omega arith) placed (length b.blocks) (sym a.blocks) in
     let edge : failing q ≡ MayFail → is_tested (record { 0 = r }) (item_at p fn (length b.blocks) (length b.ops + 1)) ≡ false = λ may. placed.has.edges.each _ _ r _ _ at (ap (λ f. where_it_may f r) may) in
     let u : State = d.acts.behind in
-    let same : SameLocals x s u = record { locals = d.acts.leaves.locals; globals = subst (HaveValues x.source.globals) (sym d.acts.leaves.globals) match.globals } in
+    let same : u.locals ≡ s.locals = d.acts.leaves.locals in
     let le : u.turns ≤ s.turns = omega (arith, d.acts.leaves.turns) in
     let leads = comes p fn (length b.blocks) (length b.ops) regs below s r q args t d.values at target d.given u d.acts.answer d.acts.allowed d.acts.effects edge in
     let kept : (w : Held) (j : ℕ) → j < length b.regs → put regs r w j ≡ regs j = λ w j lt. put_other regs r j w (let z = a.made in λ e. omega arith) in
@@ -159,23 +157,6 @@ prim_ends K b c r t q args a p fn h placed x room regs below s match res d =
     (λ v k. record { now = put regs r (Holds v); is = rw (a.blocks, a.ops) refl; shows = subst (K v) (sym (put_same regs r (Holds v))) k; kept = kept (Holds v); same = same })
     (λ e. thrown_now p fn (length b.blocks) (length b.ops + 1) h below x (length b.regs) regs (put regs r (error_of t)) e u here (match_kept x b regs (put regs r (error_of t)) s u room (λ j lt. kept (error_of t) j (let z = room.top in omega arith)) same match) (λ j i lt o. kept (error_of t) j lt))
     d.acts.shown)
-
-pub prim_attempts : {line : ℕ} (K : Showing) (b c : Building) (r : ℕ) (t : RType) (q : Primitive) (args : List PArg) (from : Regs → State → Outcome Value → Type 0) → Adds b c r t (Prim (Some record { 0 = r }) q args) line → ((p : Program) (fn : ℕ) → Has p fn b → (regs : Regs) (s : State) (res : Outcome Value) → from regs s res → DoesAs K p fn r q args regs s res) → Attempts K b c r t from
-prim_attempts K b c r t q args from a by = record {
-  extends = a.extends;
-  type = a.type;
-  runs = λ p fn h placed x room regs below s match res needs.
-      prim_ends K b c r t q args a p fn h placed x room regs below s match res (by p fn (has_less p fn b c a.extends placed.has) regs s res needs);
-}
-
--- with nothing before it, in a program whose calls work
-pub prim_computes : {line : ℕ} (x : Setting) (K : Showing) (m : Meaning Value) (b c : Building) (r : ℕ) (t : RType) (q : Primitive) (args : List PArg) → HasRoom x b → Adds b c r t (Prim (Some record { 0 = r }) q args) line → ((p : Program) (fn : ℕ) → Has p fn b → (n : ℕ) → CallsWork p x.source n → (regs : Regs) (s : State) → Matches x regs s → DoesAs K p fn r q args regs s (m n s)) → Computes x K t m b c r
-prim_computes x K m b c r t q args room a by = record {
-  extends = a.extends;
-  type = a.type;
-  runs = λ p fn h placed n calls regs below s match le.
-      prim_ends K b c r t q args a p fn h placed x room regs below s match (m n s) (by p fn (has_less p fn b c a.extends placed.has) n calls regs s match);
-}
 
 -- ---- on any number of registers
 
@@ -231,22 +212,19 @@ registers_given p fn b has (t ∷ ts) (v ∷ vs) regs [] types h = absurd h
 registers_given p fn b has (t ∷ ts) (v ∷ vs) regs (r ∷ rs) types h =
     more_given (registers_of p fn) regs r v (all_registers rs) (all_given vs) (read_is (registers_of p fn) regs r.0 (rtype_of t) v (type_has p fn b r.0 (rtype_of t) has types.0) h.0.0) (registers_given p fn b has ts vs regs rs types.1 h.1)
 
--- a primitive on arguments among which are registers
-pub all_perform_with : {line : ℕ} (ts : List Sort) (K : Showing) (go : List Value → Does Value) (b c : Building) (r : ℕ) (t : RType) (rs : List Reg) (q : Primitive) (args : List PArg) (values : List Value → List Argument) → Adds b c r t (Prim (Some record { 0 = r }) q args) line → ((p : Program) (fn : ℕ) → Has p fn b → (regs : Regs) (vs : List Value) → ShowAll ts vs regs rs → arguments (registers_of p fn) regs args ≡ Some (values vs)) → ((vs : List Value) → HaveKinds ts vs → Performs K q (values vs) (go vs)) → Attempts K b c r t (ActsOnAll ts rs go)
-all_perform_with ts K go b c r t rs q args values a given by =
-    prim_attempts K b c r t q args (ActsOnAll ts rs go) a
-    (λ p fn has regs s res needs.
-    let P : Outcome Value → Type 0 = λ z. ActsAs K q (effect p q (values needs.values) (world None s)) s z in
-    record {
-      values = values needs.values;
-      given = given p fn has regs needs.values needs.shows;
-      acts = acts_typed K q _ s res (registers_of p fn) (Some record { 0 = r }) args (subst P (sym needs.does) (by needs.values (kinds_shown ts needs.values regs rs needs.shows) p s));
-    })
-
--- a primitive on registers alone
+-- a primitive on registers
 pub all_perform : {line : ℕ} (ts : List Sort) (K : Showing) (go : List Value → Does Value) (b c : Building) (r : ℕ) (t : RType) (rs : List Reg) (q : Primitive) → HaveTypes b.regs ts rs → Adds b c r t (Prim (Some record { 0 = r }) q (all_registers rs)) line → ((vs : List Value) → HaveKinds ts vs → Performs K q (all_given vs) (go vs)) → Attempts K b c r t (ActsOnAll ts rs go)
-all_perform ts K go b c r t rs q types a by =
-    all_perform_with ts K go b c r t rs q (all_registers rs) all_given a (λ p fn has regs vs shows. registers_given p fn b has ts vs regs rs types shows) by
+all_perform ts K go b c r t rs q types a by = record {
+  extends = a.extends;
+  type = a.type;
+  runs = λ p fn h placed x room regs below s match res on.
+      let P : Outcome Value → Type 0 = λ z. ActsAs K q (effect p q (all_given on.values) (world None s)) s z in
+      prim_ends K b c r t q (all_registers rs) a p fn h placed x room regs below s match res record {
+        values = all_given on.values;
+        given = registers_given p fn b (has_less p fn b c a.extends placed.has) ts on.values regs rs types on.shows;
+        acts = acts_typed K q _ s res (registers_of p fn) (Some record { 0 = r }) (all_registers rs) (subst P (sym on.does) (by on.values (kinds_shown ts on.values regs rs on.shows) p s));
+      };
+}
 
 -- ---- behind the code of two values
 
@@ -271,7 +249,7 @@ both_attempt x K K' L t t' u m m' go from b0 b1 b2 b3 q q' r room c c' made give
           computes_then p fn h below x n calls K' t' m' b1 b2 q' now s1 (go v) _ (length b0.regs) regs c' p2 room1 l1 (λ j i z o. kept j z) match1 le1
           (λ now2 v2 s2 le2 shows2 kept2 same2 match2.
           ends_map p s2.turns _ (go v v2 s2) _ _ _ _
-          (λ z s3 d a. record { now = a.now; is = a.is; shows = a.shows; kept = λ j lt. a.kept j (omega arith) ∙ kept2 j (omega arith) ∙ kept j lt; same = same_trans x s s1 s3 same1 (same_trans x s1 s2 s3 same2 a.same) })
+          (λ z s3 d a. record { now = a.now; is = a.is; shows = a.shows; kept = λ j lt. a.kept j (omega arith) ∙ kept2 j (omega arith) ∙ kept j lt; same = a.same ∙ same2 ∙ same1 })
           (λ z s3 d e. thrown_from fn h below x (length b0.regs) (length b2.regs) regs now2 z s3 d (omega arith) (λ j i lt o. kept2 j (omega arith) ∙ kept j lt) e)
           (made.runs p fn h p3 x (room_on x b1 b2 c'.extends room1) now2 below s2 match2 (go v v2 s2) (gives v v2 s2 now2 (subst (K v) (sym (kept2 q low)) shows) shows2))));
     }

@@ -1,5 +1,8 @@
 -- How stretches of a run follow one another.
-use Rattle.ir_builder_frames.proofs.Common.{◌≡◌, ℕ, ◌+◌, ◌≤◌, refl, sym, ap, ◌∙◌, subst, arith, le_refl, Value, State, Outcome, Gives, Raises, Stops, Does, on_to, Program, Config, Strict, step, steps, Leads, Ends}
+use Rattle.ir_builder_frames.proofs.Common.{Bool, true, false, Some, None, needs, Stop, Ended, world, ◌≡◌, ℕ, ◌+◌, ◌≤◌, refl, sym, ap, ◌∙◌, subst, arith, le_refl, Value, State, Outcome, Gives, Raises, Stops, Does, on_to, Program, Config, Strict, step, steps, Leads, Ends}
+use Rattle.value_core.specs.Ending.{Ending}
+use Rattle.source_meaning.specs.State as source
+use Rattle.source_meaning.specs.SourceRun.{ending_by}
 use Rattle.ir_core.proofs.RunLemmas.{steps_on}
 
 module _ (p : Program) where
@@ -18,12 +21,25 @@ module _ (p : Program) where
   pub ends_from : {A : Type 0} (s t : ℕ) (c d : Config) (res : Outcome A) (R : A → State → Config → Type 0) (E : Value → State → Config → Type 0) → s ≤ t → Leads p c d → Ends p s d res R E → Ends p t c res R E
   ends_from s t c d (Gives a w) R E le l h = (omega (arith, h.0), h.1, leads_trans c d h.1 l h.2, h.3)
   ends_from s t c d (Raises v w) R E le l h = (omega (arith, h.0), h.1, leads_trans c d h.1 l h.2, h.3)
-  ends_from s t c d (Stops x w) R E le l h = (h.0, h.1, leads_trans c d _ l h.2)
+  ends_from s t c d (Stops x w) R E le l h = λ e is. leads_trans c d _ l (h e is)
 
   pub ends_on : {A B : Type 0} (t : ℕ) (c : Config) (res : Outcome A) (R : A → State → Config → Type 0) (E F : Value → State → Config → Type 0) (go : A → Does B) (S : B → State → Config → Type 0) → Ends p t c res R E → ((a : A) (s : State) (d : Config) → s.turns ≤ t → R a s d → Ends p s.turns d (go a s) S F) → ((v : Value) (s : State) (d : Config) → E v s d → F v s d) → Ends p t c (on_to res go) S F
   ends_on t c (Gives a s) R E F go S h next up = ends_from s.turns t c h.1 (go a s) S F h.0 h.2 (next a s h.1 h.0 h.3)
   ends_on t c (Raises v s) R E F go S h next up = (h.0, h.1, h.2, up v s h.1 h.3)
   ends_on t c (Stops w s) R E F go S h next up = h
+
+  -- the end of the run
+  pub ends_so : {A : Type 0} (t : ℕ) (c : Config) (w : Stop) (e : Ending) (s : State) (R : A → State → Config → Type 0) (E : Value → State → Config → Type 0) → ending_by w ≡ Some e → Leads p c (Ended e (world None s)) → Ends p t c (Stops w s) R E
+  ends_so t c w e s R E is l f ends = let same : Some e ≡ Some f = sym is ∙ ends in subst (λ z. Leads p c (Ended z (world None s))) (cc) l
+
+  -- of a source that is stuck nothing is asked
+  pub ends_stuck : {A : Type 0} (t : ℕ) (c : Config) (s : State) (R : A → State → Config → Type 0) (E : Value → State → Config → Type 0) → Ends p t c (Stops source.Stuck s) R E
+  ends_stuck t c s R E e is = let f : None ≡ Some e = is in absurd (cc)
+
+  -- nor of one that is where something is missing
+  pub ends_needed : {A : Type 0} (t : ℕ) (c : Config) (b : Bool) (d : Does A) (s : State) (R : A → State → Config → Type 0) (E : Value → State → Config → Type 0) → (b ≡ true → Ends p t c (d s) R E) → Ends p t c (needs b d s) R E
+  ends_needed t c true d s R E h = h refl
+  ends_needed t c false d s R E h = ends_stuck t c s R E
 
   -- some steps to a value
   pub ends_lead : {A : Type 0} (a : A) (s : State) (c d : Config) (R : A → State → Config → Type 0) (E : Value → State → Config → Type 0) → Leads p c d → R a s d → Ends p s.turns c (Gives a s) R E

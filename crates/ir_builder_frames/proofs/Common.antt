@@ -5,9 +5,9 @@ pub use Rattle.c_core.specs.WellFormed.{names_differ}
 pub use Rattle.c_core.specs.declared.primitive.Primitive.{Primitive}
 pub use Rattle.ir_builder_frames.specs.Calling.{Adds, Closes, Declares, Open, Patches, Pushes}
 pub use Rattle.ir_builder_frames.specs.Coming.{Ends, Leads, running, world}
-pub use Rattle.ir_builder_frames.specs.Computing.{Arrives, ArrivesAll, Attempts, Computes, ComputesAll, Makes, Meaning, ShowAll, Showing, Shows}
+pub use Rattle.ir_builder_frames.specs.Computing.{Arrives, ArrivesAll, Attempts, Computes, ComputesAll, Makes, Itself, Meaning, ShowAll, Showing, Shows}
 pub use Rattle.ir_builder_frames.specs.Kinds.{Answers, AreArguments, BlocksKinds, Calls, HasKinds, IsAmong, IsGlobal, IsOf, KeepsKinds, KeepsKindsIf, LastKinds, LiteralFits, OpKinds, OpsKinds, ReadsGlobal, Reports, Surrounding, Take, WritesGlobal, temporary_name}
-pub use Rattle.ir_builder_frames.specs.Matching.{BackBelow, CallsWork, HasGlobals, HasKind, HasRoom, HaveKinds, IsThrown, Keeps, Matches, MayHold, SameIn, SameLocals, Stands, flag_in, flag_of}
+pub use Rattle.ir_builder_frames.specs.Matching.{BackBelow, CallsWork, HasGlobals, HasKind, HasRoom, HaveKinds, IsThrown, Keeps, Matches, SameIn, Stands, flag_in, flag_of}
 pub use Rattle.ir_builder_frames.specs.Placing.{Has, HasType, Placed, Within, or_other, where_it_may}
 pub use Rattle.ir_builder_frames.specs.Settings.{Setting, register_of, rtype_of, variable_registers}
 pub use Rattle.ir_core.proofs.StepLemmas.{lit_step, op_step, put_other, put_same}

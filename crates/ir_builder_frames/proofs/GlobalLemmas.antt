@@ -1,5 +1,5 @@
--- Reads and writes of the module's variables, which are a program's globals, and the types that they keep.
-use Rattle.ir_builder_frames.proofs.Common.{◌≡◌, ◌≢◌, ℕ, zero, suc, ◌+◌, ◌<◌, true, false, not, cond, List, [], ◌∷◌, length, Option, Some, None, refl, sym, ap, ◌∙◌, subst, arith, ⊎_elim, map, replicate, slice_get, slice_set, nat_lt, codes, list_any, position_or_len, option_and_then, bytes_eq, cases_eq, lt-ltb, length-map, bytes_eq-Decides, Value, names_differ, bytes_eq-sym, Sort, State, Gives, raise_new, needs, put_global, set_global, RType, Reg, Prim, Program, Do, Declared, type_of_reg, Holds, Regs, Given, Written, Acts, number_of_global, global_at, got, stored, effect, Building, Waiting, Strict, read, arguments, registers_of, item_at, step, Setting, rtype_of, register_of, variable_registers, Adds, world, running, HasKind, MayHold, HasGlobals, Matches, HasRoom, Shows, Computes, Surrounding, IsOf, IsGlobal, ReadsGlobal, WritesGlobal, IsAmong}
+-- Reads and writes of the module's variables, which are a program's globals.
+use Rattle.ir_builder_frames.proofs.Common.{Itself, Config, Placed, Ends, Arrives, IsThrown, ◌≡◌, ℕ, zero, suc, ◌+◌, ◌<◌, true, false, not, cond, List, [], ◌∷◌, length, Option, Some, None, refl, ap, ◌∙◌, arith, map, slice_get, slice_set, nat_lt, codes, list_any, position_or_len, option_and_then, bytes_eq, lt-ltb, length-map, bytes_eq-Decides, Value, names_differ, bytes_eq-sym, State, raise_new, RType, Reg, Prim, Program, Do, Declared, type_of_reg, Holds, Regs, Given, Written, Acts, number_of_global, global_at, got, stored, effect, Building, Waiting, Strict, read, arguments, registers_of, item_at, step, Setting, rtype_of, register_of, variable_registers, Adds, world, running, HasGlobals, Matches, HasRoom, Computes, Surrounding, IsOf, IsGlobal, ReadsGlobal, WritesGlobal, IsAmong}
 use Rattle.std.specs.Prelude.{◌++◌}
 use Rattle.value_core.specs.declared.exception.ExcClass.TheVariants.{NameError}
 use Rattle.c_core.specs.declared.primitive.Primitive.TheVariants as prim
@@ -8,60 +8,20 @@ use Rattle.c_core.specs.Step.{not_defined}
 use Rattle.py_typed.specs.Statements.{Variable, TypedModule}
 use Rattle.source_meaning.specs.ExpressionMeaning.{name_at, value_in, read_global}
 use Rattle.ir_core.specs.declared.code.PArg.TheVariants as arg
-use Rattle.ir_builder_frames.specs.Matching.{HaveTypes}
 use Rattle.ir_builder_frames.proofs.HeldLemmas.{get_below}
 use Rattle.ir_builder_frames.proofs.NameLemmas.{or_false, not_false, and_parts}
+use Rattle.std.proofs.lemmas.Bool.{ltb-true}
+use Rattle.std.proofs.lemmas.Option.{slice_get-get_or}
+use Rattle.ir_builder_frames.proofs.ComingLemmas.{ends_of, ends_stuck}
 use Rattle.ir_builder_frames.proofs.StepLemmas.{read_is, acts_step}
-use Rattle.ir_builder_frames.proofs.AttemptLemmas.{Answer, Answers, Throws, effect_of, outcome_of, ShownIfGiven, leaves_all, acts_typed, prim_computes}
+use Rattle.ir_builder_frames.proofs.AttemptLemmas.{Answer, Answers, Throws, effect_of, outcome_of, ShownIfGiven, leaves_all, acts_typed, prim_ends}
 
 -- ---- lists
-
-get_set_same : {A : Type 0} (xs : List A) (n : ℕ) (y : A) → n < length xs → slice_get (slice_set xs n y) n ≡ Some y
-get_set_same [] n y lt = absurd (omega arith)
-get_set_same (x ∷ xs) zero y lt = refl
-get_set_same (x ∷ xs) (suc n) y lt = get_set_same xs n y (omega arith)
-
-get_set_other : {A : Type 0} (xs : List A) (n k : ℕ) (y : A) → k ≢ n → slice_get (slice_set xs n y) k ≡ slice_get xs k
-get_set_other [] n k y ne = refl
-get_set_other (x ∷ xs) zero zero y ne = absurd (ne refl)
-get_set_other (x ∷ xs) zero (suc k) y ne = refl
-get_set_other (x ∷ xs) (suc n) zero y ne = refl
-get_set_other (x ∷ xs) (suc n) (suc k) y ne = get_set_other xs n k y (λ e. ne (ap suc e))
 
 pub get_map : {A B : Type 0} (f : A → B) (xs : List A) (i : ℕ) (x : A) → slice_get xs i ≡ Some x → slice_get (map f xs) i ≡ Some (f x)
 get_map f [] i x e = let g : None ≡ Some x = e in absurd (cc)
 get_map f (y ∷ xs) zero x e = let g : Some y ≡ Some x = e in let same : y ≡ x = cc in ap (λ z. Some (f z)) same
 get_map f (y ∷ xs) (suc i) x e = get_map f xs i x e
-
--- ---- the types of the module's variables
-
-pub types_set : (vs : List Variable) (gs : List (Option Value)) (i : ℕ) (v : Variable) (w : Value) → HaveTypes vs gs → slice_get vs i ≡ Some v → HasKind v.1 w → HaveTypes vs (slice_set gs i (Some w))
-types_set vs gs i v w types at kind = record {
-  each = λ j u there.
-      let old = types.each j u there in
-      ⊎_elim
-      (λ same.
-      let within : i < length gs = (let o = types.each i v at in get_below gs i o.0 o.1) in
-      let one : v ≡ u = (let g : Some v ≡ Some u = sym at ∙ ap (slice_get vs) (sym same) ∙ there in cc) in
-      (Some w, ap (slice_get (slice_set gs i (Some w))) same ∙ get_set_same gs i (Some w) within, subst (λ (z : Variable). HasKind z.1 w) one kind))
-      (λ other. (old.0, get_set_other gs i j (Some w) other ∙ old.1, old.2))
-      (cases_eq j i);
-}
-
-abbrev nothing : Option Value
-nothing = None
-
-none_at : (vs : List Variable) (j : ℕ) (v : Variable) → slice_get vs j ≡ Some v → slice_get (replicate (length vs) nothing) j ≡ Some nothing
-none_at [] j v e = let g : None ≡ Some v = e in absurd (cc)
-none_at (u ∷ vs) zero v e = refl
-none_at (u ∷ vs) (suc j) v e = none_at vs j v e
-
-pub none_have_types : (vs : List Variable) → HaveTypes vs (replicate (length vs) None)
-none_have_types vs = record { each = λ j v at. (None, none_at vs j v at, tt) }
-
--- a variable that is written leaves the others, and those of the function
-pub global_matches : (x : Setting) (regs : Regs) (s : State) (i : ℕ) (v : Variable) (w : Value) → Matches x regs s → slice_get x.source.globals i ≡ Some v → HasKind v.1 w → Matches x regs (record s { globals = slice_set s.globals i (Some w) })
-global_matches x regs s i v w match at kind = record { each = match.each; globals = types_set x.source.globals s.globals i v w match.globals at kind }
 
 -- ---- the number of a global by its name
 
@@ -140,42 +100,49 @@ read_gives vs i v s o at held =
     ∙ ap (λ name. value_in (raise_new NameError (codes "name '" ++ name ++ codes "' is not defined")) (Some o) s) (name_is vs i v at)
     ∙ value_as v.0 s o
 
-pub set_gives : (i : ℕ) (w : Value) (s : State) (o : Option Value) → slice_get s.globals i ≡ Some o → set_global i (Some w) s ≡ Gives tt (record s { globals = slice_set s.globals i (Some w) })
-set_gives i w s o held = ap (λ c. needs c (put_global i (Some w)) s) (lt-ltb i (length s.globals) (get_below s.globals i o held))
-
 -- ---- the code of a read, and of a write
 
-shown_if : (t : Sort) (name : List ℕ) (o : Option Value) → MayHold t o → ShownIfGiven (Shows t) (value_or_unset name o)
-shown_if t name None k = tt
-shown_if t name (Some v) k = (refl, k)
+given_itself : (name : List ℕ) (o : Option Value) → ShownIfGiven Itself (value_or_unset name o)
+given_itself name None = tt
+given_itself name (Some v) = refl
 
-pub global_computes : {line : ℕ} (x : Setting) (i : ℕ) (v : Variable) (b c : Building) (r : ℕ) → HasRoom x b → slice_get x.source.globals i ≡ Some v → Adds b c r (rtype_of v.1) (Prim (Some record { 0 = r }) (prim.Global global.Get) (arg.Global v.0 ∷ [])) line → Computes x (Shows v.1) (rtype_of v.1) (λ n. read_global x.source.globals i) b c r
-global_computes x i v b c r room at a =
-    prim_computes x (Shows v.1) _ b c r (rtype_of v.1) (prim.Global global.Get) _ room a
-    (λ p fn has n calls regs s match.
-    let k = match.globals.each i v at in
-    record {
-      values = Written (arg.Global v.0) ∷ [];
-      given = refl;
-      acts = acts_typed (Shows v.1) (prim.Global global.Get) (effect p (prim.Global global.Get) (Written (arg.Global v.0) ∷ []) (world None s)) s (read_global x.source.globals i s) (registers_of p fn) (Some record { 0 = r }) (arg.Global v.0 ∷ []) record {
-        answer = value_or_unset v.0 k.0;
-        behind = s;
-        leaves = leaves_all s;
-        allowed = tt;
-        effects = global_read p x.source i v s k.0 calls.variables at k.1;
-        shown = shown_if v.1 v.0 k.0 k.2;
-        does = read_gives x.source.globals i v s k.0 at k.1;
-      };
-    })
+module _ {line : ℕ} (x : Setting) (i : ℕ) (v : Variable) (b c : Building) (r : ℕ) (room : HasRoom x b) (at : slice_get x.source.globals i ≡ Some v) (a : Adds b c r (rtype_of v.1) (Prim (Some record { 0 = r }) (prim.Global global.Get) (arg.Global v.0 ∷ [])) line) where
+  -- where the state has no such variable, the source is stuck
+  reads : (p : Program) (fn : ℕ) (h : Option ℕ) → Placed p fn b c h → HasGlobals p x.source → (regs : Regs) (below : List Waiting) (s : State) → Matches x regs s → (o : Option (Option Value)) → slice_get s.globals i ≡ o → Ends p s.turns (running fn (length b.blocks) (length b.ops) regs below (world None s)) (read_global x.source.globals i s) (Arrives Itself fn (length c.blocks) (length c.ops) below (length b.regs) regs s r) (IsThrown fn h below x (length b.regs) regs)
+  reads p fn h placed has regs below s match None there =
+      let R : Value → State → Config → Type 0 = Arrives Itself fn (length c.blocks) (length c.ops) below (length b.regs) regs s r in
+      let T = IsThrown fn h below x (length b.regs) regs in
+      ends_of p s.turns _ _ _ R T (ap (λ z. value_in (raise_new NameError (codes "name '" ++ name_at x.source.globals i ++ codes "' is not defined")) z s) there) (ends_stuck p s.turns _ s R T)
+  reads p fn h placed has regs below s match (Some o) there =
+      prim_ends Itself b c r (rtype_of v.1) (prim.Global global.Get) _ a p fn h placed x room regs below s match (read_global x.source.globals i s) record {
+        values = Written (arg.Global v.0) ∷ [];
+        given = refl;
+        acts = acts_typed Itself (prim.Global global.Get) (effect p (prim.Global global.Get) (Written (arg.Global v.0) ∷ []) (world None s)) s (read_global x.source.globals i s) (registers_of p fn) (Some record { 0 = r }) (arg.Global v.0 ∷ []) record {
+          answer = value_or_unset v.0 o;
+          behind = s;
+          leaves = leaves_all s;
+          allowed = tt;
+          effects = global_read p x.source i v s o has at there;
+          shown = given_itself v.0 o;
+          does = read_gives x.source.globals i v s o at there;
+        };
+      }
+
+  pub global_computes : Computes x Itself (rtype_of v.1) (λ n. read_global x.source.globals i) b c r
+  global_computes = record {
+    extends = a.extends;
+    type = a.type;
+    runs = λ p fn h placed n calls regs below s match le. reads p fn h placed calls.variables regs below s match (slice_get s.globals i) refl;
+  }
 
 write_arguments : (declared : Declared) (regs : Regs) (name : List ℕ) (r : ℕ) (w : Value) → read declared regs (record { 0 = r }) ≡ Some w → arguments declared regs (arg.Global name ∷ arg.Var record { 0 = r } ∷ []) ≡ Some (Written (arg.Global name) ∷ Given w ∷ [])
 write_arguments declared regs name r w e = rw e refl
 
-pub global_step : {line : ℕ} (p : Program) (fn k j : ℕ) (regs : Regs) (below : List Waiting) (s : State) (m : TypedModule) (i : ℕ) (v : Variable) (r : ℕ) (t : RType) (w : Value) → HasGlobals p m → HaveTypes m.globals s.globals → slice_get m.globals i ≡ Some v → item_at p fn k j ≡ Some (Do (Prim None (prim.Global global.Set) (arg.Global v.0 ∷ arg.Var record { 0 = r } ∷ [])) line) → type_of_reg (registers_of p fn) (record { 0 = r }) ≡ Some t → regs r ≡ Holds w → step Strict p (running fn k j regs below (world None s)) ≡ running fn k (j + 1) regs below (world None (record s { globals = slice_set s.globals i (Some w) }))
-global_step p fn k j regs below s m i v r t w has types at there type holds =
-    let o = types.each i v at in
+pub global_step : {line : ℕ} (p : Program) (fn k j : ℕ) (regs : Regs) (below : List Waiting) (s : State) (m : TypedModule) (i : ℕ) (v : Variable) (r : ℕ) (t : RType) (w : Value) → HasGlobals p m → nat_lt i (length s.globals) ≡ true → slice_get m.globals i ≡ Some v → item_at p fn k j ≡ Some (Do (Prim None (prim.Global global.Set) (arg.Global v.0 ∷ arg.Var record { 0 = r } ∷ [])) line) → type_of_reg (registers_of p fn) (record { 0 = r }) ≡ Some t → regs r ≡ Holds w → step Strict p (running fn k j regs below (world None s)) ≡ running fn k (j + 1) regs below (world None (record s { globals = slice_set s.globals i (Some w) }))
+global_step p fn k j regs below s m i v r t w has low at there type holds =
+    let o = slice_get-get_or s.globals i None (ltb-true i (length s.globals) low) in
     let given = write_arguments (registers_of p fn) regs v.0 r w (read_is (registers_of p fn) regs r t w type holds) in
-    acts_step p fn k j regs below s (prim.Global global.Set) _ _ _ there given refl (global_write p m i v s o.0 has at o.1 w)
+    acts_step p fn k j regs below s (prim.Global global.Set) _ _ _ there given refl (global_write p m i v s _ has at o w)
 
 -- ---- when they fit
 

@@ -3,6 +3,7 @@ pub mod PatchLemmas
 pub mod ComingLemmas
 pub mod ShapeLemmas
 pub mod MatchLemmas
+pub mod WatchLemmas
 pub mod StepLemmas
 pub mod AttemptLemmas
 pub mod KindLemmas

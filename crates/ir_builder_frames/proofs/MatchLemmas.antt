@@ -1,5 +1,5 @@
 -- What stays of a frame while a part runs, and what comes behind the code of a value.
-use Rattle.ir_builder_frames.proofs.Common.{◌≡◌, ℕ, ◌<◌, ◌≤◌, Bool, true, false, List, length, Option, Some, None, refl, sym, ap, ◌∙◌, subst, arith, le_refl, nat_lt, if◌then◌else◌, slice_get, Thrown, Value, BoolVal, ExcVal, Sort, State, Outcome, Gives, Does, on_to, Program, RType, Reg, Held, Holds, Regs, Building, Extends, Waiting, Config, handler_at, away, Setting, rtype_of, Has, Placed, world, running, Ends, Keeps, flag_of, flag_in, Matches, SameLocals, BackBelow, HasRoom, SameIn, Stands, IsThrown, CallsWork, Showing, Meaning, Arrives, Computes, ArrivesAll, ComputesAll, Makes}
+use Rattle.ir_builder_frames.proofs.Common.{ShowAll, ◌≡◌, ℕ, ◌<◌, ◌≤◌, Bool, true, false, List, length, Option, Some, None, refl, sym, ap, ◌∙◌, subst, arith, le_refl, nat_lt, if◌then◌else◌, slice_get, Thrown, Value, BoolVal, ExcVal, Sort, State, Outcome, Gives, Does, on_to, Program, RType, Reg, Held, Holds, Regs, Building, Extends, Waiting, Config, handler_at, away, Setting, rtype_of, Has, Placed, world, running, Ends, Keeps, flag_of, flag_in, Matches, BackBelow, HasRoom, SameIn, Stands, IsThrown, CallsWork, Showing, Meaning, Arrives, Computes, ArrivesAll, ComputesAll, Makes}
 use Rattle.std.proofs.lemmas.Bool.Decides.{nat_tests}
 use Rattle.ir_core.specs.declared.code.RType.TheVariants as rtype
 use Rattle.ir_builder_frames.proofs.HeldLemmas.{type_kept, get_below}
@@ -33,17 +33,11 @@ either_flag false set x y same = same refl
 pub not_below : (j n : ℕ) → nat_lt j n ≡ false → n ≤ j
 not_below j n e = grind (arith, nat_tests, e)
 
-pub keeps_as : (t : Sort) (h h' flag flag' : Held) (o : Option Value) → h' ≡ h → flag' ≡ flag → Keeps t h flag o → Keeps t h' flag' o
-keeps_as t h h' flag flag' None e f k = f ∙ k
-keeps_as t h h' flag flag' (Some v) e f k = (e ∙ k.0, f ∙ k.1, k.2)
+pub keeps_as : (h h' flag flag' : Held) (o : Option Value) → h' ≡ h → flag' ≡ flag → Keeps h flag o → Keeps h' flag' o
+keeps_as h h' flag flag' None e f k = f ∙ k
+keeps_as h h' flag flag' (Some v) e f k = (e ∙ k.0, f ∙ k.1)
 
-pub same_refl : (x : Setting) (regs : Regs) (s : State) → Matches x regs s → SameLocals x s s
-same_refl x regs s m = record { locals = refl; globals = m.globals }
-
-pub same_trans : (x : Setting) (a b c : State) → SameLocals x a b → SameLocals x b c → SameLocals x a c
-same_trans x a b c e f = record { locals = f.locals ∙ e.locals; globals = f.globals }
-
-pub match_kept : (x : Setting) (b : Building) (regs now : Regs) (s s1 : State) → HasRoom x b → ((j : ℕ) → j < x.frame.locals.top → now j ≡ regs j) → SameLocals x s s1 → Matches x regs s → Matches x now s1
+pub match_kept : (x : Setting) (b : Building) (regs now : Regs) (s s1 : State) → HasRoom x b → ((j : ℕ) → j < x.frame.locals.top → now j ≡ regs j) → s1.locals ≡ s.locals → Matches x regs s → Matches x now s1
 match_kept x b regs now s s1 room same is m =
     let count = room.count in
     let flags = room.flags in
@@ -52,8 +46,7 @@ match_kept x b regs now s s1 room same is m =
           let k = m.each j v at in
           let low : j < length x.variables = get_below x.variables j v at in
           let flag : flag_in x.frame.locals now j ≡ flag_in x.frame.locals regs j = either_flag (nat_lt j x.frame.locals.params) (Holds (BoolVal true)) _ _ (λ e. let above = not_below j x.frame.locals.params e in same (flag_of x.frame.locals j) (omega arith)) in
-          (k.0, ap (λ ls. slice_get ls j) is.locals ∙ k.1, keeps_as v.1 (regs j) (now j) _ _ k.0 (same j (omega arith)) flag k.2);
-      globals = is.globals;
+          (k.0, ap (λ ls. slice_get ls j) is ∙ k.1, keeps_as (regs j) (now j) _ _ k.0 (same j (omega arith)) flag k.2);
     }
 
 -- ---- where an exception goes
@@ -66,7 +59,7 @@ thrown_from fn None below x keep keep' regs regs' v s d le same t = t
 thrown_from fn (Some h) below x keep keep' regs regs' v s d le same t = (t.0, t.1, stands_from fn h 0 below (Some t.0) x keep keep' regs regs' s d le same t.2)
 
 pub thrown_at : (p : Program) (fn k i : ℕ) (h : Option ℕ) (below : List Waiting) (x : Setting) (keep : ℕ) (old now : Regs) (e : Thrown) (s : State) → Matches x now s → SameIn x.frame keep now old → IsThrown fn h below x keep old (ExcVal e) s (away h (record { fn = fn; block = k; place = i; regs = now }) below (world (Some e) s))
-thrown_at p fn k i None below x keep old now e s m same = (m.globals, (e, refl, refl))
+thrown_at p fn k i None below x keep old now e s m same = (e, refl, refl)
 thrown_at p fn k i (Some h) below x keep old now e s m same = (e, refl, record { now = now; is = refl; match = m; kept = same })
 
 pub thrown_now : (p : Program) (fn k i : ℕ) (h : Option ℕ) (below : List Waiting) (x : Setting) (keep : ℕ) (old now : Regs) (e : Thrown) (s : State) → handler_at p fn k ≡ h → Matches x now s → SameIn x.frame keep now old → IsThrown fn h below x keep old (ExcVal e) s (away (handler_at p fn k) (record { fn = fn; block = k; place = i; regs = now }) below (world (Some e) s))
@@ -77,17 +70,17 @@ thrown_now p fn k i h below x keep old now e s is m same =
 -- ---- behind the code of a value
 
 module _ (p : Program) (fn : ℕ) (h : Option ℕ) (below : List Waiting) (x : Setting) (n : ℕ) (calls : CallsWork p x.source n) where
-  pub computes_then : {B : Type 0} (K : Showing) (t : RType) (m : Meaning Value) (b c : Building) (r : ℕ) (regs : Regs) (s : State) (go : Value → Does B) (S : B → State → Config → Type 0) (keep : ℕ) (old : Regs) → Computes x K t m b c r → Placed p fn b c h → HasRoom x b → keep ≤ length b.regs → SameIn x.frame keep regs old → Matches x regs s → s.turns ≤ n → ((now : Regs) (v : Value) (s1 : State) → s1.turns ≤ n → K v (now r) → ((j : ℕ) → j < length b.regs → now j ≡ regs j) → SameLocals x s s1 → Matches x now s1 → Ends p s1.turns (running fn (length c.blocks) (length c.ops) now below (world None s1)) (go v s1) S (IsThrown fn h below x keep old)) → Ends p s.turns (running fn (length b.blocks) (length b.ops) regs below (world None s)) (on_to (m n s) go) S (IsThrown fn h below x keep old)
+  pub computes_then : {B : Type 0} (K : Showing) (t : RType) (m : Meaning Value) (b c : Building) (r : ℕ) (regs : Regs) (s : State) (go : Value → Does B) (S : B → State → Config → Type 0) (keep : ℕ) (old : Regs) → Computes x K t m b c r → Placed p fn b c h → HasRoom x b → keep ≤ length b.regs → SameIn x.frame keep regs old → Matches x regs s → s.turns ≤ n → ((now : Regs) (v : Value) (s1 : State) → s1.turns ≤ n → K v (now r) → ((j : ℕ) → j < length b.regs → now j ≡ regs j) → s1.locals ≡ s.locals → Matches x now s1 → Ends p s1.turns (running fn (length c.blocks) (length c.ops) now below (world None s1)) (go v s1) S (IsThrown fn h below x keep old)) → Ends p s.turns (running fn (length b.blocks) (length b.ops) regs below (world None s)) (on_to (m n s) go) S (IsThrown fn h below x keep old)
   computes_then K t m b c r regs s go S keep old q at room wide same match le next =
       let top = room.top in
-      ends_on p s.turns _ (m n s) (Arrives K fn (length c.blocks) (length c.ops) below (length b.regs) regs x s r) (IsThrown fn h below x (length b.regs) regs) (IsThrown fn h below x keep old) go S (q.runs p fn h at n calls regs below s match le)
+      ends_on p s.turns _ (m n s) (Arrives K fn (length c.blocks) (length c.ops) below (length b.regs) regs s r) (IsThrown fn h below x (length b.regs) regs) (IsThrown fn h below x keep old) go S (q.runs p fn h at n calls regs below s match le)
       (λ v s1 d le1 a. ends_at p s1.turns (running fn (length c.blocks) (length c.ops) a.now below (world None s1)) d (go v s1) S _ a.is (next a.now v s1 (omega arith) a.shows a.kept a.same (match_kept x b regs a.now s s1 room (λ j lt. a.kept j (omega arith)) a.same match)))
       (λ v s1 d t. thrown_from fn h below x keep (length b.regs) old regs v s1 d wide same t)
 
-  pub computes_all_then : {B : Type 0} (ts : List Sort) (m : Meaning (List Value)) (b c : Building) (rs : List Reg) (regs : Regs) (s : State) (go : List Value → Does B) (S : B → State → Config → Type 0) (keep : ℕ) (old : Regs) → ComputesAll x ts m b c rs → Placed p fn b c h → HasRoom x b → keep ≤ length b.regs → SameIn x.frame keep regs old → Matches x regs s → s.turns ≤ n → ((now : Regs) (vs : List Value) (s1 : State) → s1.turns ≤ n → Rattle.ir_builder_frames.specs.Computing.ShowAll ts vs now rs → ((j : ℕ) → j < length b.regs → now j ≡ regs j) → SameLocals x s s1 → Matches x now s1 → Ends p s1.turns (running fn (length c.blocks) (length c.ops) now below (world None s1)) (go vs s1) S (IsThrown fn h below x keep old)) → Ends p s.turns (running fn (length b.blocks) (length b.ops) regs below (world None s)) (on_to (m n s) go) S (IsThrown fn h below x keep old)
+  pub computes_all_then : {B : Type 0} (ts : List Sort) (m : Meaning (List Value)) (b c : Building) (rs : List Reg) (regs : Regs) (s : State) (go : List Value → Does B) (S : B → State → Config → Type 0) (keep : ℕ) (old : Regs) → ComputesAll x ts m b c rs → Placed p fn b c h → HasRoom x b → keep ≤ length b.regs → SameIn x.frame keep regs old → Matches x regs s → s.turns ≤ n → ((now : Regs) (vs : List Value) (s1 : State) → s1.turns ≤ n → ShowAll ts vs now rs → ((j : ℕ) → j < length b.regs → now j ≡ regs j) → s1.locals ≡ s.locals → Matches x now s1 → Ends p s1.turns (running fn (length c.blocks) (length c.ops) now below (world None s1)) (go vs s1) S (IsThrown fn h below x keep old)) → Ends p s.turns (running fn (length b.blocks) (length b.ops) regs below (world None s)) (on_to (m n s) go) S (IsThrown fn h below x keep old)
   computes_all_then ts m b c rs regs s go S keep old q at room wide same match le next =
       let top = room.top in
-      ends_on p s.turns _ (m n s) (ArrivesAll ts fn (length c.blocks) (length c.ops) below (length b.regs) regs x s rs) (IsThrown fn h below x (length b.regs) regs) (IsThrown fn h below x keep old) go S (q.runs p fn h at n calls regs below s match le)
+      ends_on p s.turns _ (m n s) (ArrivesAll ts fn (length c.blocks) (length c.ops) below (length b.regs) regs s rs) (IsThrown fn h below x (length b.regs) regs) (IsThrown fn h below x keep old) go S (q.runs p fn h at n calls regs below s match le)
       (λ v s1 d le1 a. ends_at p s1.turns (running fn (length c.blocks) (length c.ops) a.now below (world None s1)) d (go v s1) S _ a.is (next a.now v s1 (omega arith) a.shows a.kept a.same (match_kept x b regs a.now s s1 room (λ j lt. a.kept j (omega arith)) a.same match)))
       (λ v s1 d t. thrown_from fn h below x keep (length b.regs) old regs v s1 d wide same t)
 
@@ -101,11 +94,11 @@ computes_of x K t m m' b c r same q = record {
 
 -- what is made of registers arrives
 module _ (p : Program) (fn : ℕ) where
-  pub makes_arrives : (K : Showing) (from : Regs → Held → Type 0) (b c : Building) (r : ℕ) (t : RType) (below : List Waiting) (keep : ℕ) (old regs : Regs) (x : Setting) (before s : State) (v : Value) (held : Held) (res : Outcome Value) (E : Value → State → Config → Type 0) → Makes b c r t from → Has p fn c → keep ≤ length b.regs → ((j : ℕ) → j < keep → regs j ≡ old j) → SameLocals x before s → res ≡ Gives v s → from regs held → K v held → Ends p s.turns (running fn (length b.blocks) (length b.ops) regs below (world None s)) res (Arrives K fn (length c.blocks) (length c.ops) below keep old x before r) E
-  makes_arrives K from b c r t below keep old regs x before s v held res E m has wide same loc gives needs shows =
+  pub makes_arrives : (K : Showing) (from : Regs → Held → Type 0) (b c : Building) (r : ℕ) (t : RType) (below : List Waiting) (keep : ℕ) (old regs : Regs) (before s : State) (v : Value) (held : Held) (res : Outcome Value) (E : Value → State → Config → Type 0) → Makes b c r t from → Has p fn c → keep ≤ length b.regs → ((j : ℕ) → j < keep → regs j ≡ old j) → s.locals ≡ before.locals → res ≡ Gives v s → from regs held → K v held → Ends p s.turns (running fn (length b.blocks) (length b.ops) regs below (world None s)) res (Arrives K fn (length c.blocks) (length c.ops) below keep old before r) E
+  makes_arrives K from b c r t below keep old regs before s v held res E m has wide same loc gives needs shows =
       let d = m.runs p fn has regs below s held needs in
       ends_of p s.turns _ res (Gives v s) _ E gives
-      (ends_lead p v s _ _ (Arrives K fn (length c.blocks) (length c.ops) below keep old x before r) E d.1
+      (ends_lead p v s _ _ (Arrives K fn (length c.blocks) (length c.ops) below keep old before r) E d.1
       record { now = d.0; is = refl; shows = subst (K v) (sym d.2) shows; kept = λ j lt. d.3 j (omega arith) ∙ same j lt; same = loc })
 
 -- code that makes a value, where nothing comes before it
@@ -115,5 +108,5 @@ made_computes x L u m from b c r made gives = record {
   type = made.type;
   runs = λ p fn h at n calls regs below s match le.
       let g = gives n s regs in
-      makes_arrives p fn L from b c r u below (length b.regs) regs regs x s s g.0 g.1 (m n s) _ made at.has (le_refl _) (λ j lt. refl) (same_refl x regs s match) g.2 g.3 g.4;
+      makes_arrives p fn L from b c r u below (length b.regs) regs regs s s g.0 g.1 (m n s) _ made at.has (le_refl _) (λ j lt. refl) refl g.2 g.3 g.4;
 }

@@ -32,9 +32,9 @@ module _ (p : Program) where
     pub count : ℕ
     pub is : steps Strict p count c ≡ d
 
-  -- from a configuration the machine comes to one that suits the result, or the exception, or the run ends as the source does.
-  -- No more turns are left than at first
+  -- from a configuration the machine comes to one that suits the result, or the exception, or the run ends as the source does, where
+  -- that is not stuck. No more turns are left than at first
   abbrev pub Ends : {A : Type 0} → ℕ → Config → Outcome A → (A → State → Config → Type 0) → (Value → State → Config → Type 0) → Type 0
   Ends t c (Gives a s) R E = (s.turns ≤ t) × (d : Config) × Leads c d × R a s d
   Ends t c (Raises v s) R E = (s.turns ≤ t) × (d : Config) × Leads c d × E v s d
-  Ends t c (Stops w s) R E = (e : Ending) × (ending_by w ≡ Some e) × Leads c (Ended e (world None s))
+  Ends t c (Stops w s) R E = (e : Ending) → ending_by w ≡ Some e → Leads c (Ended e (world None s))

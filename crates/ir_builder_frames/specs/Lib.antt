@@ -1,4 +1,5 @@
 pub mod Settings
+pub mod Watching
 pub mod Placing
 pub mod Calling
 pub mod Coming

@@ -8,7 +8,6 @@ use Rattle.py_typed.specs.Sorts as sort
 use Rattle.py_typed.specs.Sorts.{Sort}
 use Rattle.py_typed.specs.Statements.{Variable, TypedFunc, TypedModule}
 use Rattle.source_meaning.specs.State.{State}
-use Rattle.source_meaning.specs.SourceRun.{call_of}
 use Rattle.ir_core.specs.declared.code.Func.{Func}
 use Rattle.ir_core.specs.declared.code.Program.{Program}
 use Rattle.ir_core.specs.declared.code.RType.{RType}
@@ -20,17 +19,18 @@ use Rattle.ir_core.specs.Meaning.{Waiting, Config}
 use Rattle.ir_builder_frames.specs.declared.frame.Frame.{Frame}
 use Rattle.ir_builder_frames.specs.declared.frame.Vars.{Vars}
 use Rattle.ir_builder_frames.specs.Settings.{Setting, rtype_of, variable_registers}
+use Rattle.ir_builder_frames.specs.Watching.{calls_in}
 use Rattle.ir_builder_frames.specs.Placing.{HasType}
 use Rattle.ir_builder_frames.specs.Coming.{world, running, Escapes, returning, Ends}
 
--- a value is one of a type that is built
+-- what the shape of a type says of a value, whatever objects there are: it is a number of the type, a text, a bool or None
 abbrev pub HasKind : Sort → Value → Type 0
 HasKind sort.I64 v = (n : ℤ) × (v ≡ IntVal n) × (lies_within 63 n ≡ true)
-HasKind sort.Int v = (n : ℤ) × (v ≡ IntVal n) × (lies_within 127 n ≡ true)
+HasKind sort.Int v = (n : ℤ) × (v ≡ IntVal n)
 HasKind sort.Str v = (text : List ℕ) × (v ≡ StrVal text)
 HasKind sort.Bool v = (b : Bool) × (v ≡ BoolVal b)
 HasKind sort.Nothing v = v ≡ NoneVal
-HasKind _ v = ⊥
+HasKind _ v = Unit {0}
 
 abbrev pub HaveKinds : List Sort → List Value → Type 0
 HaveKinds [] [] = Unit {0}
@@ -40,15 +40,6 @@ HaveKinds (t ∷ ts) (v ∷ vs) = HasKind t v × HaveKinds ts vs
 
 -- ---- variables of the module
 
--- nothing, or a value of a type
-abbrev pub MayHold : Sort → Option Value → Type 0
-MayHold t None = Unit {0}
-MayHold t (Some v) = HasKind t v
-
--- each variable is unset or holds a value of its type
-pub record HaveTypes (vs : List Variable) (held : List (Option Value)) : Type 0 where
-  pub each : (j : ℕ) (v : Variable) → slice_get vs j ≡ Some v → (o : Option Value) × (slice_get held j ≡ Some o) × MayHold v.1 o
-
 -- the globals of a program are the variables of a module, whose names differ
 pub record HasGlobals (p : Program) (m : TypedModule) : Type 0 where
   pub are : p.globals ≡ variable_registers m.globals
@@ -57,9 +48,9 @@ pub record HasGlobals (p : Program) (m : TypedModule) : Type 0 where
 -- ---- variables of a function
 
 -- what a variable's register and its flag hold: a variable is unset where the flag is, and its register may then hold anything
-abbrev pub Keeps : Sort → Held → Held → Option Value → Type 0
-Keeps t h flag None = flag ≡ Unset
-Keeps t h flag (Some v) = (h ≡ Holds v) × (flag ≡ Holds (BoolVal true)) × HasKind t v
+abbrev pub Keeps : Held → Held → Option Value → Type 0
+Keeps h flag None = flag ≡ Unset
+Keeps h flag (Some v) = (h ≡ Holds v) × (flag ≡ Holds (BoolVal true))
 
 -- the register of a variable's flag; those of the variables that are no parameters stand behind the variables' own registers
 abbrev pub flag_of : Vars → ℕ → ℕ
@@ -69,15 +60,9 @@ flag_of f j = f.count + (j - f.params)
 abbrev pub flag_in : Vars → Regs → ℕ → Held
 flag_in f regs j = if nat_lt j f.params then Holds (BoolVal true) else regs (flag_of f j)
 
--- the first registers hold the function's variables, and others their flags; and the module's variables have their types
+-- the first registers hold the function's variables, and others their flags
 pub record Matches (x : Setting) (regs : Regs) (s : State) : Type 0 where
-  pub each : (j : ℕ) (v : Variable) → slice_get x.variables j ≡ Some v → (o : Option Value) × (slice_get s.locals j ≡ Some o) × Keeps v.1 (regs j) (flag_in x.frame.locals regs j) o
-  pub globals : HaveTypes x.source.globals s.globals
-
--- a state has the same variables of the function as one before, and the module's variables have their types
-pub record SameLocals (x : Setting) (before s : State) : Type 0 where
-  pub locals : s.locals ≡ before.locals
-  pub globals : HaveTypes x.source.globals s.globals
+  pub each : (j : ℕ) (v : Variable) → slice_get x.variables j ≡ Some v → (o : Option Value) × (slice_get s.locals j ≡ Some o) × Keeps (regs j) (flag_in x.frame.locals regs j) o
 
 -- the register for a returned value, where a statement around waits for it, is no variable's and no flag
 abbrev pub BackBelow : Option Reg → ℕ → ℕ → Type 0
@@ -111,13 +96,9 @@ pub record Stands (fn k i : ℕ) (below : List Waiting) (e : Option Thrown) (x :
   pub match : Matches x now s
   pub kept : SameIn x.frame keep now regs
 
--- a function left with an exception, and the module's variables have their types
-abbrev pub Departs : TypedModule → ℕ → List Waiting → Value → State → Config → Type 0
-Departs m fn below v s d = HaveTypes m.globals s.globals × Escapes fn below v s d
-
 -- after an exception: at the handler, with the exception pending, or out of the function
 abbrev pub IsThrown : ℕ → Option ℕ → List Waiting → Setting → ℕ → Regs → Value → State → Config → Type 0
-IsThrown fn None below x keep regs v s d = Departs x.source fn below v s d
+IsThrown fn None below x keep regs v s d = Escapes fn below v s d
 IsThrown fn (Some h) below x keep regs v s d = (e : Thrown) × (v ≡ ExcVal e) × Stands fn h 0 below (Some e) x keep regs s d
 
 -- ---- calls
@@ -137,16 +118,16 @@ pub record HasHead (h : Func) (f : TypedFunc) : Type 0 where
   pub regs : BeginWith h.regs (parameter_sorts f)
   pub ret : h.ret ≡ rtype_of f.ret
 
--- a call that was left: with a value, or with an exception
-abbrev pub CallGives : Program → TypedModule → TypedFunc → List Waiting → State → Value → State → Config → Type 0
-CallGives p m f below s v u d = HasKind f.ret v × (u.locals ≡ s.locals) × HaveTypes m.globals u.globals × (d ≡ returning p v below (world None u))
+-- a call that was left: with the value that it gives, where that has the shape of the result's type, or with an exception
+abbrev pub CallGives : Program → Sort → List Waiting → State → Value → State → Config → Type 0
+CallGives p t below s v u d = (w : Value) × (HasKind t v → w ≡ v) × (u.locals ≡ s.locals) × (d ≡ returning p w below (world None u))
 
-abbrev pub CallRaises : TypedModule → ℕ → List Waiting → State → Value → State → Config → Type 0
-CallRaises m g below s v u d = (u.locals ≡ s.locals) × Departs m g below v u d
+abbrev pub CallRaises : ℕ → List Waiting → State → Value → State → Config → Type 0
+CallRaises g below s v u d = (u.locals ≡ s.locals) × Escapes g below v u d
 
 -- the globals are the module's variables, each function has its code, and a call with at most n turns left does in the machine what
--- it does in the source, where the module's variables have their types
+-- it does in the source
 pub record CallsWork (p : Program) (m : TypedModule) (n : ℕ) : Type 0 where
   pub variables : HasGlobals p m
   pub there : (g : ℕ) (f : TypedFunc) → slice_get m.funcs g ≡ Some f → (h : Func) × (slice_get p.funcs g ≡ Some h) × HasHead h f
-  pub each : (g : ℕ) (f : TypedFunc) (h : Func) (args : List Value) (below : List Waiting) (s : State) → slice_get m.funcs g ≡ Some f → slice_get p.funcs g ≡ Some h → HaveKinds (parameter_sorts f) args → HaveTypes m.globals s.globals → s.turns ≤ n → Ends p s.turns (running g 0 0 (first_regs h.regs (map Holds args)) below (world None s)) (call_of m n g args s) (CallGives p m f below s) (CallRaises m g below s)
+  pub each : (g : ℕ) (f : TypedFunc) (h : Func) (args : List Value) (below : List Waiting) (s : State) → slice_get m.funcs g ≡ Some f → slice_get p.funcs g ≡ Some h → s.turns ≤ n → Ends p s.turns (running g 0 0 (first_regs h.regs (map Holds args)) below (world None s)) (calls_in m n g args s) (CallGives p f.ret below s) (CallRaises g below s)

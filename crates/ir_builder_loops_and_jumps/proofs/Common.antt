@@ -1,5 +1,5 @@
 -- The names that most proofs of this crate cite, passed on from one place. Declares nothing.
-pub use Rattle.ir_builder_frames.proofs.ComingLemmas.{ends_at, ends_from, ends_map, ends_now, ends_of, ends_on, leads_refl, leads_step, leads_trans, on_assoc}
+pub use Rattle.ir_builder_frames.proofs.ComingLemmas.{ends_at, ends_from, ends_map, ends_now, ends_of, ends_on, leads_refl, leads_step, leads_trans}
 pub use Rattle.ir_builder_frames.proofs.HeldLemmas.{extends_refl, extends_trans, get_below, has_less, on_ok_map, placed_part, pushes_has, type_below, type_has, type_kept, within_part}
 pub use Rattle.ir_builder_frames.proofs.MatchLemmas.{computes_then, either_flag, keeps_as, match_kept, not_below, room_on, stands_from, thrown_from}
 pub use Rattle.ir_builder_frames.proofs.PatchLemmas.{open_below, patches, with_last_length}

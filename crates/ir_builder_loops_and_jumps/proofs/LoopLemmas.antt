@@ -1,6 +1,8 @@
 -- A loop does in its code what it means.
 use Rattle.ir_builder_loops_and_jumps.proofs.Common.{◌≡◌, ℕ, zero, suc, ◌+◌, ◌<◌, ◌≤◌, List, length, Option, Some, None, Bool, refl, sym, ap, ◌∙◌, subst, arith, le_refl, Value, Sort, State, Gives, Does, on_to, spend, spend_from, Flow, Goes, Breaks, Continues, Returns, after_body, loop, Goto, If, Turn, Reg, Program, Building, held, Do, End, Regs, Config, Waiting, Strict, item_at, op_step, turn_step, Setting, Placed, Closes, Patches, world, running, Leads, Ends, Matches, SameIn, IsThrown, CallsWork, Meaning, Way, Break, Continue, Return, Exit, LoopStart, planned, left, by, JumpTo, Brings, Back, Flows, Always, Asks, WorksAt, Steps, Splits, looping_to, EndsLoop, leads_refl, leads_trans, leads_step, ends_from, ends_on, ends_now, extends_refl, extends_trans, has_less, pushes_has, within_part, stands_from, thrown_from, patches}
 use Rattle.value_core.specs.Ending as ending
+use Rattle.source_meaning.specs.State as source
+use Rattle.ir_builder_frames.proofs.ComingLemmas.{ends_so}
 use Rattle.ir_builder_loops_and_jumps.proofs.ExitLemmas.{close_at, within_patch, Stays, stays_by, stays_trans, stays_patch_below, jump_back, open_on, uses_left, jumps_of, within_jumps}
 use Rattle.ir_builder_loops_and_jumps.proofs.FlowLemmas.{goes_to, flows_from}
 use Rattle.ir_builder_loops_and_jumps.proofs.SplitLemmas.{SplitAt, split_at, split_ends}
@@ -33,12 +35,12 @@ module _ {X : Type 0} (p : Program) (result : Option Sort) (fn : ℕ) (below : L
 
   turn_next : (k : ℕ) (i : X) → Loops k → (t : ℕ) (s : State) (regs : Regs) → At i regs → Matches x regs s → SameIn x.frame keep regs old → t ≤ k → t ≤ n → Ends p t (running fn (length b6.blocks) (length b6.ops) regs below (world None (with_turns s t))) (on_to (spend_from t (with_turns s t)) (λ u. repeats k i)) R T
   turn_next k i again zero s regs held match same lt fits =
-      (ending.Cut, refl, leads_step p _ _ (op_step Strict p (record { fn = fn; block = length b6.blocks; place = length b6.ops; regs = regs }) below (world None (with_turns s 0)) Turn at.turn))
+      ends_so p 0 _ source.Cut ending.Cut (with_turns s 0) R T refl (leads_step p _ _ (op_step Strict p (record { fn = fn; block = length b6.blocks; place = length b6.ops; regs = regs }) below (world None (with_turns s 0)) Turn at.turn))
   turn_next k i again (suc t) s regs held match same lt fits =
       let u : State = with_turns s t in
       let spent : Leads p (running fn (length b6.blocks) (length b6.ops) regs below (world None (with_turns s (suc t)))) (running fn (length b6.blocks) (length b6.ops + 1) regs below (world None u)) = leads_step p _ _ (turn_step Strict p (record { fn = fn; block = length b6.blocks; place = length b6.ops; regs = regs }) below (world None (with_turns s (suc t))) t at.turn refl refl) in
       let back = goes_to p fn below (length b6.blocks) (length b6.ops + 1) (length b1.blocks) regs (world None u) at.back in
-      ends_from p t (suc t) _ (running fn (length b1.blocks) 0 regs below (world None u)) (repeats k i u) R T (omega arith) (leads_trans p _ _ _ spent back) (again i regs u held record { each = match.each; globals = match.globals } same (omega arith) (omega arith))
+      ends_from p t (suc t) _ (running fn (length b1.blocks) 0 regs below (world None u)) (repeats k i u) R T (omega arith) (leads_trans p _ _ _ spent back) (again i regs u held record { each = match.each } same (omega arith) (omega arith))
 
   -- from the place behind the body
   next_at : (k : ℕ) (i : X) → Loops k → (s : State) (d : Config) (regs : Regs) → d ≡ running fn (length b5.blocks) 0 regs below (world None s) → Inside i regs → Matches x regs s → SameIn x.frame keep regs old → s.turns ≤ k → s.turns ≤ n → Ends p s.turns d (on_to (spend s) (λ u. repeats k (next i))) R T

@@ -1,5 +1,5 @@
 -- The code of `print` writes what it is to.
-use Rattle.ir_builder_loops_and_jumps.proofs.Common.{◌≡◌, ℕ, zero, suc, ◌+◌, ◌<◌, ◌≤◌, true, false, List, [], ◌∷◌, ◌++◌, length, map, get_or, take, Option, Some, None, refl, sym, ap, ◌∙◌, subst, arith, append_assoc, append-nil, le_refl, add-one, ◌≢◌, Bool, ◌&&◌, take_all, Value, StrVal, TExpr, Sort, typed_expr, type_of, State, Outcome, Gives, Does, on_to, give, needs, write, text_of, line_of, has_text, Flow, Goes, Op, Reg, Ref, Program, Building, held, Extends, Do, Holds, Regs, Declared, type_of_reg, World, Waiting, Strict, do_op, registers_of, op_step, Setting, rtype_of, HasType, Has, Pushes, world, running, Leads, Ends, HasKind, Matches, HasRoom, IsThrown, Shows, Meaning, Makes, Attempts, ShowAll, HaveTypes, ArrivesAll, ComputesAll, Keeps, leads_trans, leads_step, leads_refl, ends_from, ends_on, ends_now, ends_at, on_assoc, extends_refl, extends_trans, has_less, type_has, type_below, placed_part, room_on, match_kept, Flows, Works}
+use Rattle.ir_builder_loops_and_jumps.proofs.Common.{◌≡◌, ℕ, zero, suc, ◌+◌, ◌<◌, ◌≤◌, true, false, List, [], ◌∷◌, ◌++◌, length, map, get_or, take, Option, Some, None, refl, sym, ap, ◌∙◌, subst, arith, append_assoc, append-nil, le_refl, add-one, ◌≢◌, Bool, ◌&&◌, take_all, Value, StrVal, TExpr, Sort, typed_expr, type_of, State, Gives, Does, on_to, give, needs, write, text_of, line_of, has_text, Goes, Op, Reg, Ref, Program, Building, held, Extends, Do, Holds, Regs, Declared, type_of_reg, World, Waiting, Strict, do_op, registers_of, op_step, Setting, rtype_of, HasType, Has, Pushes, world, running, Leads, Ends, Matches, HasRoom, IsThrown, Shows, Meaning, Makes, Attempts, ShowAll, HaveTypes, ArrivesAll, ComputesAll, Keeps, leads_trans, leads_step, leads_refl, ends_on, ends_now, ends_at, extends_refl, extends_trans, has_less, type_has, type_below, placed_part, room_on, match_kept, Flows, Works, Config, Stands}
 use Rattle.std.specs.List.{list_all}
 use Rattle.value_core.specs.Items.{line_feed}
 use Rattle.py_typed.specs.Sorts as sort
@@ -7,8 +7,12 @@ use Rattle.py_typed.specs.Sorts.{sort as sort_of}
 use Rattle.py_typed.proofs.ExpressionLemmas.{type_at}
 use Rattle.ir_builder_frames.specs.Kinds.{KeepsKinds}
 use Rattle.ir_builder_operations.specs.Operating.{is_written, ActsOn}
-use Rattle.ir_builder_loops_and_jumps.specs.Printing.{written, writes_of, item_text, row_text, first_texts, Prints, WritesText, WritesOne, Writes}
+use Rattle.ir_builder_loops_and_jumps.specs.Printing.{written, writes_of, item_text, row_text, first_texts, Prints, WritesText, WritesOne, Writes, printed}
 use Rattle.ir_builder_operations.proofs.PartLemmas.{show_kept}
+use Rattle.ir_builder_frames.proofs.ComingLemmas.{ends_lead, ends_needed}
+use Rattle.value_core.specs.Value.{NoneVal}
+use Rattle.ir_builder_frames.proofs.WatchLemmas.{ends_watched}
+use Rattle.ir_builder_frames.specs.Watching.{watch}
 
 -- ---- the operation that writes
 
@@ -62,11 +66,11 @@ prints_then p fn b c d regs below s first second x q k =
     let P : State → Type 0 = λ z. Leads p (running fn (length b.blocks) (length b.ops) regs below (world None s)) (running fn (length d.blocks) (length d.ops) k.0 below (world None z)) in
     (k.0, subst P (written_twice s first second) (leads_trans p _ _ _ q.1 k.1), λ j lt. k.2 j (omega arith) ∙ q.2 j lt)
 
--- registers for variables and flags are as before, and so are the variables of the module
+-- registers for variables and flags are as before
 match_written : (x : Setting) (b : Building) (regs now : Regs) (s : State) (text : List ℕ) → HasRoom x b → ((j : ℕ) → j < length b.regs → now j ≡ regs j) → Matches x regs s → Matches x now (written s text)
 match_written x b regs now s text room kept m =
     let top = room.top in
-    match_kept x b regs now s (written s text) room (λ j lt. kept j (omega arith)) record { locals = refl; globals = m.globals } m
+    match_kept x b regs now s (written s text) room (λ j lt. kept j (omega arith)) refl m
 
 -- ---- a value in a row
 
@@ -234,26 +238,8 @@ line_written es rs i b c d past w q = record {
 
 -- ---- the whole
 
-text_there : (t : Sort) (v : Value) → is_written t ≡ true → HasKind t v → has_text v ≡ true
-text_there sort.Int v h k = ap has_text k.1
-text_there sort.I64 v h k = ap has_text k.1
-text_there sort.Bool v h k = ap has_text k.1
-text_there sort.Str v h k = ap has_text k.1
-text_there _ v h k = absurd (cc)
-
-has_texts : (ts : List Sort) (vs : List Value) (regs : Regs) (rs : List Reg) → list_all is_written ts ≡ true → ShowAll ts vs regs rs → list_all has_text vs ≡ true
-has_texts [] [] regs [] w h = refl
-has_texts [] (v ∷ vs) regs rs w h = absurd h
-has_texts [] [] regs (q ∷ rs) w h = absurd h
-has_texts (t ∷ ts) [] regs rs w h = absurd h
-has_texts (t ∷ ts) (v ∷ vs) regs [] w h = absurd h
-has_texts (t ∷ ts) (v ∷ vs) regs (q ∷ rs) w h =
-    let one = text_there t v (first_holds (is_written t) (list_all is_written ts) w) h.0.1 in
-    let more = has_texts ts vs regs rs (second_holds (is_written t) (list_all is_written ts) w) h.1 in
-    rw (one, more) refl
-
-pub print_works : (x : Setting) (result : Option Sort) (ts : List Sort) (m : Meaning (List Value)) (b0 b1 b2 : Building) (rs : List Reg) → HasRoom x b0 → list_all is_written ts ≡ true → ComputesAll x ts m b0 b1 rs → Writes ts rs b1 b2 line_of → Works x result (λ n s. on_to (on_to (m n s) (λ vs. needs (list_all has_text vs) (write (line_of vs)))) (λ v. Gives Goes)) b0 b2 []
-print_works x result ts m b0 b1 b2 rs room texts c w = record {
+pub print_works : (x : Setting) (result : Option Sort) (t : Sort) (ts : List Sort) (m : Meaning (List Value)) (b0 b1 b2 : Building) (rs : List Reg) → HasRoom x b0 → ComputesAll x ts m b0 b1 rs → Writes ts rs b1 b2 line_of → Works x result (printed x.source t m) b0 b2 []
+print_works x result t ts m b0 b1 b2 rs room c w = record {
   extends = extends_trans b0 b1 b2 c.extends w.extends;
   opens = tt;
   runs = λ p fn h to at jumps n calls regs below s match le.
@@ -262,19 +248,24 @@ print_works x result ts m b0 b1 b2 rs room texts c w = record {
       let r1 = c.extends.regs_grow in
       let at1 = placed_part p fn b0 b0 b1 b2 h (le_refl _) w.extends at in
       let at2 = placed_part p fn b0 b1 b2 b2 h k1 (extends_refl b2) at in
-      let R1 = ArrivesAll ts fn (length b1.blocks) (length b1.ops) below (length b0.regs) regs x s rs in
+      let room1 = room_on x b0 b1 c.extends room in
       let R = Flows p result fn (length b2.blocks) (length b2.ops) to [] below x (length b0.regs) regs in
+      let S : Value → State → Config → Type 0 = λ v. Stands fn (length b2.blocks) (length b2.ops) below None x (length b0.regs) regs in
       let T = IsThrown fn h below x (length b0.regs) regs in
-      let go : List Value → Does Flow = λ vs u. on_to (needs (list_all has_text vs) (write (line_of vs)) u) (λ v. Gives Goes) in
-      rw on_assoc (ends_on p s.turns _ (m n s) R1 T T go R (c.runs p fn h at1 n calls regs below s match le)
+      let start : Config = running fn (length b0.blocks) (length b0.ops) regs below (world None s) in
+      let go : List Value → Does Value = λ vs. needs (list_all has_text vs) (write (line_of vs)) in
+      let all : Ends p s.turns start (on_to (m n s) go) S T = ends_on p s.turns start (m n s) (ArrivesAll ts fn (length b1.blocks) (length b1.ops) below (length b0.regs) regs s rs) T T go S (c.runs p fn h at1 n calls regs below s match le)
       (λ vs s1 d1 le1 a.
       let match1 = match_kept x b0 regs a.now s s1 room (λ j lt. a.kept j (omega arith)) a.same match in
-      let done = w.runs p fn h at2 x (room_on x b0 b1 c.extends room) a.now below s1 match1 vs a.shows in
-      let s2 : State = written s1 (line_of vs) in
-      let match2 = match_written x b1 a.now done.0 s1 (line_of vs) (room_on x b0 b1 c.extends room) done.2 match1 in
-      let is : go vs s1 ≡ Gives Goes s2 = ap (λ t. on_to (needs t (write (line_of vs)) s1) (λ v. Gives Goes)) (has_texts ts vs a.now rs texts a.shows) in
-      let ends : Ends p s1.turns (running fn (length b1.blocks) (length b1.ops) a.now below (world None s1)) (Gives Goes s2) R T = ends_from p s1.turns s1.turns _ _ (Gives Goes s2) R T (le_refl _) done.1 (ends_now p Goes s2 _ R T record { now = done.0; is = refl; match = match2; kept = λ j z lt o. done.2 j (omega arith) ∙ a.kept j lt }) in
-      let P : Outcome Flow → Type 0 = λ z. Ends p s1.turns (running fn (length b1.blocks) (length b1.ops) a.now below (world None s1)) z R T in
-      ends_at p s1.turns _ d1 (go vs s1) R T a.is (subst P (sym is) ends))
-      (λ v s1 d1 z. z));
+      let done = w.runs p fn h at2 x room1 a.now below s1 match1 vs a.shows in
+      let match2 = match_written x b1 a.now done.0 s1 (line_of vs) room1 done.2 match1 in
+      let behind : Config = running fn (length b1.blocks) (length b1.ops) a.now below (world None s1) in
+      ends_at p s1.turns behind d1 (go vs s1) S T a.is
+      (ends_needed p s1.turns behind (list_all has_text vs) (write (line_of vs)) s1 S T (λ e.
+      ends_lead p NoneVal (written s1 (line_of vs)) _ _ S T done.1 record { now = done.0; is = refl; match = match2; kept = λ j z lt o. done.2 j (omega arith) ∙ a.kept j lt })))
+      (λ v s1 d1 z. z) in
+      ends_on p s.turns start (on_to (on_to (m n s) go) (watch x.source t)) S T T (λ v. give Goes) R
+      (ends_watched p x.source t s.turns start (on_to (m n s) go) S S T (λ v u d kind z. z) all)
+      (λ v u d le1 z. ends_now p Goes u d R T z)
+      (λ v u d z. z);
 }

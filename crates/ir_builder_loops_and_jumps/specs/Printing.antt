@@ -16,7 +16,9 @@ use Rattle.ir_core.specs.declared.code.Program.{Program}
 use Rattle.ir_core.specs.Building.{Building, Extends}
 use Rattle.ir_core.specs.Registers.{Regs}
 use Rattle.ir_core.specs.Meaning.{Waiting}
+use Rattle.py_typed.specs.Statements.{TypedModule}
 use Rattle.ir_builder_frames.specs.Settings.{Setting}
+use Rattle.ir_builder_frames.specs.Watching.{watch}
 use Rattle.ir_builder_frames.specs.Placing.{Placed}
 use Rattle.ir_builder_frames.specs.Coming.{world, running, Leads}
 use Rattle.ir_builder_frames.specs.Matching.{Matches, HasRoom}
@@ -63,6 +65,6 @@ pub record Writes (ts : List Sort) (rs : List Reg) (old new : Building) (text : 
 abbrev pub first_texts : ℕ → List Value → List ℕ
 first_texts i vs = row_text 0 (take i vs)
 
--- what `print` does with values
-abbrev pub printed : Meaning (List Value) → Meaning Flow
-printed m n = m n >>= (λ vs. needs (list_all has_text vs) (write (line_of vs))) >> give Goes
+-- what `print` does with values, where what it gives is looked at as one of a type
+abbrev pub printed : TypedModule → Sort → Meaning (List Value) → Meaning Flow
+printed m t vs n = vs n >>= (λ vs. needs (list_all has_text vs) (write (line_of vs))) >>= watch m t >> give Goes

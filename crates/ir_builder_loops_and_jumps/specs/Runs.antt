@@ -15,7 +15,7 @@ use Rattle.ir_builder_frames.specs.Settings.{Setting}
 use Rattle.ir_builder_frames.specs.Placing.{Placed}
 use Rattle.ir_builder_frames.specs.Calling.{Open}
 use Rattle.ir_builder_frames.specs.Coming.{world, returning}
-use Rattle.ir_builder_frames.specs.Matching.{HasKind, HaveTypes, Stands}
+use Rattle.ir_builder_frames.specs.Matching.{Stands}
 use Rattle.ir_builder_frames.specs.Computing.{Meaning, DoesFrom}
 use Rattle.ir_builder_loops_and_jumps.specs.declared.ways.Way.{Way}
 use Rattle.ir_builder_loops_and_jumps.specs.declared.ways.Way.TheVariants.{Break, Continue, Return, Join}
@@ -47,10 +47,10 @@ all_jumping plan (e ∷ es) b = all_jumping plan es (jumping (plan e.way) e.bloc
 
 -- ---- what comes of a statement
 
--- a value is one of a function's result; a module's own statements have none
-abbrev pub HasResult : Option Sort → Value → Type 0
-HasResult None v = ⊥
-HasResult (Some t) v = HasKind t v
+-- a value may be given; a module's own statements give none
+abbrev pub GivesOne : Option Sort → Type 0
+GivesOne None = ⊥
+GivesOne (Some t) = Unit {0}
 
 -- a returned value leaves the function, or goes with its value to the statement that waits for it
 pub record Brings (fn k : ℕ) (below : List Waiting) (x : Setting) (r keep : ℕ) (regs : Regs) (v : Value) (s : State) (d : Config) : Type 0 where
@@ -59,7 +59,7 @@ pub record Brings (fn k : ℕ) (below : List Waiting) (x : Setting) (r keep : �
 
 module _ (p : Program) (result : Option Sort) where
   abbrev pub Back : Option Reg → ℕ → (Way → ℕ) → List Exit → List Waiting → Setting → ℕ → Regs → Value → State → Config → Type 0
-  Back None fn to exits below x keep regs v s d = HaveTypes x.source.globals s.globals × (d ≡ returning p v below (world None s))
+  Back None fn to exits below x keep regs v s d = d ≡ returning p v below (world None s)
   Back (Some r) fn to exits below x keep regs v s d = (uses Return exits ≡ true) × Brings fn (to Return) below x r.0 keep regs v s d
 
   -- after a statement: at the next place, or at the place of the way that it takes, which is then one of its exits
@@ -69,7 +69,7 @@ module _ (p : Program) (result : Option Sort) where
   Flows fn k i to exits below x keep regs Continues s d =
       (uses Continue exits ≡ true) × Stands fn (to Continue) 0 below None x keep regs s d
   Flows fn k i to exits below x keep regs (Returns v) s d =
-      HasResult result v × Back x.frame.ret fn to exits below x keep regs v s d
+      GivesOne result × Back x.frame.ret fn to exits below x keep regs v s d
 
 -- the code from the first builder's place to the second's does what the meaning says; the exits are left open
 pub record Works (x : Setting) (result : Option Sort) (m : Meaning Flow) (old new : Building) (exits : List Exit) : Type 0 where

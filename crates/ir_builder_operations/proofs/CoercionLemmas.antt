@@ -1,5 +1,5 @@
 -- What primitives make of a number or a bool of one type is what the source makes of it at the other type.
-use Rattle.ir_builder_operations.proofs.Common.{◌≡◌, refl, sym, ap, subst, ℕ, Bool, true, false, cond, [], ◌∷◌, Some, None, Result, Ok, Err, ℤ, pos, if◌then◌else◌, Arith, Overflow, OutOfRange, lies_within, int_to_i64, Value, IntVal, BoolVal, int64_exception, Sort, State, Gives, fitting, coerced, wider, Reg, World, Given, truth_number, fitted, Declared, type_of_reg, Building, rtype_of, HasType, HasKind, Shows, HaveTypes, Attempts, ActsOnAll, Answer, Answers, Throws, effect_of, outcome_of, ShownIfGiven, Performs, performs, Operation, BoolToInt, BoolToNative, NativeToInt, IntToNative, is_whole, ActsOn, is_known, operands_of, result_of, goes, coercion}
+use Rattle.ir_builder_operations.proofs.Common.{◌≡◌, refl, sym, ap, subst, ℕ, Bool, true, false, cond, [], ◌∷◌, Some, None, Result, Ok, Err, ℤ, pos, if◌then◌else◌, Arith, Overflow, OutOfRange, lies_within, int_to_i64, Value, IntVal, BoolVal, int64_exception, Sort, State, Gives, fitting, coerced, Reg, World, Given, truth_number, fitted, Declared, type_of_reg, Building, rtype_of, HasType, HasKind, Shows, HaveTypes, Attempts, ActsOnAll, Answer, Answers, Throws, effect_of, outcome_of, ShownIfGiven, Performs, performs, Operation, BoolToInt, BoolToNative, NativeToInt, IntToNative, is_whole, ActsOn, is_known, operands_of, result_of, goes, coercion}
 use Rattle.c_core.specs.declared.primitive.Primitive.TheVariants as prim
 use Rattle.c_core.specs.declared.primitive.Int64Prim.TheVariants as int64
 use Rattle.c_core.specs.declared.primitive.TaggedPrim.TheVariants as tagged
@@ -11,10 +11,6 @@ use Rattle.ir_builder_operations.proofs.NativeLemmas.{native_kept}
 
 -- ---- each coercion
 
-truth_kind : (b : Bool) → HasKind sort.Int (IntVal (truth_number b))
-truth_kind true = (pos 1, refl, refl)
-truth_kind false = (pos 0, refl, refl)
-
 truth_native : (b : Bool) → HasKind sort.I64 (IntVal (truth_number b))
 truth_native true = (pos 1, refl, refl)
 truth_native false = (pos 0, refl, refl)
@@ -24,13 +20,13 @@ truth_is true = refl
 truth_is false = refl
 
 pub int_of_bool : (b : Bool) → Performs (Shows sort.Int) (prim.Tagged tagged.FromBool) (Given (BoolVal b) ∷ []) (coerced sort.Int (BoolVal b))
-int_of_bool b = performs (Shows sort.Int) (prim.Tagged tagged.FromBool) (Given (BoolVal b) ∷ []) _ (Answers (IntVal (truth_number b))) tt (λ p w. refl) (refl, truth_kind b) (λ s. ap (λ n. Gives (IntVal n) s) (truth_is b))
+int_of_bool b = performs (Shows sort.Int) (prim.Tagged tagged.FromBool) (Given (BoolVal b) ∷ []) _ (Answers (IntVal (truth_number b))) tt (λ p w. refl) (refl, (truth_number b, refl)) (λ s. ap (λ n. Gives (IntVal n) s) (truth_is b))
 
 pub native_of_bool : (b : Bool) → Performs (Shows sort.I64) (prim.Int64 int64.FromBool) (Given (BoolVal b) ∷ []) (coerced sort.I64 (BoolVal b))
 native_of_bool b = performs (Shows sort.I64) (prim.Int64 int64.FromBool) (Given (BoolVal b) ∷ []) _ (Answers (IntVal (truth_number b))) tt (λ p w. refl) (refl, truth_native b) (λ s. ap (λ n. Gives (IntVal n) s) (truth_is b))
 
-pub int_of_native : (n : ℤ) → lies_within 63 n ≡ true → Performs (Shows sort.Int) (prim.Tagged tagged.FromInt64) (Given (IntVal n) ∷ []) (coerced sort.Int (IntVal n))
-int_of_native n e = performs (Shows sort.Int) (prim.Tagged tagged.FromInt64) (Given (IntVal n) ∷ []) _ (Answers (IntVal n)) tt (λ p w. refl) (refl, (n, refl, wider n e)) (λ s. refl)
+pub int_of_native : (n : ℤ) → Performs (Shows sort.Int) (prim.Tagged tagged.FromInt64) (Given (IntVal n) ∷ []) (coerced sort.Int (IntVal n))
+int_of_native n = performs (Shows sort.Int) (prim.Tagged tagged.FromInt64) (Given (IntVal n) ∷ []) _ (Answers (IntVal n)) tt (λ p w. refl) (refl, (n, refl)) (λ s. refl)
 
 -- an `int` as a native integer, or the exception
 abbrev as_native : Result ℤ Arith → Answer
@@ -89,7 +85,7 @@ same_type sort.Bool sort.Int e f g = absurd (cc)
 same_type s t e f g = absurd (cc)
 
 pub kept_as : (t : Sort) → is_whole t ≡ true → (v : Value) (s : State) → HasKind t v → coerced t v s ≡ Gives v s
-kept_as sort.Int e v s k = by_int (λ v. coerced sort.Int v s ≡ Gives v s) (λ n f. refl) v k
+kept_as sort.Int e v s k = by_int (λ v. coerced sort.Int v s ≡ Gives v s) (λ n. refl) v k
 kept_as sort.I64 e v s k = by_i64 (λ v. coerced sort.I64 v s ≡ Gives v s) (λ n f. native_kept n s f) v k
 kept_as t e v s k = let f : false ≡ true = e in absurd (cc)
 

@@ -5,13 +5,13 @@ pub use Rattle.c_core.specs.declared.primitive.Primitive.{Primitive}
 pub use Rattle.ir_builder_frames.proofs.AttemptLemmas.{ActsAs, Allows, Answer, Answers, Finishes, Performs, ShownIfGiven, Throws, all_given, all_perform, effect_of, leaves_all, outcome_of, performs}
 pub use Rattle.ir_builder_frames.proofs.ComingLemmas.{ends_at, ends_map, ends_now, ends_of, ends_on, leads_step}
 pub use Rattle.ir_builder_frames.proofs.HeldLemmas.{adds_has, extends_refl, extends_trans, ok_map, placed_part, type_below, type_has}
-pub use Rattle.ir_builder_frames.proofs.MatchLemmas.{makes_arrives, match_kept, room_on, same_refl, same_trans, thrown_from}
+pub use Rattle.ir_builder_frames.proofs.MatchLemmas.{makes_arrives, match_kept, room_on, thrown_from}
 pub use Rattle.ir_builder_frames.proofs.StepLemmas.{literal_makes, prim_step}
 pub use Rattle.ir_builder_frames.specs.Calling.{Adds}
 pub use Rattle.ir_builder_frames.specs.Coming.{Ends, running, world}
 pub use Rattle.ir_builder_frames.specs.Computing.{Arrives, Attempts, HaveTypes, Makes, ShowAll, Showing, Shows}
 pub use Rattle.ir_builder_frames.specs.Kinds.{AreArguments, LiteralFits}
-pub use Rattle.ir_builder_frames.specs.Matching.{HasKind, HasRoom, HaveKinds, IsThrown, Matches, SameLocals}
+pub use Rattle.ir_builder_frames.specs.Matching.{HasKind, HasRoom, HaveKinds, IsThrown, Matches}
 pub use Rattle.ir_builder_frames.specs.Operands.{ActsOnAll}
 pub use Rattle.ir_builder_frames.specs.Placing.{HasType, Placed}
 pub use Rattle.ir_builder_frames.specs.Settings.{Setting, rtype_of}
@@ -36,7 +36,7 @@ pub use Rattle.ir_core.specs.declared.code.RType.{RType}
 pub use Rattle.ir_core.specs.declared.code.Reg.{Reg}
 pub use Rattle.py_syntax.specs.declared.expression.BinOp.{BinOp}
 pub use Rattle.py_typed.specs.Sorts.{Sort, Str, sort}
-pub use Rattle.source_meaning.proofs.RangeLemmas.{IsInt, IsNative, checked_int, left_int, left_native, quotient_int, quotient_native, rest_int, rest_native, right_int, right_native, wider, wrap_within}
+pub use Rattle.source_meaning.proofs.RangeLemmas.{IsNative, left_native, quotient_native, rest_native, right_native, wrap_within}
 pub use Rattle.source_meaning.specs.Operations.{are_alike, arithmetic, coerced, comes_before, counted, fitting, flag_text, is_filled, joined, length_of, letter, letters, negated, negated_as, next_line, no_i64, number_of, of_i64, of_numbers, past_range, text_of, with_number, with_place}
 pub use Rattle.source_meaning.specs.State.{Does, Gives, Outcome, State, give, look, needs, on_to, raise_new, set_items, sure, ◌>>=◌}
 pub use Rattle.std.proofs.Common.{Bool, Err, Greater, List, None, Ok, Option, Ordering, Result, Some, [], ap, arith, cond, false, inl, le_refl, length, refl, subst, suc, sym, take, true, zero, ℕ, ◌%◌, ◌*◌, ◌++◌, ◌+◌, ◌-◌, ◌/◌, ◌<◌, ◌^◌, ◌∙◌, ◌∷◌, ◌≡◌, ◌≤◌}

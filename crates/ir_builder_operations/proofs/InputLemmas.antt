@@ -14,8 +14,8 @@ line_acts : (s : State) (items : Items) → ActsAs (Shows sort.Str) (prim.Io io.
 line_acts s item.Eof = record { answer = Throws (thrown EOFError (codes "EOF when reading a line")); behind = s; leaves = leaves_all s; allowed = tt; effects = refl; shown = tt; does = refl }
 line_acts s item.Broken = record { answer = Finishes source.Broken Broken refl; behind = s; leaves = leaves_all s; allowed = tt; effects = refl; shown = tt; does = refl }
 line_acts s item.Over = record { answer = Finishes source.Over Over refl; behind = s; leaves = leaves_all s; allowed = tt; effects = refl; shown = tt; does = refl }
-line_acts s (item.Line text next) = record { answer = Answers (StrVal text); behind = set_items next s; leaves = record { locals = refl; globals = refl; turns = refl }; allowed = tt; effects = refl; shown = (refl, (text, refl)); does = refl }
-line_acts s (item.Bad next) = record { answer = Throws (thrown ValueError (codes "input is not UTF-8")); behind = set_items next s; leaves = record { locals = refl; globals = refl; turns = refl }; allowed = tt; effects = refl; shown = tt; does = refl }
+line_acts s (item.Line text next) = record { answer = Answers (StrVal text); behind = set_items next s; leaves = record { locals = refl; turns = refl }; allowed = tt; effects = refl; shown = (refl, (text, refl)); does = refl }
+line_acts s (item.Bad next) = record { answer = Throws (thrown ValueError (codes "input is not UTF-8")); behind = set_items next s; leaves = record { locals = refl; turns = refl }; allowed = tt; effects = refl; shown = tt; does = refl }
 
 pub line_performs : Performs (Shows sort.Str) (prim.Io io.Input) [] (look (λ s. s.items) next_line)
 line_performs p s = line_acts s s.items

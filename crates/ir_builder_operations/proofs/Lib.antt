@@ -1,4 +1,3 @@
-pub mod RangeLemmas
 pub mod TextLemmas
 pub mod KindLemmas
 pub mod PartLemmas

@@ -4,7 +4,9 @@ use Rattle.c_core.specs.Primitives.{Is, Parameter, Borrows, Owned, row_of}
 use Rattle.py_syntax.specs.declared.expression.BinOp.TheVariants as bin
 use Rattle.ir_core.specs.Lower.{kind_of_type}
 use Rattle.ir_builder_frames.specs.Kinds.{Answers}
-use Rattle.ir_builder_operations.proofs.KindLemmas.{on_none, one_int, one_native, one_bool, one_text, two_ints, two_natives, two_texts, text_and_int}
+use Rattle.ir_builder_operations.proofs.KindLemmas.{on_none, on_one, on_two, by_int, by_native, by_bool, by_text, native_value}
+use Rattle.py_typed.specs.Sorts.{Int, I64, Bool, Str}
+use Rattle.value_core.specs.Value.{IntVal, BoolVal, StrVal}
 use Rattle.ir_builder_operations.proofs.NumberLemmas as int
 use Rattle.ir_builder_operations.proofs.NativeLemmas as native
 use Rattle.ir_builder_operations.proofs.CoercionLemmas.{int_of_bool, native_of_bool, int_of_native, native_of_int}
@@ -18,24 +20,24 @@ abbrev Does : Operation → List Value → Type 0
 Does op vs = Performs (Shows (result_of op)) (primitive_of op) (all_given vs) (goes op vs)
 
 operation_performs : (op : Operation) → is_known op ≡ true → (vs : List Value) → HaveKinds (operands_of op) vs → Does op vs
-operation_performs (IntArithmetic op) e = two_ints (Does (IntArithmetic op)) (λ m n f g. int.arithmetic_performs op m n e f g)
-operation_performs (NativeArithmetic op) e = two_natives (Does (NativeArithmetic op)) (λ m n f g. native.arithmetic_performs op m n e f g)
-operation_performs IntNegation e = one_int (Does IntNegation) (λ n f. int.negation_performs n)
-operation_performs NativeNegation e = one_native (Does NativeNegation) (λ n f. native.negation_performs n f)
-operation_performs (Comparison Ints test) e = two_ints (Does (Comparison Ints test)) (λ m n f g. ints_compared test m n)
-operation_performs (Comparison Natives test) e = two_natives (Does (Comparison Natives test)) (λ m n f g. natives_compared test m n)
-operation_performs (Comparison Texts test) e = two_texts (Does (Comparison Texts test)) (λ a b. texts_compared test a b)
-operation_performs Inversion e = one_bool (Does Inversion) (λ b. inversion_performs b)
-operation_performs Concatenation e = two_texts (Does Concatenation) (λ a b. concat_performs a b)
-operation_performs Length e = one_text (Does Length) (λ t. length_performs t)
-operation_performs Letter e = text_and_int (Does Letter) (λ t n f. item_performs t n)
-operation_performs IntText e = one_int (Does IntText) (λ n f. int_written n)
-operation_performs NativeText e = one_native (Does NativeText) (λ n f. native_written n)
-operation_performs BoolText e = one_bool (Does BoolText) (λ b. flag_written b)
-operation_performs BoolToInt e = one_bool (Does BoolToInt) (λ b. int_of_bool b)
-operation_performs BoolToNative e = one_bool (Does BoolToNative) (λ b. native_of_bool b)
-operation_performs NativeToInt e = one_native (Does NativeToInt) (λ n f. int_of_native n f)
-operation_performs IntToNative e = one_int (Does IntToNative) (λ n f. native_of_int n)
+operation_performs (IntArithmetic op) e = on_two Int Int IntVal IntVal by_int by_int (Does (IntArithmetic op)) (λ m n. int.arithmetic_performs op m n e)
+operation_performs (NativeArithmetic op) e = on_two I64 I64 native_value native_value by_native by_native (Does (NativeArithmetic op)) (λ m n. native.arithmetic_performs op m.0 n.0 e m.1 n.1)
+operation_performs IntNegation e = on_one Int IntVal by_int (Does IntNegation) int.negation_performs
+operation_performs NativeNegation e = on_one I64 native_value by_native (Does NativeNegation) (λ n. native.negation_performs n.0 n.1)
+operation_performs (Comparison Ints test) e = on_two Int Int IntVal IntVal by_int by_int (Does (Comparison Ints test)) (ints_compared test)
+operation_performs (Comparison Natives test) e = on_two I64 I64 native_value native_value by_native by_native (Does (Comparison Natives test)) (λ m n. natives_compared test m.0 n.0)
+operation_performs (Comparison Texts test) e = on_two Str Str StrVal StrVal by_text by_text (Does (Comparison Texts test)) (texts_compared test)
+operation_performs Inversion e = on_one Bool BoolVal by_bool (Does Inversion) inversion_performs
+operation_performs Concatenation e = on_two Str Str StrVal StrVal by_text by_text (Does Concatenation) concat_performs
+operation_performs Length e = on_one Str StrVal by_text (Does Length) length_performs
+operation_performs Letter e = on_two Str Int StrVal IntVal by_text by_int (Does Letter) item_performs
+operation_performs IntText e = on_one Int IntVal by_int (Does IntText) int_written
+operation_performs NativeText e = on_one I64 native_value by_native (Does NativeText) (λ n. native_written n.0)
+operation_performs BoolText e = on_one Bool BoolVal by_bool (Does BoolText) flag_written
+operation_performs BoolToInt e = on_one Bool BoolVal by_bool (Does BoolToInt) int_of_bool
+operation_performs BoolToNative e = on_one Bool BoolVal by_bool (Does BoolToNative) native_of_bool
+operation_performs NativeToInt e = on_one I64 native_value by_native (Does NativeToInt) (λ n. int_of_native n.0)
+operation_performs IntToNative e = on_one Int IntVal by_int (Does IntToNative) native_of_int
 operation_performs Line e = on_none (Does Line) line_performs
 
 module _ (op : Operation) (rs : List Reg) (t : RType) (q : Primitive) (args : List PArg) (type : t ≡ rtype_of (result_of op)) (does : q ≡ primitive_of op) (given : args ≡ map Var rs) where

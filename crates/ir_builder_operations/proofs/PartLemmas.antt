@@ -1,5 +1,5 @@
 -- Operations on registers, what is in its register already, and what a primitive makes of a written text.
-use Rattle.ir_builder_operations.proofs.Common.{◌≡◌, ℕ, ◌+◌, ◌<◌, List, [], ◌∷◌, length, Some, None, refl, sym, ◌∙◌, subst, arith, le_refl, Value, Primitive, Sort, State, Gives, Does, give, Reg, RType, Text, Prim, NeverFails, failing, Holds, Regs, put, World, Written, effect, Program, Building, rtype_of, HasType, Adds, world, running, HasKind, IsThrown, Shows, ShowAll, HaveTypes, Arrives, Makes, Attempts, ActsOnAll, extends_refl, type_has, type_below, adds_has, leads_step, ends_of, ends_now, same_refl, makes_arrives, prim_step, Acts, ActsOn, ActsOnTwo, of_none, of_one, of_two}
+use Rattle.ir_builder_operations.proofs.Common.{◌≡◌, ℕ, ◌+◌, ◌<◌, List, [], ◌∷◌, length, Some, None, refl, sym, ◌∙◌, subst, arith, le_refl, Value, Primitive, Sort, State, Gives, Does, give, Reg, RType, Text, Prim, NeverFails, failing, Holds, Regs, put, World, Written, effect, Program, Building, rtype_of, HasType, Adds, world, running, HasKind, IsThrown, Shows, ShowAll, HaveTypes, Arrives, Makes, Attempts, ActsOnAll, extends_refl, type_has, type_below, adds_has, leads_step, ends_of, ends_now, makes_arrives, prim_step, Acts, ActsOn, ActsOnTwo, of_none, of_one, of_two}
 use Rattle.ir_core.specs.Effects.{Gives as Giving}
 use Rattle.ir_core.proofs.StepLemmas.{put_same, put_other}
 use Rattle.ir_builder_operations.proofs.ThenLemmas.{attempts_as}
@@ -23,10 +23,10 @@ stays t go b r type is same = record {
   extends = extends_refl b;
   type = is;
   runs = λ p fn h placed x room regs below s match res needs.
-      let R = Arrives (Shows t) fn (length b.blocks) (length b.ops) below (length b.regs) regs x s r in
+      let R = Arrives (Shows t) fn (length b.blocks) (length b.ops) below (length b.regs) regs s r in
       let T = IsThrown fn h below x (length b.regs) regs in
       ends_of p s.turns _ res (Gives needs.v s) R T (needs.does ∙ same needs.v s needs.shows.1)
-      (ends_now p needs.v s _ R T record { now = regs; is = refl; shows = needs.shows; kept = λ j lt. refl; same = same_refl x regs s match });
+      (ends_now p needs.v s _ R T record { now = regs; is = refl; shows = needs.shows; kept = λ j lt. refl; same = refl });
 }
 
 -- a value that is made of nothing
@@ -35,7 +35,7 @@ made_attempts t v b c r u kind made = record {
   extends = made.extends;
   type = made.type;
   runs = λ p fn h at x room regs below s match res f.
-      makes_arrives p fn (Shows t) (λ regs h. h ≡ Holds v) b c r u below (length b.regs) regs regs x s s v (Holds v) res (IsThrown fn h below x (length b.regs) regs) made at.has (le_refl _) (λ j lt. refl) (same_refl x regs s match) f refl (refl, kind);
+      makes_arrives p fn (Shows t) (λ regs h. h ≡ Holds v) b c r u below (length b.regs) regs regs s s v (Holds v) res (IsThrown fn h below x (length b.regs) regs) made at.has (le_refl _) (λ j lt. refl) refl f refl (refl, kind);
 }
 
 -- a value that a primitive makes of a text as it is written

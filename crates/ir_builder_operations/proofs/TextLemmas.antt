@@ -33,13 +33,6 @@ counted_by false n = refl
 pub counted_is : (n : ℕ) → counted_length n ≡ counted n
 counted_is n = counted_by (nat_lt n (2 ^ 127)) n
 
-below_by : (b : Bool) (n : ℕ) → nat_lt n (2 ^ 127) ≡ b → nat_lt (cond b n (2 ^ 127 - 1)) (2 ^ 127) ≡ true
-below_by true n e = e
-below_by false n e = refl
-
-pub counted_below : (n : ℕ) → nat_lt (counted_length n) (2 ^ 127) ≡ true
-counted_below n = below_by (nat_lt n (2 ^ 127)) n refl
-
 -- ---- items
 
 abbrev letter_of : ℕ → Value

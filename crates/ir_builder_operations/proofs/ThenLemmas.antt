@@ -1,5 +1,5 @@
 -- One operation behind another: what both do together is what the source does with one part behind the other.
-use Rattle.ir_builder_operations.proofs.Common.{◌≡◌, refl, sym, ◌∙◌, subst, ℕ, ◌<◌, ◌≤◌, arith, le_refl, List, length, Option, None, Value, Sort, State, Outcome, Does, ◌>>=◌, on_to, Program, RType, Regs, Building, Setting, Placed, world, running, Ends, Matches, SameLocals, HasRoom, IsThrown, Showing, Shows, Arrives, Attempts, extends_refl, extends_trans, type_below, placed_part, ends_on, ends_at, ends_of, ends_map, room_on, same_trans, match_kept, thrown_from, ActsOn, ActsOnTwo}
+use Rattle.ir_builder_operations.proofs.Common.{◌≡◌, refl, sym, ◌∙◌, subst, ℕ, ◌<◌, ◌≤◌, arith, le_refl, List, length, Option, None, Value, Sort, State, Outcome, Does, ◌>>=◌, on_to, Program, RType, Regs, Building, Setting, Placed, world, running, Ends, Matches, HasRoom, IsThrown, Showing, Shows, Arrives, Attempts, extends_refl, extends_trans, type_below, placed_part, ends_on, ends_at, ends_of, ends_map, room_on, match_kept, thrown_from, ActsOn, ActsOnTwo}
 use Rattle.ir_core.specs.Meaning.{Waiting, Config}
 
 -- what is needed may be put otherwise
@@ -13,11 +13,11 @@ attempts_as K b c r t first second f m = record {
 -- ---- behind an operation
 
 module _ (p : Program) (fn : ℕ) (h : Option ℕ) (below : List Waiting) (x : Setting) where
-  pub attempt_then : (K : Showing) (t : RType) (first : Regs → State → Outcome Value → Type 0) (b c : Building) (r : ℕ) (regs : Regs) (s : State) (res : Outcome Value) (go : Value → Does Value) (S : Value → State → Config → Type 0) → Attempts K b c r t first → Placed p fn b c h → HasRoom x b → Matches x regs s → first regs s res → ((now : Regs) (v : Value) (s1 : State) → s1.turns ≤ s.turns → K v (now r) → ((j : ℕ) → j < length b.regs → now j ≡ regs j) → SameLocals x s s1 → Matches x now s1 → Ends p s1.turns (running fn (length c.blocks) (length c.ops) now below (world None s1)) (go v s1) S (IsThrown fn h below x (length b.regs) regs)) → Ends p s.turns (running fn (length b.blocks) (length b.ops) regs below (world None s)) (on_to res go) S (IsThrown fn h below x (length b.regs) regs)
+  pub attempt_then : (K : Showing) (t : RType) (first : Regs → State → Outcome Value → Type 0) (b c : Building) (r : ℕ) (regs : Regs) (s : State) (res : Outcome Value) (go : Value → Does Value) (S : Value → State → Config → Type 0) → Attempts K b c r t first → Placed p fn b c h → HasRoom x b → Matches x regs s → first regs s res → ((now : Regs) (v : Value) (s1 : State) → s1.turns ≤ s.turns → K v (now r) → ((j : ℕ) → j < length b.regs → now j ≡ regs j) → s1.locals ≡ s.locals → Matches x now s1 → Ends p s1.turns (running fn (length c.blocks) (length c.ops) now below (world None s1)) (go v s1) S (IsThrown fn h below x (length b.regs) regs)) → Ends p s.turns (running fn (length b.blocks) (length b.ops) regs below (world None s)) (on_to res go) S (IsThrown fn h below x (length b.regs) regs)
   attempt_then K t first b c r regs s res go S a at room match f next =
       let top = room.top in
       let T = IsThrown fn h below x (length b.regs) regs in
-      ends_on p s.turns _ res (Arrives K fn (length c.blocks) (length c.ops) below (length b.regs) regs x s r) T T go S (a.runs p fn h at x room regs below s match res f)
+      ends_on p s.turns _ res (Arrives K fn (length c.blocks) (length c.ops) below (length b.regs) regs s r) T T go S (a.runs p fn h at x room regs below s match res f)
       (λ v s1 d le y. ends_at p s1.turns (running fn (length c.blocks) (length c.ops) y.now below (world None s1)) d (go v s1) S _ y.is (next y.now v s1 le y.shows y.kept y.same (match_kept x b regs y.now s s1 room (λ j lt. y.kept j (omega arith)) y.same match)))
       (λ v s1 d t. t)
 
@@ -40,13 +40,13 @@ attempts_then K L b0 b1 b2 q r t u first second acts a c split =
           let p1 = placed_part p fn b0 b0 b1 b2 h (le_refl _) c.extends at in
           let p2 = placed_part p fn b0 b1 b2 b2 h k1 (extends_refl b2) at in
           let g = split regs s res f in
-          let S = Arrives L fn (length b2.blocks) (length b2.ops) below (length b0.regs) regs x s r in
+          let S = Arrives L fn (length b2.blocks) (length b2.ops) below (length b0.regs) regs s r in
           let T = IsThrown fn h below x (length b0.regs) regs in
           ends_of p s.turns _ res (on_to g.mid g.go) S T g.does
           (attempt_then p fn h below x K t first b0 b1 q regs s g.mid g.go S a p1 room match g.start
           (λ now v s1 le shows kept same1 match1.
           ends_map p s1.turns _ (g.go v s1) _ S _ T
-          (λ z s2 d y. record { now = y.now; is = y.is; shows = y.shows; kept = λ j lt. y.kept j (omega arith) ∙ kept j lt; same = same_trans x s s1 s2 same1 y.same })
+          (λ z s2 d y. record { now = y.now; is = y.is; shows = y.shows; kept = λ j lt. y.kept j (omega arith) ∙ kept j lt; same = y.same ∙ same1 })
           (λ z s2 d e. thrown_from fn h below x (length b0.regs) (length b1.regs) regs now z s2 d l1 (λ j i lt o. kept j lt) e)
           (c.runs p fn h p2 x (room_on x b0 b1 a.extends room) now below s1 match1 (g.go v s1) (g.on now v s1 shows kept))));
     }

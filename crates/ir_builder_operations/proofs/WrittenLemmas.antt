@@ -10,7 +10,7 @@ use Rattle.ir_core.specs.declared.code.RType.TheVariants as rtype
 use Rattle.ir_core.specs.Effects.{Gives as Giving}
 use Rattle.ir_builder_operations.proofs.KindLemmas.{by_text}
 use Rattle.ir_builder_operations.proofs.PartLemmas.{as_one, stays}
-use Rattle.ir_builder_operations.proofs.TextLemmas.{counted_is, counted_below, letters_length, place_below, item_there}
+use Rattle.ir_builder_operations.proofs.TextLemmas.{counted_is, letters_length, place_below, item_there}
 
 -- ---- one behind the other
 
@@ -21,7 +21,7 @@ concat_performs a b = performs (Shows sort.Str) (prim.Str str.Concat) (Given (St
 
 pub length_performs : (t : List ℕ) → Performs (Shows sort.Int) (prim.Str str.Len) (Given (StrVal t) ∷ []) (length_of (StrVal t))
 length_performs t =
-    performs (Shows sort.Int) (prim.Str str.Len) (Given (StrVal t) ∷ []) _ (Answers (IntVal (text_length t))) tt (λ p w. refl) (refl, (text_length t, refl, counted_below (char_len t)))
+    performs (Shows sort.Int) (prim.Str str.Len) (Given (StrVal t) ∷ []) _ (Answers (IntVal (text_length t))) tt (λ p w. refl) (refl, (text_length t, refl))
     (λ s. ap (λ n. Gives (IntVal (pos n)) s) (sym (counted_is (char_len t))))
 
 -- ---- items

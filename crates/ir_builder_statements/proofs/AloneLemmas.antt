@@ -25,16 +25,16 @@ module _ (m : TypedModule) (vs : List Variable) where
       let more = printed_texts es h.2 in
       rw (one, more) refl
 
-pub printing_code : (x : Setting) (es : List TExpr) (b0 b1 b2 : Building) (rs : List Reg) → PrintSuits x.source x.variables None (exprs_of (map typed_expr es)) → HasRoom x b0 → EmitsAll x (map type_of (map typed_expr es)) (exprs_of (map typed_expr es)) b0 b1 rs → Writes (map type_of (map typed_expr es)) rs b1 b2 line_of → (gives : Option Sort) → Works x gives (printed (means_all x (exprs_of (map typed_expr es)))) b0 b2 []
-printing_code x es b0 b1 b2 rs suits room c w gives =
-    print_works x gives (map type_of (map typed_expr es)) (means_all x (exprs_of (map typed_expr es))) b0 b1 b2 rs room (printed_texts x.source x.variables (map typed_expr es) suits) c w
+pub printing_code : (x : Setting) (es : List TExpr) (b0 b1 b2 : Building) (rs : List Reg) → HasRoom x b0 → EmitsAll x (map type_of (map typed_expr es)) (exprs_of (map typed_expr es)) b0 b1 rs → Writes (map type_of (map typed_expr es)) rs b1 b2 line_of → (gives : Option Sort) (t : Sort) → Works x gives (printed x.source t (means_all x (exprs_of (map typed_expr es)))) b0 b2 []
+printing_code x es b0 b1 b2 rs room c w gives t =
+    print_works x gives t (map type_of (map typed_expr es)) (means_all x (exprs_of (map typed_expr es))) b0 b1 b2 rs room c w
 
 -- ---- an expression alone
 
-pub print_alone : (x : Setting) (e : TExpr) (es all : List TExpr) (b0 b1 : Building) → e.kind ≡ kind.Print all → es ≡ all → ((gives : Option Sort) → Works x gives (printed (means_all x (exprs_of (map typed_expr es)))) b0 b1 []) → (gives : Option Sort) → Works x gives (means_alone x (typed_expr e)) b0 b1 []
+pub print_alone : (x : Setting) (e : TExpr) (es all : List TExpr) (b0 b1 : Building) → e.kind ≡ kind.Print all → es ≡ all → ((gives : Option Sort) (t : Sort) → Works x gives (printed x.source t (means_all x (exprs_of (map typed_expr es)))) b0 b1 []) → (gives : Option Sort) → Works x gives (means_alone x (typed_expr e)) b0 b1 []
 print_alone x e es all b0 b1 is same w gives =
     let print_is : typed_expr e ≡ typed (tree.Print (exprs_of (map typed_expr es))) (sort_of e.ty) e.span = typed_expr_of e (kind.Print all) is ∙ ap (λ z. typed z (sort_of e.ty) e.span) (typed_node-Print all ∙ ap (λ l. tree.Print (exprs_of (map typed_expr l))) (sym same)) in
-    works_of x gives (means_alone x (typed_expr e)) (printed (means_all x (exprs_of (map typed_expr es)))) b0 b1 [] (λ n s. ap (λ t. means_alone x t n s) print_is) (w gives)
+    works_of x gives (means_alone x (typed_expr e)) (printed x.source (sort_of e.ty) (means_all x (exprs_of (map typed_expr es)))) b0 b1 [] (λ n s. ap (λ t. means_alone x t n s) print_is) (w gives (sort_of e.ty))
 
 pub value_alone : (x : Setting) (e : TypedExpr) (b0 b1 : Building) (r : ℕ) → HasRoom x b0 → Emits x e b0 b1 r → (gives : Option Sort) → Works x gives (means_alone x e) b0 b1 []
 value_alone x e b0 b1 r room q gives = alone_works x gives (Shows (type_of e)) (rtype_of (type_of e)) (means x e) b0 b1 r room q

@@ -1,6 +1,5 @@
 -- Assignments to a variable, and updates of one, do in their code what they mean.
-use Rattle.ir_builder_statements.proofs.Common.{◌≡◌, ℕ, ◌<◌, true, List, [], ◌∷◌, length, map, get_or, Option, Some, None, refl, sym, ap, ◌∙◌, subst, arith, inl, inr, slice_get, slice_set, nat_lt, if◌then◌else◌, Value, Target, Sort, sort_step, TypedExpr, type_of, Variable, TypedModule, TypedTarget, LocalTarget, GlobalTarget, AttrTarget, ItemTarget, typed_target, State, Outcome, Gives, Raises, Stops, Does, Calls, on_to, needs, put_local, set_local, give, coerced, combined, Reg, Regs, Building, Extends, Setting, rtype_of, HasType, HasKind, Matches, HasRoom, means, Shows, Meaning, Computes, Attempts, set_gives, room_on, computes_of, is_whole, ActsOn, Binary, is_scalar, binary_goes, BinarySuits, Suits, Emits, EmitsTwo, means_assignment, means_update, Works, with_value, get_below, set_works, works_of, IsVariable, IsOnly, UpdateSuits, VariableUpdates, TakesRegister, SetsVariable, reading_of, update_binary, TurnsInto, ComputesAs}
-use Rattle.std.proofs.lemmas.Bool.Decides.{nat_tests}
+use Rattle.ir_builder_statements.proofs.Common.{◌≡◌, ℕ, true, List, [], ◌∷◌, map, get_or, Option, Some, None, refl, sym, ap, ◌∙◌, subst, inl, inr, slice_get, if◌then◌else◌, Value, Target, Sort, sort_step, TypedExpr, type_of, Variable, TypedModule, TypedTarget, LocalTarget, GlobalTarget, AttrTarget, ItemTarget, typed_target, State, Outcome, Gives, Raises, Stops, Does, Calls, on_to, give, coerced, combined, Reg, Building, Extends, Setting, rtype_of, HasType, HasKind, HasRoom, means, Shows, Meaning, Computes, Attempts, room_on, computes_of, is_whole, ActsOn, Binary, is_scalar, binary_goes, BinarySuits, Suits, Emits, EmitsTwo, means_assignment, means_update, Works, set_works, works_of, IsVariable, IsOnly, UpdateSuits, VariableUpdates, TakesRegister, SetsVariable, reading_of, update_binary, TurnsInto, ComputesAs}
 use Rattle.py_syntax.specs.declared.token.Span.{Span}
 use Rattle.py_syntax.specs.declared.expression.BinOp.{BinOp}
 use Rattle.py_typed.specs.declared.types.Ty.{Ty, fold-roll-Ty}
@@ -10,9 +9,12 @@ use Rattle.py_typed.specs.Sorts as sort
 use Rattle.py_typed.specs.Sorts.{sort as sort_of}
 use Rattle.py_typed.specs.Classes.{ClassEntry}
 use Rattle.py_typed.specs.Fits.{fits}
-use Rattle.source_meaning.specs.StatementMeaning.{target_sort, bind, assign, unpack, update, changed}
+use Rattle.source_meaning.specs.StatementMeaning.{target_sort}
+use Rattle.source_meaning.specs.ExpressionMeaning.{read_local, read_global}
+use Rattle.source_soundness.specs.Watched.{bare, bind, assign, unpack, update, changed}
 use Rattle.py_typed.specs.TargetTypes.{sort_at}
-use Rattle.source_meaning.specs.SourceRun.{call_of}
+use Rattle.ir_builder_frames.specs.Watching.{watch, calls_in}
+use Rattle.ir_builder_loops_and_jumps.specs.Simple.{storing}
 use Rattle.source_meaning.specs.WaysOut.{Flow, Goes}
 use Rattle.py_typed.proofs.FitLemmas.{fits_itself}
 use Rattle.ir_builder_operations.proofs.PartLemmas.{stays}
@@ -23,18 +25,13 @@ use Rattle.ir_builder_operations.proofs.NativeLemmas.{native_kept}
 
 -- ---- what assignment means
 
-coerced_itself : (t : Sort) (v : Value) (s : State) → HasKind t v → coerced t v s ≡ Gives v s
-coerced_itself sort.I64 v s k =
+coerced_itself : (t : Sort) (v : Value) (s : State) → is_scalar t ≡ true → HasKind t v → coerced t v s ≡ Gives v s
+coerced_itself sort.I64 v s e k =
     ap (λ z. coerced sort.I64 z s) k.1 ∙ native_kept k.0 s k.2 ∙ ap (λ z. Gives z s) (sym k.1)
-coerced_itself sort.Int v s k = ap (λ z. coerced sort.Int z s) k.1 ∙ ap (λ z. Gives z s) (sym k.1)
-coerced_itself sort.Str v s k = refl
-coerced_itself sort.Bool v s k = refl
-coerced_itself sort.Nothing v s k = refl
-coerced_itself _ v s k = absurd k
-
-put_there : (s : State) (k : ℕ) (v : Value) → k < length s.locals → set_local k (Some v) s ≡ Gives tt (record s { locals = slice_set s.locals k (Some v) })
-put_there s k v lt =
-    let e : nat_lt k (length s.locals) ≡ true = grind (arith, nat_tests) in ap (λ b. needs b (put_local k (Some v)) s) e
+coerced_itself sort.Int v s e k = ap (λ z. coerced sort.Int z s) k.1 ∙ ap (λ z. Gives z s) (sym k.1)
+coerced_itself sort.Str v s e k = refl
+coerced_itself sort.Bool v s e k = refl
+coerced_itself _ v s e k = absurd (cc)
 
 sort_is : (locals : List Variable) (k : ℕ) (v0 : Variable) (t : Sort) → slice_get locals k ≡ Some v0 → v0.1 ≡ t → sort_at locals k ≡ t
 sort_is locals k v0 t var same = rw var same
@@ -44,11 +41,11 @@ module _ (x : Setting) (n : ℕ) where
   classes = x.source.classes.classes
 
   abbrev call : Calls
-  call = call_of x.source n
+  call = calls_in x.source n
 
   -- a value is put into a variable
   abbrev putting : TypedTarget → Value → Does (Unit {0})
-  putting = assign classes call x.source.globals x.variables
+  putting = assign (watch x.source) classes call x.source.globals x.variables
 
   abbrev target_type : TypedTarget → Sort
   target_type = target_sort classes call x.source.globals x.variables
@@ -62,26 +59,21 @@ module _ (x : Setting) (n : ℕ) where
   type_is (AttrTarget e name) t v = absurd v
   type_is (ItemTarget e i) t v = absurd v
 
-  assigned : (target : TypedTarget) (t : Sort) (regs : Regs) (s : State) (w : Value) → Is target t → Matches x regs s → putting target w s ≡ Gives tt (with_value target w s)
-  assigned (LocalTarget k) t regs s w v m = let o = m.each k v.0 v.1 in put_there s k w (get_below s.locals k o.0 o.1)
-  assigned (GlobalTarget i) t regs s w v m = let o = m.globals.each i v.0 v.1 in set_gives i w s o.0 o.1
-  assigned (AttrTarget e name) t regs s w v m = absurd v
-  assigned (ItemTarget e i) t regs s w v m = absurd v
+  assigned : (target : TypedTarget) (t : Sort) (s : State) (w : Value) → Is target t → putting target w s ≡ storing target w s
+  assigned (LocalTarget k) t s w v = refl
+  assigned (GlobalTarget i) t s w v = refl
+  assigned (AttrTarget e name) t s w v = absurd v
+  assigned (ItemTarget e i) t s w v = absurd v
 
-  -- as one of the variable's type, which it is
-  taken : (target : TypedTarget) (t : Sort) (regs : Regs) (s : State) (w : Value) → Is target t → Matches x regs s → HasKind t w → on_to (coerced (target_type target) w s) (putting target) ≡ Gives tt (with_value target w s)
-  taken target t regs s w v m kind =
-      ap (λ z. on_to (coerced z w s) (putting target)) (type_is target t v)
-      ∙ ap (λ o. on_to o (putting target)) (coerced_itself t w s kind)
-      ∙ assigned target t regs s w v m
-
-  bound : (target : TypedTarget) (t : Sort) (regs : Regs) (s : State) (w : Value) → Is target t → Matches x regs s → HasKind t w → bind classes call x.source.globals x.variables (target ∷ []) t w s ≡ Gives tt (with_value target w s)
-  bound target t regs s w v m kind =
+  bound : (target : TypedTarget) (t : Sort) (s : State) (w : Value) → Is target t → is_scalar t ≡ true → HasKind t w → bind (watch x.source) classes call x.source.globals x.variables (target ∷ []) t w s ≡ storing target w s
+  bound target t s w v scalar kind =
       let one : Does (Unit {0}) = λ u. on_to (coerced (target_type target) w u) (putting target) in
-      let other : Does (Unit {0}) = unpack classes call x.source.globals x.variables (target ∷ []) w in
+      let other : Does (Unit {0}) = unpack (watch x.source) classes call x.source.globals x.variables (target ∷ []) w in
       ap (λ z. (if fits classes t z then one else other) s) (type_is target t v)
       ∙ ap (λ b. (if b then one else other) s) (fits_itself classes t)
-      ∙ taken target t regs s w v m kind
+      ∙ ap (λ z. on_to (coerced z w s) (putting target)) (type_is target t v)
+      ∙ ap (λ o. on_to o (putting target)) (coerced_itself t w s scalar kind)
+      ∙ assigned target t s w v
 
 -- ---- assignment
 
@@ -93,16 +85,16 @@ only_target x (u ∷ []) target t is only =
     (ap (λ z. typed_target z ∷ []) (sym is), subst P (sym is) only)
 only_target x (u ∷ w ∷ targets) target t is only = absurd only
 
-pub assignment_code : (x : Setting) (targets : List Target) (target : Target) (e : TypedExpr) (b0 b1 b2 : Building) (r : Reg) → target ≡ get_or targets 0 target → IsOnly x.source x.variables None (map typed_target targets) (type_of e) → HasRoom x b0 → Emits x e b0 b1 r.0 → SetsVariable x.source x.frame (typed_target target) r.0 b1 b2 → (gives : Option Sort) → Works x gives (means_assignment x (map typed_target targets) e) b0 b2 []
-assignment_code x targets target e b0 b1 b2 r is only room cx q gives =
+pub assignment_code : (x : Setting) (targets : List Target) (target : Target) (e : TypedExpr) (b0 b1 b2 : Building) (r : Reg) → is_scalar (type_of e) ≡ true → target ≡ get_or targets 0 target → IsOnly x.source x.variables None (map typed_target targets) (type_of e) → HasRoom x b0 → Emits x e b0 b1 r.0 → SetsVariable x.source x.frame (typed_target target) r.0 b1 b2 → (gives : Option Sort) → Works x gives (means_assignment x (map typed_target targets) e) b0 b2 []
+assignment_code x targets target e b0 b1 b2 r scalar is only room cx q gives =
     let t = type_of e in
     let one = only_target x targets target t is only in
     let sets = q x.variables t (room_on x b0 b1 cx.extends room) one.1 cx.type in
     let P : List TypedTarget → Type 0 = λ z. Works x gives (means_assignment x z e) b0 b2 [] in
-    let go : ℕ → Value → Does Flow = λ n w s. on_to (bind (classes x n) (call x n) x.source.globals x.variables (typed_target target ∷ []) t w s) (λ u. give Goes) in
+    let go : ℕ → Value → Does (Unit {0}) = λ n. bind (watch x.source) (classes x n) (call x n) x.source.globals x.variables (typed_target target ∷ []) t in
     subst P (sym one.0)
     (set_works x gives (means x e) t (typed_target target) r.0 go b0 b1 b2 room cx sets
-    (λ n w s regs match kind. ap (λ o. on_to o (λ u. give Goes)) (bound x n (typed_target target) t regs s w one.1 match kind)))
+    (λ n w s kind. bound x n (typed_target target) t s w one.1 scalar kind))
 
 -- the register of the value has the variable's type
 pub assignment_takes : (x : Setting) (targets : List Target) (target : Target) (e : TypedExpr) (b0 b1 : Building) (r : ℕ) → is_scalar (type_of e) ≡ true → target ≡ get_or targets 0 target → IsOnly x.source x.variables None (map typed_target targets) (type_of e) → HasRoom x b0 → Emits x e b0 b1 r → TakesRegister x.source x.frame (typed_target target) r b1
@@ -129,13 +121,17 @@ from_read (Stops w s) m a c g h = refl
 -- what an update of a variable means, where it is read as an expression
 abbrev pub Reads : Setting → TypedTarget → TypedExpr → Type 0
 Reads x target before =
-    (n : ℕ) (f : Value → Does Value) (s : State) → update x.source.classes.classes (call_of x.source n) x.source.globals x.variables target f s ≡ on_to (on_to (means x before n s) f) (assign x.source.classes.classes (call_of x.source n) x.source.globals x.variables target)
+    (n : ℕ) (f : Value → Does Value) (s : State) → update (watch x.source) x.source.classes.classes (calls_in x.source n) x.source.globals x.variables target f s ≡ on_to (on_to (means x before n s) f) (assign (watch x.source) x.source.classes.classes (calls_in x.source n) x.source.globals x.variables target)
 
-reads_so : (x : Setting) (target : TypedTarget) (t : Sort) (place : Span) → IsVariable x.source x.variables None target t → Reads x target (reading_of target t place)
-reads_so x (LocalTarget k) t place v n f s = refl
-reads_so x (GlobalTarget i) t place v n f s = refl
-reads_so x (AttrTarget a name) t place v n f s = absurd v
-reads_so x (ItemTarget a i) t place v n f s = absurd v
+bare_simple : (t : Sort) → is_scalar t ≡ true → bare t ≡ t
+bare_simple (sort.Optional t) h = absurd (cc)
+bare_simple t h = refl
+
+reads_so : (x : Setting) (target : TypedTarget) (t : Sort) (place : Span) → is_scalar t ≡ true → IsVariable x.source x.variables None target t → Reads x target (reading_of target t place)
+reads_so x (LocalTarget k) t place simple v n f s = ap (λ z. on_to (on_to (on_to (read_local x.variables k s) (watch x.source z)) f) (putting x n (LocalTarget k))) (ap bare (type_is x n (LocalTarget k) t v) ∙ bare_simple t simple)
+reads_so x (GlobalTarget i) t place simple v n f s = ap (λ z. on_to (on_to (on_to (read_global x.source.globals i s) (watch x.source z)) f) (putting x n (GlobalTarget i))) (ap bare (type_is x n (GlobalTarget i) t v) ∙ bare_simple t simple)
+reads_so x (AttrTarget a name) t place simple v n f s = absurd v
+reads_so x (ItemTarget a i) t place simple v n f s = absurd v
 
 whole_simple : (t : Sort) → is_whole t ≡ true → is_scalar t ≡ true
 whole_simple sort.Int k = refl
@@ -234,14 +230,14 @@ module _ (x : Setting) (target : TypedTarget) (op : BinOp) (own t : Sort) (befor
       computes_of x (Shows own) (rtype_of own) _ value b0 b1 r (λ n s i. on_to (on_to (means x before n s) (λ v s1. on_to (means x e n s1) (λ w. goes v w i))) (coerced own)) made
 
   reads : Reads x target before
-  reads = let P : TypedExpr → Type 0 = λ z. Reads x target z in subst P (sym is) (reads_so x target own place variable)
+  reads = let P : TypedExpr → Type 0 = λ z. Reads x target z in subst P (sym is) (reads_so x target own place (updated_simple x.source x.variables op own t (type_of e) suits) variable)
 
   abbrev go : ℕ → Value → Does Flow
   go n w s = on_to (putting x n target w s) (λ u. give Goes)
 
   means_so : (n : ℕ) (s : State) → means_update x target op e t n s ≡ on_to (value n s) (go n)
   means_so n s =
-      ap (λ o. on_to o (λ u. give Goes)) (reads n (changed (classes x n) (call x n) x.source.globals x.variables target op e t) s)
+      ap (λ o. on_to o (λ u. give Goes)) (reads n (changed (watch x.source) (classes x n) (call x n) x.source.globals x.variables target op e t) s)
       ∙ from_read (means x before n s) (means x e n) (combined t op) (coerced (target_type x n target)) (putting x n target) (λ u. give Goes)
       ∙ ap (λ z. on_to (on_to (result n s) (coerced z)) (go n)) (type_is x n target own variable)
 
@@ -249,8 +245,8 @@ module _ (x : Setting) (target : TypedTarget) (op : BinOp) (own t : Sort) (befor
   update_code b0 b1 b2 r room made put_in gives =
       let sets = put_in x.variables own (room_on x b0 b1 made.extends room) variable made.type in
       works_of x gives (means_update x target op e t) (λ n s. on_to (value n s) (go n)) b0 b2 [] means_so
-      (set_works x gives value own target r.0 go b0 b1 b2 room (value_made b0 b1 r.0 made) sets
-      (λ n w s regs match kind. ap (λ o. on_to o (λ u. give Goes)) (assigned x n target own regs s w variable match)))
+      (set_works x gives value own target r.0 (λ n. putting x n target) b0 b1 b2 room (value_made b0 b1 r.0 made) sets
+      (λ n w s kind. assigned x n target own s w variable))
 
 -- the register of the value has the variable's type
 pub update_takes : (x : Setting) (target : TypedTarget) (op : BinOp) (own t w : Sort) (b0 b1 : Building) (r : ℕ) → IsVariable x.source x.variables None target own → UpdateSuits x.source x.variables None op own t w → HasRoom x b0 → Extends b0 b1 → HasType b1 r (rtype_of own) → TakesRegister x.source x.frame target r b1

@@ -5,14 +5,14 @@ pub use Rattle.ir_builder_expressions.specs.Emitting.{Emits, EmitsAll, EmitsTwo,
 pub use Rattle.ir_builder_expressions.specs.Parts.{is_scalar}
 pub use Rattle.ir_builder_expressions.specs.Suiting.{ArgumentsSuit, SomeSuit, Suits}
 pub use Rattle.ir_builder_expressions.specs.declared.applying.Binary.{Binary}
-pub use Rattle.ir_builder_frames.proofs.GlobalLemmas.{set_gives, write_fits}
+pub use Rattle.ir_builder_frames.proofs.GlobalLemmas.{write_fits}
 pub use Rattle.ir_builder_frames.proofs.HeldLemmas.{either_way, extends_refl, extends_trans, get_below, ok_map, on_ok_map, type_kept}
 pub use Rattle.ir_builder_frames.proofs.MatchLemmas.{computes_of, made_computes, room_on}
 pub use Rattle.ir_builder_frames.proofs.PatchLemmas.{patches, with_last_length}
 pub use Rattle.ir_builder_frames.specs.Calling.{Adds, Closes, Open, Pushes}
 pub use Rattle.ir_builder_frames.specs.Computing.{Attempts, Computes, Meaning, Shows, means}
 pub use Rattle.ir_builder_frames.specs.Kinds.{AreAlike, IsAmong, IsOf, KeepsKinds, KeepsKindsIf, OpKinds, Surrounding, WritesGlobal}
-pub use Rattle.ir_builder_frames.specs.Matching.{HasKind, HasRoom, Matches, flag_of}
+pub use Rattle.ir_builder_frames.specs.Matching.{HasKind, HasRoom, flag_of}
 pub use Rattle.ir_builder_frames.specs.Placing.{HasType}
 pub use Rattle.ir_builder_frames.specs.Settings.{Setting, rtype_of, setting}
 pub use Rattle.ir_builder_frames.specs.Shaped.{Keeps, KeepsIf}
@@ -23,7 +23,6 @@ pub use Rattle.ir_builder_loops_and_jumps.proofs.SimpleLemmas.{alone_works, glob
 pub use Rattle.ir_builder_loops_and_jumps.specs.Means.{means_alone, means_assignment, means_loop, means_return, means_returned, means_statement, means_suite, means_update, returned_type}
 pub use Rattle.ir_builder_loops_and_jumps.specs.Printing.{Writes, printed}
 pub use Rattle.ir_builder_loops_and_jumps.specs.Runs.{Emitted, OpenIn, Works, all_jumping}
-pub use Rattle.ir_builder_loops_and_jumps.specs.Simple.{Sets, with_value}
 pub use Rattle.ir_builder_loops_and_jumps.specs.Ways.{left, planned}
 pub use Rattle.ir_builder_loops_and_jumps.specs.declared.ways.Exit.{Exit}
 pub use Rattle.ir_builder_loops_and_jumps.specs.declared.ways.LoopStart.{LoopStart}
@@ -32,7 +31,7 @@ pub use Rattle.ir_builder_statements.specs.Kinds.{IsAround}
 pub use Rattle.ir_builder_statements.specs.Parts.{ComputesAs, ComputesReturned, HasFlag, SetsGlobal, SetsLocal, SetsVariable, TakesGlobal, TakesRegister, TurnsInto, reading_of, update_binary}
 pub use Rattle.ir_builder_statements.specs.Suiting.{ActSuits, ArmsSuit, IsOnly, IsVariable, LoopSuits, PrintSuits, ReturnSuits, StatementSuits, SuiteSuits, TestSuits, UpdateSuits, VariableUpdates}
 pub use Rattle.ir_core.specs.Building.{Building, Extends, with_last}
-pub use Rattle.ir_core.specs.Registers.{Holds, Regs}
+pub use Rattle.ir_core.specs.Registers.{Holds}
 pub use Rattle.ir_core.specs.declared.code.Last.TheVariants.{Goto, If, Return}
 pub use Rattle.ir_core.specs.declared.code.Lit.TheVariants.{Number, PyNone}
 pub use Rattle.ir_core.specs.declared.code.Op.TheVariants.{Lit, Move, Prim}
@@ -49,8 +48,8 @@ pub use Rattle.py_typed.specs.declared.expression.TExpr.{TExpr}
 pub use Rattle.py_typed.specs.declared.statement.TStmt.{TStmt, size-TStmt, the_lemmas}
 pub use Rattle.py_typed.specs.declared.statement.Target.{Target}
 pub use Rattle.source_meaning.specs.Operations.{coerced, combined, line_of}
-pub use Rattle.source_meaning.specs.State.{Calls, Does, Gives, Outcome, Raises, State, Stops, give, needs, on_to, put_local, set_local}
+pub use Rattle.source_meaning.specs.State.{Calls, Does, Gives, Outcome, Raises, State, Stops, give, on_to}
 pub use Rattle.std.proofs.Common.{Err, List, None, Ok, OnOk, Option, Result, Some, [], ap, arith, drop, get_or, inl, inr, le_refl, length, map, max, refl, rules, subst, suc, sym, true, zero, ℕ, ◌*◌, ◌++◌, ◌+◌, ◌<◌, ◌∙◌, ◌∷◌, ◌≡◌, ◌≤◌}
 pub use Rattle.std.specs.Option.{option_copied, option_map}
-pub use Rattle.std.specs.Prelude.{if◌then◌else◌, nat_lt, pos, slice_get, slice_set}
+pub use Rattle.std.specs.Prelude.{if◌then◌else◌, pos, slice_get}
 pub use Rattle.value_core.specs.Value.{NoneVal, Value}

@@ -1,5 +1,5 @@
 -- Variables are read and set by their code.
-use Rattle.ir_builder_statements.proofs.Common.{◌≡◌, ℕ, zero, suc, ◌<◌, ◌≤◌, List, [], ◌∷◌, map, get_or, Some, None, refl, sym, ap, ◌∙◌, subst, arith, pos, slice_get, Var, Target, Sort, Variable, TypedModule, TypedTarget, LocalTarget, GlobalTarget, typed_target, variable, Number, Move, Lit, Prim, PArg, Reg, Building, Extends, Setting, rtype_of, HasType, Pushes, flag_of, HasRoom, Surrounding, AreAlike, OpKinds, IsAmong, WritesGlobal, type_kept, get_below, write_fits, is_scalar, Sets, param_set, other_set, global_set, HasFlag, SetsLocal, TakesGlobal, SetsGlobal, TakesRegister, SetsVariable}
+use Rattle.ir_builder_statements.proofs.Common.{◌≡◌, ℕ, zero, suc, ◌<◌, ◌≤◌, List, [], ◌∷◌, map, get_or, Some, None, refl, sym, ap, ◌∙◌, subst, arith, pos, slice_get, Var, Target, Sort, Variable, TypedModule, LocalTarget, GlobalTarget, typed_target, variable, Number, Move, Lit, Prim, PArg, Reg, Building, Extends, Setting, rtype_of, HasType, Pushes, flag_of, HasRoom, Surrounding, AreAlike, OpKinds, IsAmong, WritesGlobal, type_kept, get_below, write_fits, is_scalar, param_set, other_set, global_set, HasFlag, SetsLocal, TakesGlobal, SetsGlobal, TakesRegister, SetsVariable}
 use Rattle.c_core.specs.declared.primitive.Primitive.TheVariants as prim
 use Rattle.c_core.specs.declared.primitive.GlobalPrim.TheVariants as global
 use Rattle.py_typed.specs.declared.statement.Target.TheVariants as declared
@@ -10,9 +10,6 @@ use Rattle.ir_builder_expressions.specs.Reading.{setting_in}
 
 pub type_by : (b : Building) (r : ℕ) (t u : Sort) → t ≡ u → HasType b r (rtype_of t) → HasType b r (rtype_of u)
 type_by b r t u e h = let P : Sort → Type 0 = λ z. HasType b r (rtype_of z) in subst P e h
-
-sets_by : (x : Setting) (target : TypedTarget) (r : ℕ) (t u : Sort) (b c : Building) → t ≡ u → Sets x target t r b c → Sets x target u r b c
-sets_by x target r t u b c e h = let P : Sort → Type 0 = λ z. Sets x target z r b c in subst P e h
 
 -- ---- a variable of the function is set
 
@@ -92,7 +89,7 @@ module _ (m : TypedModule) (frame : Frame) (t : Target) (r : Reg) (b c : Buildin
   local_set k is q =
       let P : Target → Type 0 = λ z. SetsVariable m frame (typed_target z) r.0 b c in
       subst P (sym is)
-      (λ vs u room v type. sets_by (setting_in m vs frame) (LocalTarget k) r.0 v.0.1 u b c v.2 (q (setting_in m vs frame) v.0 refl room v.1 (type_by b r.0 u v.0.1 (sym v.2) type)))
+      (λ vs u room v type. q (setting_in m vs frame) v.0 refl room v.1 (type_by b r.0 u v.0.1 (sym v.2) type))
 
   pub global_takes : (i : ℕ) → t ≡ declared.Global i → TakesRegister m frame (typed_target t) r.0 b → TakesGlobal m i r.0 b
   global_takes i is h =
@@ -105,4 +102,4 @@ module _ (m : TypedModule) (frame : Frame) (t : Target) (r : Reg) (b c : Buildin
   global_put i is q =
       let P : Target → Type 0 = λ z. SetsVariable m frame (typed_target z) r.0 b c in
       subst P (sym is)
-      (λ vs u room v type. sets_by (setting_in m vs frame) (GlobalTarget i) r.0 v.0.1 u b c v.2 (q (setting_in m vs frame) v.0 refl v.1 (type_by b r.0 u v.0.1 (sym v.2) type)))
+      (λ vs u room v type. q (setting_in m vs frame) v.0 refl v.1 (type_by b r.0 u v.0.1 (sym v.2) type))

@@ -36,7 +36,7 @@ HasFlag frame k b =
 -- a value in a register is put into the function's variable of a number, whatever its type is
 abbrev pub SetsLocal : Frame → ℕ → ℕ → Building → Building → Type 0
 SetsLocal frame k r old new =
-    (x : Setting) (v : Variable) → x.frame ≡ frame → HasRoom x old → slice_get x.variables k ≡ Some v → HasType old r (rtype_of v.1) → Sets x (LocalTarget k) v.1 r old new
+    (x : Setting) (v : Variable) → x.frame ≡ frame → HasRoom x old → slice_get x.variables k ≡ Some v → HasType old r (rtype_of v.1) → Sets x (LocalTarget k) r old new
 
 -- the module's variable of a number holds numbers, bools or texts, and a register has its type
 abbrev pub TakesGlobal : TypedModule → ℕ → ℕ → Building → Type 0
@@ -46,7 +46,7 @@ TakesGlobal m i r b =
 -- a value in a register is put into the module's variable of a number
 abbrev pub SetsGlobal : TypedModule → ℕ → ℕ → Building → Building → Type 0
 SetsGlobal m i r old new =
-    (x : Setting) (v : Variable) → x.source ≡ m → slice_get m.globals i ≡ Some v → HasType old r (rtype_of v.1) → Sets x (GlobalTarget i) v.1 r old new
+    (x : Setting) (v : Variable) → x.source ≡ m → slice_get m.globals i ≡ Some v → HasType old r (rtype_of v.1) → Sets x (GlobalTarget i) r old new
 
 -- a target is a variable of numbers, bools or texts, and a register has its type
 abbrev pub TakesRegister : TypedModule → Frame → TypedTarget → ℕ → Building → Type 0
@@ -56,7 +56,7 @@ TakesRegister m frame target r b =
 -- a value in a register is put into the variable that a target is, in whatever function with this frame
 abbrev pub SetsVariable : TypedModule → Frame → TypedTarget → ℕ → Building → Building → Type 0
 SetsVariable m frame target r old new =
-    (vs : List Variable) (t : Sort) → HasRoom (setting_in m vs frame) old → IsVariable m vs None target t → HasType old r (rtype_of t) → Sets (setting_in m vs frame) target t r old new
+    (vs : List Variable) (t : Sort) → HasRoom (setting_in m vs frame) old → IsVariable m vs None target t → HasType old r (rtype_of t) → Sets (setting_in m vs frame) target r old new
 
 -- the expression of a type that reads the variable that a target is
 abbrev pub reading_of : TypedTarget → Sort → Span → TypedExpr

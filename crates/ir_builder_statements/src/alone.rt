@@ -25,7 +25,7 @@ fn emit_printing(b: &mut Emitter, site: Site, values: &[TExpr]) -> Result<(), Me
     requires suits { PrintSuits (setting_of site).source (setting_of site).variables None (exprs_of (map typed_expr values.now)) }
     requires room { HasRoom (setting_of site) b.old }
     ensures kept { Extends b.old b.new }
-    ensures works { OnOk result ((gives : Option Sort) → Works (setting_of site.entry) gives (printed (means_all (setting_of site.entry) (exprs_of (map typed_expr values.now)))) b.old b.new []) }
+    ensures works { OnOk result ((gives : Option Sort) (t : Sort) → Works (setting_of site.entry) gives (printed (setting_of site.entry).source t (means_all (setting_of site.entry) (exprs_of (map typed_expr values.now)))) b.old b.new []) }
     ensures shaped { Keeps b.old b.new }
     ensures kinds { KeepsKindsIf (IsAmong (setting_of site.entry).source) b.old b.new }
     ensures lined { OnOk result (LinedParts (setting_of site.entry) site.entry.line (listed (exprs_of (map typed_expr values.now))) b.old b.new) }

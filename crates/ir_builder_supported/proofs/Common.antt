@@ -17,7 +17,7 @@ pub use Rattle.py_typed.proofs.FitLemmas.{and_left, and_right, one_type}
 pub use Rattle.py_typed.specs.Classes.{ClassEntry, Signature}
 pub use Rattle.py_typed.specs.Expressions.{And, Arith, At, Call, Coerce, Compare, Comparisons, Concat, Cond, Flag, Input, Int, Len, Local, Neg, Not, Nothing, Or, Print, Str, ToStr, Truth, TypedExpr, TypedExprs, TypedNode, comparison_then, comparisons_of, expr_then, exprs_of, no_comparisons, no_exprs, type_of, typed, typed_comparison, typed_expr, typed_node}
 pub use Rattle.py_typed.specs.Fits.{are_same_types, fits, is_nothing, is_number, is_same_type, number_join}
-pub use Rattle.py_typed.specs.Narrowing.{after, bound_suite, facts, is_closed, is_in, part_sorts, without}
+pub use Rattle.py_typed.specs.Narrowing.{after, bound_suite, facts, is_in, part_sorts, without}
 pub use Rattle.py_typed.specs.Sorts.{Sort, sort, sorts_of}
 pub use Rattle.py_typed.specs.Statements.{Arms, Assign, Aug, Break, Continue, Do, GlobalTarget, If, LocalTarget, Pass, Return, TypedAct, TypedFunc, TypedModule, TypedStmt, TypedSuite, TypedTarget, Variable, While, arm_then, arms_of, no_arms, no_stmts, on_line, stmt_then, typed_act, typed_arm, typed_func, typed_module, typed_stmt, typed_suite, variable}
 pub use Rattle.py_typed.specs.WellTyped.{act_typed, all_differ, arms_typed, assignment_fits, is_called_in, is_single, parts_fit, read_type, return_fits, stmt_typed, suite_typed, target_type}

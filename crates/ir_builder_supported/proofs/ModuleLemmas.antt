@@ -1,10 +1,10 @@
 -- A well typed module all of which is compiled is one that is built.
-use Rattle.ir_builder_supported.proofs.Common.{◌≡◌, refl, sym, ◌∙◌, ap, subst, arith, ℕ, zero, suc, ◌+◌, Bool, true, false, List, [], ◌∷◌, ◌++◌, length, map, Option, Some, None, leb-true, or_cases, same_Some, not, ◌&&◌, ◌||◌, nat_le, slice_get, list_any, flat_map, Suite, suite_definitions, ClassEntry, Signature, is_same_type, is_nothing, is_closed, Variable, TypedFunc, TypedModule, init_class, is_called_in, all_differ, suite_typed, and_left, and_right, one_type, Unbuilt, lesser, least, parameter_sorts, is_scalar, is_result, unbuilt, is_none, function_form, suite_forms, are_scalars, is_function, line_or_none, function_forms, functions_forms, function_lines, class_form}
+use Rattle.ir_builder_supported.proofs.Common.{◌≡◌, refl, sym, ◌∙◌, ap, subst, arith, ℕ, zero, suc, ◌+◌, Bool, true, false, List, [], ◌∷◌, ◌++◌, length, map, Option, Some, None, leb-true, same_Some, not, ◌&&◌, ◌||◌, nat_le, slice_get, list_any, flat_map, Suite, suite_definitions, ClassEntry, Signature, is_same_type, Variable, TypedFunc, TypedModule, init_class, is_called_in, all_differ, suite_typed, and_left, and_right, one_type, Unbuilt, lesser, least, parameter_sorts, is_scalar, is_result, unbuilt, is_none, function_form, suite_forms, are_scalars, is_function, line_or_none, function_forms, functions_forms, function_lines, class_form}
 use Rattle.std.proofs.lemmas.List.Folds.{list_any-append}
 use Rattle.std.specs.Str.{bytes_eq}
 use Rattle.c_core.specs.WellFormed.{is_identifier, names_differ}
 use Rattle.c_core.proofs.Lines.{all_at as at_each}
-use Rattle.py_typed.specs.WellTypedModule.{names_of, same_row, all_at, ends_well, parameter_types, signature_fits, variables_typed, func_typed, own_name, is_well_typed}
+use Rattle.py_typed.specs.WellTypedModule.{names_of, same_row, all_at, parameter_types, signature_fits, variables_typed, func_typed, own_name, is_well_typed}
 use Rattle.ir_builder_statements.specs.Modules.{FunctionSuits, ModuleSuits}
 use Rattle.ir_builder_supported.specs.Laws.{CompiledSuits}
 use Rattle.ir_builder_supported.proofs.SuitLemmas.{none_left, none_right, form_of, parts_of, AllScalar, AllSigned, same_sorts}
@@ -88,7 +88,6 @@ module _ (m : TypedModule) where
     pub name : is_identifier f.name ≡ true
     pub variables : variables_typed is_identifier m f.locals ≡ true
     pub signature : signature_fits (slice_get m.classes.signatures n) f ≡ true
-    pub ends : ends_well f ≡ true
     pub body : suite_typed m f.locals (init_class f) (Some f.ret) [] false false f.body ≡ true
 
   parts : (n : ℕ) (f : TypedFunc) → func_typed is_identifier m n f ≡ true → Parts n f
@@ -100,7 +99,6 @@ module _ (m : TypedModule) where
         name = and_left _ _ (and_left _ _ (and_left _ _ (and_left _ _ five)));
         variables = and_right _ _ five;
         signature = and_right _ _ eight;
-        ends = and_right _ _ twelve;
         body = and_right _ _ h;
       }
 
@@ -133,12 +131,9 @@ module _ (m : TypedModule) where
         record {
           name = p.name;
           parameters = leb-true f.params (length f.locals) (and_left (nat_le f.params (length f.locals)) (are_scalars f.locals && is_result f.ret) row);
-          scalars = scalars;
           identifiers = and_left _ _ (and_left _ _ p.variables);
           differ = sym (one_test (names_of f.locals)) ∙ and_right _ _ (and_left _ _ p.variables);
-          result = and_right (are_scalars f.locals) (is_result f.ret) types;
           body = suite_suits m f.locals (init_class f) scalars (all_signed f.locals (init_class f)) (Some f.ret) [] false false f.body p.body form.1;
-          ends = or_cases (is_nothing f.ret) (is_closed f.body) p.ends;
         }
 
     module_suits : suite_forms [] m.globals m.top ≡ [] → ModuleSuits m
@@ -150,6 +145,7 @@ module _ (m : TypedModule) where
         let functions = flat_map (own_name is_identifier m) m.funcs in
         let classes = map (λ (c : ClassEntry). c.name) m.classes.classes in
         record {
+          well_typed = typed;
           functions = function_suits;
           differ =
               sym (one_test (map (λ (f : TypedFunc). f.name) m.funcs))

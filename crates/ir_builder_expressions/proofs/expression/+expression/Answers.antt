@@ -12,11 +12,12 @@ use Rattle.ir_builder_expressions.proofs.UnsuitedLemmas.{applied_left}
 use Rattle.ir_builder_expressions.proofs.AppliedLemmas.{applied_weight, applied_above, one_suits, two_suit, applied_emits}
 use Rattle.ir_builder_expressions.proofs.WalkLemmas.{int_within, int_walked, text_walked, input_walked, flag_walked, local_below, local_walked, global_simple, global_walked, compare_part, compare_rest, compare_walked, call_suits, call_below, call_walked, call_walks}
 use Rattle.ir_builder_expressions.proofs.PieceLemmas.{int_fits, native_is, native_part, own_part, one_emits, two_emit}
-use Rattle.ir_builder_expressions.proofs.ArmLemmas.{emits_as, is_and, is_or, is_cond, and_asked, or_asked, cond_asked}
+use Rattle.ir_builder_expressions.proofs.ArmLemmas.{emits_node, is_int, is_text, is_bool, is_local, is_global, is_input, is_and, is_or, is_cond, and_asked, or_asked, cond_asked}
 use Rattle.ir_builder_expressions.proofs.ChosenLemmas.{arm_asked, arm_there, arm_missing, test_written, tested_type, arm_typed, choice_made}
 use Rattle.ir_builder_frames.proofs.HeldLemmas.{on_ok_map}
+use Rattle.py_typed.specs.Expressions as tree
 use Rattle.ir_builder_expressions.specs.Lined.{LinedParts}
-use Rattle.ir_builder_expressions.proofs.LinedLemmas.{always, ok_lined, ok_to, lined_one, lined_two, lined_node, lined_whole, lined_literal, lined_applied, listed_of, operands_of_all, rest_start, argument_lined, arguments_lined, chain_started, chain_next, chain_over, chain_none, int_lined, text_lined, flag_lined, local_lined, global_lined, input_lined, call_lined, compare_lined, arm_lined, arm_none, choice_lined}
+use Rattle.ir_builder_expressions.proofs.LinedLemmas.{always, lined_leaf, ok_lined, ok_to, lined_one, lined_two, lined_node, lined_whole, lined_literal, lined_applied, listed_of, operands_of_all, rest_start, argument_lined, arguments_lined, chain_started, chain_next, chain_over, chain_none, call_lined, compare_lined, arm_lined, arm_none, choice_lined}
 use Rattle.ir_builder_expressions.proofs.expression.+expression.Goals as goal
 
 pub emit_expression-emit_side-requires : goal.emit_expression-emit_side-requires
@@ -52,14 +53,14 @@ emit_expression-returns-in-Int t c =
     let e = c.emit_int.ensures in
     let number = to_z-of_z w128 c.in-Int.n (int_fits c.in-Int.n (int_within x c.args.e.now c.requires.suits c.in-Int.n c.in-Int.is)) in
     let made : IfOk c.emit_int.result (λ r. Makes c.args.b.now c.emit_int.new.b r.0 rtype.Int (λ regs h. h ≡ Holds (IntVal c.in-Int.n))) = rw number at e.made in
-    record { lined = always _ _ (int_lined x c.args.e.now c.in-Int.n _ _ c.in-Int.is e.kept e.lined); kept = e.kept; emitted = ok_map _ _ _ (λ (r : Reg) a. int_walked x c.args.e.now c.requires.suits c.in-Int.n _ _ r.0 c.in-Int.is a) made; shaped = e.shaped; kinds = λ g among h. e.kinds g h }
+    record { lined = always _ _ (lined_leaf x c.args.e.now (tree.Int c.in-Int.n) _ _ (is_int c.args.e.now c.in-Int.n c.in-Int.is) refl e.kept e.lined); kept = e.kept; emitted = ok_map _ _ _ (λ (r : Reg) a. int_walked x c.args.e.now c.requires.suits c.in-Int.n _ _ r.0 c.in-Int.is a) made; shaped = e.shaped; kinds = λ g among h. e.kinds g h }
 
 pub emit_expression-returns-in-Str : goal.emit_expression-returns-in-Str
 emit_expression-returns-in-Str t c =
     let x : Setting = setting_of c.args.site in
     let e = c.emit_text.ensures in
     let made : IfOk c.emit_text.result (λ r. Makes c.args.b.now c.emit_text.new.b r.0 rtype.Ref (λ regs h. h ≡ Holds (StrVal c.in-Str.text))) = rw c.as_str.ensures at e.made in
-    record { lined = always _ _ (text_lined x c.args.e.now c.in-Str.text _ _ c.in-Str.is e.kept e.lined); kept = e.kept; emitted = ok_map _ _ _ (λ (r : Reg) a. text_walked x c.args.e.now c.requires.suits c.in-Str.text _ _ r.0 c.in-Str.is a) made; shaped = e.shaped; kinds = λ g among h. e.kinds g h }
+    record { lined = always _ _ (lined_leaf x c.args.e.now (tree.Str c.in-Str.text) _ _ (is_text c.args.e.now c.in-Str.text c.in-Str.is) refl e.kept e.lined); kept = e.kept; emitted = ok_map _ _ _ (λ (r : Reg) a. text_walked x c.args.e.now c.requires.suits c.in-Str.text _ _ r.0 c.in-Str.is a) made; shaped = e.shaped; kinds = λ g among h. e.kinds g h }
 
 pub emit_expression-emit_global_value-requires : goal.emit_expression-emit_global_value-requires
 emit_expression-emit_global_value-requires t c =
@@ -70,13 +71,13 @@ pub emit_expression-returns-in-Global : goal.emit_expression-returns-in-Global
 emit_expression-returns-in-Global t c =
     let x : Setting = setting_of c.args.site in
     let e = c.emit_global_value.ensures in
-    record { lined = always _ _ (global_lined x c.args.e.now c.in-Global.i _ _ c.in-Global.is e.kept e.lined); kept = e.kept; emitted = ok_map _ _ _ (λ (r : Reg) q. global_walked x c.args.e.now c.requires.suits c.in-Global.i _ _ r.0 c.in-Global.is c.requires.room q) e.emitted; shaped = e.shaped; kinds = e.kinds }
+    record { lined = always _ _ (lined_leaf x c.args.e.now (tree.Global c.in-Global.i) _ _ (is_global c.args.e.now c.in-Global.i c.in-Global.is) refl e.kept e.lined); kept = e.kept; emitted = ok_map _ _ _ (λ (r : Reg) q. global_walked x c.args.e.now c.requires.suits c.in-Global.i _ _ r.0 c.in-Global.is c.requires.room q) e.emitted; shaped = e.shaped; kinds = e.kinds }
 
 pub emit_expression-returns-in-Input : goal.emit_expression-returns-in-Input
 emit_expression-returns-in-Input t c =
     let x : Setting = setting_of c.args.site in
     let e = c.emit_input.ensures in
-    record { lined = always _ _ (input_lined x c.args.e.now _ _ c.in-Input.is e.kept e.lined); kept = e.kept; emitted = ok_map _ _ _ (λ (r : Reg) a. input_walked x c.args.e.now c.requires.suits _ _ r.0 c.in-Input.is c.requires.room a) e.made; shaped = e.shaped; kinds = λ g among h. e.kinds g h }
+    record { lined = always _ _ (lined_leaf x c.args.e.now tree.Input _ _ (is_input c.args.e.now c.in-Input.is) refl e.kept e.lined); kept = e.kept; emitted = ok_map _ _ _ (λ (r : Reg) a. input_walked x c.args.e.now c.requires.suits _ _ r.0 c.in-Input.is c.requires.room a) e.made; shaped = e.shaped; kinds = λ g among h. e.kinds g h }
 
 pub emit_expression-emit_applied-requires : goal.emit_expression-emit_applied-requires
 emit_expression-emit_applied-requires t c =
@@ -129,7 +130,7 @@ emit_expression-returns-in-Bool t c =
     let x : Setting = setting_of c.args.site in
     let e = c.literal.ensures in
     let fits : LiteralFits rtype.Bool c.truth.result = rw c.truth.ensures (truth_fits c.in-Bool.value) in
-    record { lined = always _ _ (flag_lined x c.args.e.now c.in-Bool.value _ _ c.in-Bool.is e.kept e.lined); kept = e.kept; emitted = ok_map _ _ _ (λ (r : Reg) a. flag_walked x c.args.e.now c.requires.suits c.in-Bool.value _ _ r.0 c.in-Bool.is a) (rw c.truth.ensures at e.added); shaped = e.shaped; kinds = λ g among h. e.kinds g fits h }
+    record { lined = always _ _ (lined_leaf x c.args.e.now (tree.Flag c.in-Bool.value) _ _ (is_bool c.args.e.now c.in-Bool.value c.in-Bool.is) refl e.kept e.lined); kept = e.kept; emitted = ok_map _ _ _ (λ (r : Reg) a. flag_walked x c.args.e.now c.requires.suits c.in-Bool.value _ _ r.0 c.in-Bool.is a) (rw c.truth.ensures at e.added); shaped = e.shaped; kinds = λ g among h. e.kinds g fits h }
 
 pub emit_expression-emit_local-requires-clause-there : goal.emit_expression-emit_local-requires-clause-there
 emit_expression-emit_local-requires-clause-there t c =
@@ -143,7 +144,7 @@ pub emit_expression-returns-in-Local : goal.emit_expression-returns-in-Local
 emit_expression-returns-in-Local t c =
     let x : Setting = setting_of c.args.site in
     let e = c.emit_local.ensures in
-    record { lined = always _ _ (local_lined x c.args.e.now c.in-Local.i _ _ c.in-Local.is e.kept e.lined); kept = e.kept; emitted = ok_join _ _ _ _ (λ (r : Reg) is q. local_walked x c.args.e.now c.requires.suits c.in-Local.i _ _ r.0 c.in-Local.is is q) e.is e.emitted; shaped = e.shaped; kinds = λ g among h. e.kinds g h }
+    record { lined = always _ _ (lined_leaf x c.args.e.now (tree.Local c.in-Local.i) _ _ (is_local c.args.e.now c.in-Local.i c.in-Local.is) refl e.kept e.lined); kept = e.kept; emitted = ok_join _ _ _ _ (λ (r : Reg) is q. local_walked x c.args.e.now c.requires.suits c.in-Local.i _ _ r.0 c.in-Local.is is q) e.is e.emitted; shaped = e.shaped; kinds = λ g among h. e.kinds g h }
 
 pub emit_expression-emit_choice-requires : goal.emit_expression-emit_choice-requires
 emit_expression-emit_choice-requires t c =
@@ -160,7 +161,7 @@ emit_expression-returns-in-And t c =
     let w = c.emit_choice.ensures.walked in
     let emitted : IfOk c.emit_choice.result (λ r. EmitsChoice x (sort c.args.e.now.ty) (typed_expr c.in-And.x.value) (Some (typed_expr c.in-And.y.value)) None c.args.b.now c.emit_choice.new.b r.0) = rw (c.deref-in-And.ensures, c.deref-in-And-2.ensures) at c.emit_choice.ensures.emitted in
     let parts : OnOk c.emit_choice.result (LinedParts x c.args.e.now.span.line (typed_expr c.in-And.x.value ∷ typed_expr c.in-And.y.value ∷ []) c.args.b.now c.emit_choice.new.b) = rw (c.deref-in-And.ensures, c.deref-in-And-2.ensures) at c.emit_choice.ensures.lined in
-    record { lined = on_ok_map _ _ _ (λ z. lined_node x c.args.e.now (And (typed_expr c.in-And.x.value) (typed_expr c.in-And.y.value)) _ _ (is_and c.args.e.now c.in-And.x c.in-And.y c.in-And.is) z) parts; kept = w.kept; emitted = ok_map _ _ _ (λ (r : Reg) q. emits_as x c.args.e.now (And (typed_expr c.in-And.x.value) (typed_expr c.in-And.y.value)) (sort c.args.e.now.ty) _ _ r.0 (is_and c.args.e.now c.in-And.x c.in-And.y c.in-And.is) refl q) emitted; shaped = w.shaped; kinds = w.kinds }
+    record { lined = on_ok_map _ _ _ (λ z. lined_node x c.args.e.now (And (typed_expr c.in-And.x.value) (typed_expr c.in-And.y.value)) _ _ (is_and c.args.e.now c.in-And.x c.in-And.y c.in-And.is) z) parts; kept = w.kept; emitted = ok_map _ _ _ (λ (r : Reg) q. emits_node x c.args.e.now (And (typed_expr c.in-And.x.value) (typed_expr c.in-And.y.value)) (sort c.args.e.now.ty) _ _ r.0 (is_and c.args.e.now c.in-And.x c.in-And.y c.in-And.is) refl q) emitted; shaped = w.shaped; kinds = w.kinds }
 
 pub emit_expression-emit_choice-requires-in-Or : goal.emit_expression-emit_choice-requires-in-Or
 emit_expression-emit_choice-requires-in-Or t c =
@@ -177,7 +178,7 @@ emit_expression-returns-in-Or t c =
     let w = c.emit_choice-in-Or.ensures.walked in
     let emitted : IfOk c.emit_choice-in-Or.result (λ r. EmitsChoice x (sort c.args.e.now.ty) (typed_expr c.in-Or.x.value) None (Some (typed_expr c.in-Or.y.value)) c.args.b.now c.emit_choice-in-Or.new.b r.0) = rw (c.deref-in-Or.ensures, c.deref-in-Or-2.ensures) at c.emit_choice-in-Or.ensures.emitted in
     let parts : OnOk c.emit_choice-in-Or.result (LinedParts x c.args.e.now.span.line (typed_expr c.in-Or.x.value ∷ typed_expr c.in-Or.y.value ∷ []) c.args.b.now c.emit_choice-in-Or.new.b) = rw (c.deref-in-Or.ensures, c.deref-in-Or-2.ensures) at c.emit_choice-in-Or.ensures.lined in
-    record { lined = on_ok_map _ _ _ (λ z. lined_node x c.args.e.now (Or (typed_expr c.in-Or.x.value) (typed_expr c.in-Or.y.value)) _ _ (is_or c.args.e.now c.in-Or.x c.in-Or.y c.in-Or.is) z) parts; kept = w.kept; emitted = ok_map _ _ _ (λ (r : Reg) q. emits_as x c.args.e.now (Or (typed_expr c.in-Or.x.value) (typed_expr c.in-Or.y.value)) (sort c.args.e.now.ty) _ _ r.0 (is_or c.args.e.now c.in-Or.x c.in-Or.y c.in-Or.is) refl q) emitted; shaped = w.shaped; kinds = w.kinds }
+    record { lined = on_ok_map _ _ _ (λ z. lined_node x c.args.e.now (Or (typed_expr c.in-Or.x.value) (typed_expr c.in-Or.y.value)) _ _ (is_or c.args.e.now c.in-Or.x c.in-Or.y c.in-Or.is) z) parts; kept = w.kept; emitted = ok_map _ _ _ (λ (r : Reg) q. emits_node x c.args.e.now (Or (typed_expr c.in-Or.x.value) (typed_expr c.in-Or.y.value)) (sort c.args.e.now.ty) _ _ r.0 (is_or c.args.e.now c.in-Or.x c.in-Or.y c.in-Or.is) refl q) emitted; shaped = w.shaped; kinds = w.kinds }
 
 pub emit_expression-emit_choice-requires-in-Cond : goal.emit_expression-emit_choice-requires-in-Cond
 emit_expression-emit_choice-requires-in-Cond t c =
@@ -195,7 +196,7 @@ emit_expression-returns-in-Cond t c =
     let w = c.emit_choice-in-Cond.ensures.walked in
     let emitted : IfOk c.emit_choice-in-Cond.result (λ r. EmitsChoice x (sort c.args.e.now.ty) (typed_expr c.in-Cond.test.value) (Some (typed_expr c.in-Cond.x.value)) (Some (typed_expr c.in-Cond.y.value)) c.args.b.now c.emit_choice-in-Cond.new.b r.0) = rw (c.deref-in-Cond.ensures, c.deref-in-Cond-2.ensures, c.deref-in-Cond-3.ensures) at c.emit_choice-in-Cond.ensures.emitted in
     let parts : OnOk c.emit_choice-in-Cond.result (LinedParts x c.args.e.now.span.line (typed_expr c.in-Cond.test.value ∷ typed_expr c.in-Cond.x.value ∷ typed_expr c.in-Cond.y.value ∷ []) c.args.b.now c.emit_choice-in-Cond.new.b) = rw (c.deref-in-Cond.ensures, c.deref-in-Cond-2.ensures, c.deref-in-Cond-3.ensures) at c.emit_choice-in-Cond.ensures.lined in
-    record { lined = on_ok_map _ _ _ (λ z. lined_node x c.args.e.now (Cond (typed_expr c.in-Cond.x.value) (typed_expr c.in-Cond.test.value) (typed_expr c.in-Cond.y.value)) _ _ (is_cond c.args.e.now c.in-Cond.x c.in-Cond.test c.in-Cond.y c.in-Cond.is) z) parts; kept = w.kept; emitted = ok_map _ _ _ (λ (r : Reg) q. emits_as x c.args.e.now (Cond (typed_expr c.in-Cond.x.value) (typed_expr c.in-Cond.test.value) (typed_expr c.in-Cond.y.value)) (sort c.args.e.now.ty) _ _ r.0 (is_cond c.args.e.now c.in-Cond.x c.in-Cond.test c.in-Cond.y c.in-Cond.is) refl q) emitted; shaped = w.shaped; kinds = w.kinds }
+    record { lined = on_ok_map _ _ _ (λ z. lined_node x c.args.e.now (Cond (typed_expr c.in-Cond.x.value) (typed_expr c.in-Cond.test.value) (typed_expr c.in-Cond.y.value)) _ _ (is_cond c.args.e.now c.in-Cond.x c.in-Cond.test c.in-Cond.y c.in-Cond.is) z) parts; kept = w.kept; emitted = ok_map _ _ _ (λ (r : Reg) q. emits_node x c.args.e.now (Cond (typed_expr c.in-Cond.x.value) (typed_expr c.in-Cond.test.value) (typed_expr c.in-Cond.y.value)) (sort c.args.e.now.ty) _ _ r.0 (is_cond c.args.e.now c.in-Cond.x c.in-Cond.test c.in-Cond.y c.in-Cond.is) refl q) emitted; shaped = w.shaped; kinds = w.kinds }
 
 pub emit_expression-emit_arguments-requires : goal.emit_expression-emit_arguments-requires
 emit_expression-emit_arguments-requires t c =

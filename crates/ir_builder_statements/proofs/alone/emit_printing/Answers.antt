@@ -18,7 +18,7 @@ pub returns-clause-works : goal.returns-clause-works
 returns-clause-works c =
     let x : Setting = setting_of c.args.site in
     let P : List Reg → Type 0 = λ z. Writes (map type_of (map typed_expr c.args.values.now)) z c.emit_arguments.new.b c.emit_print.new.b line_of in
-    on_ok_map _ _ _ (λ w. printing_code x c.args.values.now _ _ _ c.in_ok-regs.regs c.requires.suits c.requires.room c.in_ok-regs.ensures.emitted (subst P c.as_slice.ensures w)) c.emit_print.ensures.writes
+    on_ok_map _ _ _ (λ w. printing_code x c.args.values.now _ _ _ c.in_ok-regs.regs c.requires.room c.in_ok-regs.ensures.emitted (subst P c.as_slice.ensures w)) c.emit_print.ensures.writes
 
 pub returns-clause-lined : goal.returns-clause-lined
 returns-clause-lined c = always _ _ (lined_then c.in_ok-regs.ensures.lined (around_by c.args.site.line _ _ c.emit_print.ensures.kept c.emit_print.ensures.lined))

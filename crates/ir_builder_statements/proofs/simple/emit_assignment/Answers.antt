@@ -13,7 +13,7 @@ emit_set-requires c =
 pub returns-clause-works : goal.returns-clause-works
 returns-clause-works c =
     let x : Setting = setting_of c.args.site in
-    on_ok_map _ _ _ (λ q. assignment_code x c.args.targets.now c.index-targets-0.result (typed_expr c.args.e.now) _ _ _ c.in_ok-r.r c.index-targets-0.is c.requires.target c.requires.room c.in_ok-r.ensures.emitted q) c.emit_set.ensures.sets
+    on_ok_map _ _ _ (λ q. assignment_code x c.args.targets.now c.index-targets-0.result (typed_expr c.args.e.now) _ _ _ c.in_ok-r.r c.requires.simple c.index-targets-0.is c.requires.target c.requires.room c.in_ok-r.ensures.emitted q) c.emit_set.ensures.sets
 
 pub returns-clause-lined : goal.returns-clause-lined
 returns-clause-lined c =
