@@ -147,7 +147,7 @@ method_inside w f class = record {
   next_init = option_and_then w.next_init class;
 }
 
--- a trait without a type has no `__init__`: what is named so is a method like others
+-- for `super().__init__` a trait without a type has no `__init__`; nothing else hangs on that in a class without a type
 abbrev pub trait_inside : Headed → Inside
 trait_inside f = record { class = None; first = first_name f.tree.params; is_init = false; declaring = λ name. None; next_init = None }
 

@@ -68,7 +68,7 @@ fn typed_function(
 {
     let names = names_in(alloc, module_context.known, f.inside)?;
     let first = first_name(f.tree.params.as_slice());
-    // A trait without a type has no `__init__`: what is named so is a method like others.
+    // For `super().__init__` a trait without a type has no `__init__`; nothing else hangs on that in a class without a type.
     let inside = match f.header.owner {
         Owner::Module => None,
         Owner::Class(class) => Some(py_check_context::Inside {

@@ -39,6 +39,7 @@ abbrev pub has_type : Option Header → Bool
 has_type (Some (Typed s)) = true
 has_type _ = false
 
+-- a trait with a type
 abbrev pub is_a_trait : Option Header → Bool
 is_a_trait (Some (Typed s)) = s.is_trait
 is_a_trait _ = false

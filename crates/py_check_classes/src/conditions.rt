@@ -162,6 +162,7 @@ fn is_trait_at(headers: &[Header], class: usize) -> bool
     is_a_trait(headers.get(class))
 }
 
+// Whether this is the header of a trait with a type.
 fn is_a_trait(header: Option<&Header>) -> bool
     ensures { result ≡ spec.is_a_trait (option_copied header.entry) }
 {

@@ -26,7 +26,7 @@ pub record Context : Type 0 where
   -- by the numbers of functions: some have none
   pub signatures : List (Option Signature)
   pub classes : List ClassEntry
-  -- what the class of a number has under a name: its own, or else the first above it
+  -- what a class has under a name: the first along its order that is declared, or else the first attribute that nothing declares
   pub member : ℕ → List ℕ → Option Member
   -- and the function of its `__init__`
   pub init : ℕ → Option ℕ

@@ -10,10 +10,10 @@ use Rattle.py_check_classes.specs.Headers.{has_type, is_untyped_trait, module_he
 
 -- where classes have these headers
 module _ (headers : List Header) where
-  -- whose the methods of the class of a number are
   abbrev pub untyped_owner : ℕ → Owner
   untyped_owner n = if is_untyped_trait (slice_get headers n) then UntypedTrait else Class None
 
+  -- whose the methods of the class of a number are
   abbrev pub class_owner : ℕ → Owner
   class_owner n = if has_type (slice_get headers n) then Class (Some n) else untyped_owner n
 

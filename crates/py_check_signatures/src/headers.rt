@@ -22,7 +22,7 @@ use value_core::{Many, Memory, Name};
 pub enum Owner {
     /// In the module.
     Module,
-    /// In a class, by its number, where that has a type.
+    /// In a class, by its number, where that has a type; `None` is a class without a type that is no trait.
     Class(Option<usize>),
     /// In a class that is marked `trait` and has no type.
     UntypedTrait,
