@@ -5,7 +5,6 @@ use Rattle.std.specs.List.{position_or_len}
 use Rattle.std.specs.Option.{option_map, option_map_or, option_and_then}
 use Rattle.std.specs.Str.{bytes_eq}
 use Rattle.std.proofs.lemmas.List.{length-map}
-use Rattle.value_core.specs.Exceptions.{Thrown}
 use Rattle.value_core.specs.Items.{Items}
 use Rattle.value_core.specs.Value.{Value}
 use Rattle.c_core.specs.declared.code.CClass.{CClass}
@@ -16,18 +15,18 @@ use Rattle.ir_core.specs.declared.code.RType.{RType}
 use Rattle.ir_core.specs.declared.code.Op.{Op}
 use Rattle.ir_core.specs.declared.code.Op.TheVariants.{Move, Lit, Prim, Call, Virtual, TraitCall, Turn, Inc, Dec, XDec}
 use Rattle.ir_core.specs.declared.code.Last.{Last}
-use Rattle.ir_core.specs.declared.code.Last.TheVariants.{Goto, If, IfError, Return, Unreachable}
+use Rattle.ir_core.specs.declared.code.Last.TheVariants.{If, IfError, Return}
 use Rattle.ir_core.specs.declared.code.Block.{Block}
 use Rattle.ir_core.specs.declared.code.Func.{Func}
 use Rattle.ir_core.specs.declared.code.Program.{Program}
 use Rattle.ir_core.specs.declared.kind.Edge.{Edge}
-use Rattle.ir_core.specs.declared.kind.Edge.TheVariants.{NoEdge, Tests, TestsTwice, Jumps}
+use Rattle.ir_core.specs.declared.kind.Edge.TheVariants.{NoEdge}
 use Rattle.ir_core.specs.Items.{Item, Do, End, item_of, item_in, handler_of, blocks_of}
 use Rattle.ir_core.specs.Rows.{Declared, type_of_reg, edge_of_call, edge_of_prim}
 use Rattle.ir_core.specs.Registers.{Held, Holds, error_of, is_error, literal_of, put, look, first_regs}
 use Rattle.ir_core.specs.Names.{function_id, is_called, function_called}
-use Rattle.ir_core.specs.Effects.{World, Effect, Wrong, Gives, Acts, Fails, Ends, IfTarget, IfWritten, effect}
-use Rattle.ir_core.specs.Meaning.{Frame, Waiting, Config, Runs, Leaves, Ended, Stuck, Fitting, if_some, if_calm, next, to_block, goes, read, read_all, arguments, is_refused, is_fit, Way, Well, Badly, Wrongly, way, is_edge, may_stand, typed, chosen, declared_of, registers_of, item_at, method_of, trait_name, class_of, enters, calls, calls_method, failed, succeeds, applied, returned, leave, do_op, do_last, act, step, steps}
+use Rattle.ir_core.specs.Effects.{World, Effect, Gives, Fails, effect}
+use Rattle.ir_core.specs.Meaning.{Frame, Waiting, Config, Runs, Leaves, Stuck, Fitting, if_some, if_calm, next, to_block, goes, read, read_all, arguments, is_refused, is_fit, Way, Well, Badly, Wrongly, way, is_edge, may_stand, typed, chosen, declared_of, registers_of, item_at, method_of, trait_name, class_of, enters, calls, calls_method, failed, succeeds, applied, returned, leave, do_op, do_last, act, step, steps}
 use Rattle.ir_core.specs.Runs.{first_world, begins, start, ComesTo, MeansSame, Fit}
 use Rattle.ir_core.specs.Lower.{call_name, called_as, block_lines, lines_from, lowered_as, name_in, lowered_from, lower}
 use Rattle.ir_core.specs.Shape.{BlocksFit, FuncFits, FuncsFit, BeginsInTurn, Shape}
@@ -48,9 +47,6 @@ same_go (Some a) go go' h = h a
 by_map : {A B : Type 0} (f : A → B) (o : Option A) (go : B → Config) (go' : A → Config) → ((a : A) → go (f a) ≡ go' a) → if_some (option_map f o) go ≡ if_some o go'
 by_map f None go go' h = refl
 by_map f (Some a) go go' h = h a
-
-same_calm : (o : Option Thrown) (a b : Config) → a ≡ b → if_calm o a ≡ if_calm o b
-same_calm o a b e = ap (if_calm o) e
 
 -- ---- the items of blocks
 pub items_bare : (blocks : List Block) (k i : ℕ) → item_in (bare_blocks blocks) k i ≡ item_in blocks k i
@@ -114,9 +110,7 @@ module _ (p : Program) where
   -- ---- each step
   failed_same : (e : Edge) (f : Frame) (below : List Waiting) (w : World) → failed Fitting q e f below w ≡ failed Fitting p e f below w
   failed_same NoEdge f below w = refl
-  failed_same (Tests r) f below w = ap (λ at. cond (is_edge at (Tests r) (at f.block f.place)) (Runs f below w) Stuck) (items f.fn)
-  failed_same (TestsTwice r) f below w = ap (λ at. cond (is_edge at (TestsTwice r) (at f.block f.place)) (Runs f below w) Stuck) (items f.fn)
-  failed_same Jumps f below w = ap (λ at. cond (is_edge at Jumps (at f.block f.place)) (Runs f below w) Stuck) (items f.fn)
+  failed_same e f below w = ap (λ at. cond (is_edge at e (at f.block f.place)) (Runs f below w) Stuck) (items f.fn)
 
   returned_same : (v : Way) (h : Held) (below : List Waiting) (w : World) → returned Fitting q v h below w ≡ returned Fitting p v h below w
   returned_same v h [] w = refl
@@ -128,23 +122,13 @@ module _ (p : Program) where
   returned_same Wrongly h (c ∷ cs) w = refl
 
   applied_same : (e : Edge) (to : Option Reg) (f : Frame) (below : List Waiting) (x : Effect) → applied Fitting q e to f below x ≡ applied Fitting p e to f below x
-  applied_same e None f below Wrong = refl
-  applied_same e (Some r) f below Wrong = refl
-  applied_same e None f below (Gives v w) = refl
   applied_same e (Some r) f below (Gives v w) =
       ap (λ (ds : Declared). if_some (type_of_reg ds r) (λ t. succeeds Fitting p e f below (put f.regs r.0 (Holds v)) w)) (registers f.fn)
-  applied_same e None f below (Acts w) = refl
-  applied_same e (Some r) f below (Acts w) = refl
   applied_same e None f below (Fails x w) = failed_same e (next f f.regs) below (record w { pending = Some x })
   applied_same e (Some r) f below (Fails x w) =
       ap (λ (ds : Declared). if_some (type_of_reg ds r) (λ t. failed Fitting q e (next f (put f.regs r.0 (error_of t))) below (record w { pending = Some x }))) (registers f.fn)
       ∙ same_go (type_of_reg (registers_of p f.fn) r) _ _ (λ t. failed_same e (next f (put f.regs r.0 (error_of t))) below (record w { pending = Some x }))
-  applied_same e None f below (Ends x w) = refl
-  applied_same e (Some r) f below (Ends x w) = refl
-  applied_same e None f below (IfTarget k x) = refl
-  applied_same e (Some r) f below (IfTarget k x) = refl
-  applied_same e None f below (IfWritten k x) = refl
-  applied_same e (Some r) f below (IfWritten k x) = refl
+  applied_same e _ f below _ = refl
 
   enters_same : (r : Reg) (args : List Reg) (f : Frame) (below : List Waiting) (w : World) (g : ℕ) → enters q r args f below w g ≡ enters p r args f below w g
   enters_same r args f below w g =
@@ -154,7 +138,7 @@ module _ (p : Program) where
 
   calls_same : (r : Reg) (args : List Reg) (f : Frame) (below : List Waiting) (w : World) (g : Option ℕ) → calls q r args f below w g ≡ calls p r args f below w g
   calls_same r args f below w g =
-      same_calm w.pending _ _ (same_go g (enters q r args f below w) (enters p r args f below w) (enters_same r args f below w))
+      ap (if_calm w.pending) (same_go g (enters q r args f below w) (enters p r args f below w) (enters_same r args f below w))
 
   method_same : (w : World) (v : Value) (entry : CClass → Option (List ℕ)) → method_of q w v entry ≡ method_of p w v entry
   method_same w v entry = by (option_and_then (λ c. option_and_then entry (slice_get p.classes c)) (class_of w.store v))
@@ -192,7 +176,6 @@ module _ (p : Program) where
   leave_same t h below w = returned_same (way t h w.pending) h below w
 
   last_same : (l : Last) (f : Frame) (below : List Waiting) (w : World) → do_last Fitting q l f below w ≡ do_last Fitting p l f below w
-  last_same (Goto t) f below w = refl
   last_same (If r a b) f below w =
       ap (λ (ds : Declared). if_some (type_of_reg ds r) (λ t. chosen t (f.regs r.0) (to_block f a below w) (to_block f b below w))) (registers f.fn)
   last_same (IfError r a b line) f below w =
@@ -200,7 +183,7 @@ module _ (p : Program) where
   last_same (Return r) f below w =
       ap (λ o. if_some o (λ (g : Func). if_some (look g.regs f.regs r) (λ h. leave Fitting q g.ret h below w))) (func_at f.fn)
       ∙ by_map bare (slice_get p.funcs f.fn) (λ g. if_some (look g.regs f.regs r) (λ h. leave Fitting q g.ret h below w)) (λ g. if_some (look g.regs f.regs r) (λ h. leave Fitting p g.ret h below w)) (λ g. same_go (look g.regs f.regs r) _ _ (λ h. leave_same g.ret h below w))
-  last_same Unreachable f below w = refl
+  last_same _ f below w = refl
 
   act_same : (o : Option Item) (f : Frame) (below : List Waiting) (w : World) → act Fitting q o f below w ≡ act Fitting p o f below w
   act_same None f below w = refl
@@ -213,8 +196,7 @@ module _ (p : Program) where
   step_same (Leaves fn below w) =
       ap (λ o. if_some o (λ (g : Func). leave Fitting q g.ret (error_of g.ret) below w)) (func_at fn)
       ∙ by_map bare (slice_get p.funcs fn) (λ g. leave Fitting q g.ret (error_of g.ret) below w) (λ g. leave Fitting p g.ret (error_of g.ret) below w) (λ g. leave_same g.ret (error_of g.ret) below w)
-  step_same (Ended e w) = refl
-  step_same Stuck = refl
+  step_same _ = refl
 
   steps_same : (n : ℕ) (c : Config) → steps Fitting q n c ≡ steps Fitting p n c
   steps_same zero c = refl

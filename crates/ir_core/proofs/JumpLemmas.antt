@@ -7,13 +7,13 @@ use Rattle.c_core.specs.declared.code.Line.TheVariants as line
 use Rattle.c_core.specs.Functions.{label_places, is_turn}
 use Rattle.c_core.specs.WellFormed.{goes_down, goes_on, jump_fits, jumps_fit, is_leaving}
 use Rattle.ir_core.specs.declared.code.Op.{Op}
-use Rattle.ir_core.specs.declared.code.Op.TheVariants.{Move, Lit, Prim, Call, Virtual, TraitCall, Turn, Inc, Dec, XDec}
+use Rattle.ir_core.specs.declared.code.Op.TheVariants.{Move, Prim}
 use Rattle.ir_core.specs.declared.code.Last.{Last}
 use Rattle.ir_core.specs.declared.code.Last.TheVariants.{Goto, If, IfError, Return, Unreachable}
 use Rattle.ir_core.specs.declared.code.Block.{Block}
 use Rattle.ir_core.specs.declared.code.Program.{Program}
 use Rattle.ir_core.specs.Lower.{line_of, op_lines, label_before, label_of, end_lines, block_lines, lines_from}
-use Rattle.ir_core.specs.Shape.{ends_in_turn, LastFits, BlockFits, BlocksFit}
+use Rattle.ir_core.specs.Shape.{ends_in_turn, IsHigher, LastFits, BlockFits, BlocksFit}
 use Rattle.ir_core.specs.Shape as shape
 use Rattle.std.proofs.lemmas.List.{length-map}
 use Rattle.ir_core.proofs.LowerLemmas.{place_of, labelled}
@@ -40,15 +40,7 @@ module _ (p : Program) where
 
   turn_line : (o : Op) → shape.is_turn o ≡ true → is_turn (line_of p o) ≡ true
   turn_line (Move r s) e = e
-  turn_line (Lit r l) e = e
-  turn_line (Prim to q args) e = e
-  turn_line (Call r g args) e = e
-  turn_line (Virtual r o n args) e = e
-  turn_line (TraitCall r o t n args) e = e
-  turn_line Turn e = e
-  turn_line (Inc r) e = e
-  turn_line (Dec r) e = e
-  turn_line (XDec r) e = e
+  turn_line _ e = e
 
   turn_after : (a : Bool) (ops : List (Op × ℕ)) → ends_in_turn ops ≡ true → after a ops ≡ true
   turn_after a [] e = absurd (cc)
@@ -63,15 +55,7 @@ module _ (p : Program) where
   module _ (labels : List ℕ) (n : ℕ) (place : ℕ → ℕ) (there : (t : ℕ) → 0 < t → t < n → slice_get labels (label_of t) ≡ Some (place t)) where
     no_jump : (q : ℕ) (a : Bool) (o : Op) → jump_fits labels q a (line_of p o) ≡ true
     no_jump q a (Move r s) = refl
-    no_jump q a (Lit r l) = refl
-    no_jump q a (Prim to x args) = refl
-    no_jump q a (Call r g args) = refl
-    no_jump q a (Virtual r o m args) = refl
-    no_jump q a (TraitCall r o t m args) = refl
-    no_jump q a Turn = refl
-    no_jump q a (Inc r) = refl
-    no_jump q a (Dec r) = refl
-    no_jump q a (XDec r) = refl
+    no_jump q a _ = refl
 
     ops_jump : (q : ℕ) (a : Bool) (ops : List (Op × ℕ)) (rest : List Line) → jumps_fit labels (q + length ops) (after a ops) rest ≡ true → jumps_fit labels q a (op_lines p ops ++ rest) ≡ true
     ops_jump q a [] rest h = let e : q + 0 ≡ q = omega arith in subst (λ i. jumps_fit labels i a rest ≡ true) e h
@@ -80,6 +64,14 @@ module _ (p : Program) where
         let turn : Bool = is_turn (line_of p o.0) in
         and_from (jump_fits labels q a (line_of p o.0)) (jumps_fit labels (q + 1) turn (op_lines p os ++ rest)) (no_jump q a o.0)
         (ops_jump (q + 1) turn os rest (subst (λ i. jumps_fit labels i (after turn os) rest ≡ true) e h))
+
+    both_down : (k q x y : ℕ) → IsHigher n k x × IsHigher n k y → ((t : ℕ) → k < t → t < n → q + 1 ≤ place t) → goes_down q (slice_get labels (label_of x)) && goes_down q (slice_get labels (label_of y)) ≡ true
+    both_down k q x y fits higher =
+        let one = higher x fits.0.0 fits.0.1 in
+        let two = higher y fits.1.0 fits.1.1 in
+        and_from (goes_down q (slice_get labels (label_of x))) (goes_down q (slice_get labels (label_of y)))
+        (down q (place x) (slice_get labels (label_of x)) (there x (omega (arith, fits.0.0)) fits.0.1) (omega (arith, one)))
+        (down q (place y) (slice_get labels (label_of y)) (there y (omega (arith, fits.1.0)) fits.1.1) (omega (arith, two)))
 
     end_jump : (k q : ℕ) (a : Bool) (ops : List (Op × ℕ)) (last : Last) (rest : List Line) → LastFits n k ops last → k < n → ((t : ℕ) → k < t → t < n → q + length (end_lines label_of k last) ≤ place t) → ((c : Bool) → jumps_fit labels (q + length (end_lines label_of k last)) c rest ≡ true) → jumps_fit labels q (after a ops) (end_lines label_of k last ++ rest) ≡ true
     end_jump k q a ops (Goto t) rest fits lt higher more =
@@ -90,25 +82,11 @@ module _ (p : Program) where
         (λ e. behind_turn q (place t) behind o (there t fits.0 fits.1) (turn_after a ops e)) fits.2)
         (more false)
     end_jump k q a ops (If r x y) rest fits lt higher more =
-        let one = higher x fits.0.0 fits.0.1 in
-        let two = higher y fits.1.0 fits.1.1 in
-        let at_one = there x (omega (arith, fits.0.0)) fits.0.1 in
-        let at_two = there y (omega (arith, fits.1.0)) fits.1.1 in
         and_from (goes_down q (slice_get labels (label_of x)) && goes_down q (slice_get labels (label_of y))) (jumps_fit labels (q + 1) false rest)
-        (and_from (goes_down q (slice_get labels (label_of x))) (goes_down q (slice_get labels (label_of y)))
-        (down q (place x) (slice_get labels (label_of x)) at_one (omega (arith, one)))
-        (down q (place y) (slice_get labels (label_of y)) at_two (omega (arith, two))))
-        (more false)
+        (both_down k q x y fits higher) (more false)
     end_jump k q a ops (IfError r x y source) rest fits lt higher more =
-        let one = higher x fits.0.0 fits.0.1 in
-        let two = higher y fits.1.0 fits.1.1 in
-        let at_one = there x (omega (arith, fits.0.0)) fits.0.1 in
-        let at_two = there y (omega (arith, fits.1.0)) fits.1.1 in
         and_from (goes_down q (slice_get labels (label_of x)) && goes_down q (slice_get labels (label_of y))) (jumps_fit labels (q + 1) false rest)
-        (and_from (goes_down q (slice_get labels (label_of x))) (goes_down q (slice_get labels (label_of y)))
-        (down q (place x) (slice_get labels (label_of x)) at_one (omega (arith, one)))
-        (down q (place y) (slice_get labels (label_of y)) at_two (omega (arith, two))))
-        (more false)
+        (both_down k q x y fits higher) (more false)
     end_jump k q a ops (Return r) rest fits lt higher more = more false
     end_jump k q a ops Unreachable rest fits lt higher more =
         let e : q + 2 ≡ q + 1 + 1 = omega arith in
@@ -187,10 +165,7 @@ module _ (p : Program) where
 
   end_leaves : (l : Line) (k : ℕ) (last : Last) → is_leaving (Some (last_from l (end_lines label_of k last))) ≡ true
   end_leaves l k (Goto t) = refl
-  end_leaves l k (If r a b) = refl
-  end_leaves l k (IfError r a b source) = refl
-  end_leaves l k (Return r) = refl
-  end_leaves l k Unreachable = refl
+  end_leaves l k _ = refl
 
   block_leaves : (l : Line) (k : ℕ) (b : Block) → is_leaving (Some (last_from l (block_lines p k b))) ≡ true
   block_leaves l k b =

@@ -4,9 +4,9 @@ use Rattle.std.specs.Prelude.{slice_get}
 use Rattle.c_core.specs.declared.code.Line.{Line}
 use Rattle.c_core.specs.Functions.{is_label, labels_from, label_places}
 use Rattle.ir_core.specs.declared.code.Op.{Op}
-use Rattle.ir_core.specs.declared.code.Op.TheVariants.{Move, Lit, Prim, Call, Virtual, TraitCall, Turn, Inc, Dec, XDec}
+use Rattle.ir_core.specs.declared.code.Op.TheVariants.{Move, Prim}
 use Rattle.ir_core.specs.declared.code.Last.{Last}
-use Rattle.ir_core.specs.declared.code.Last.TheVariants.{Goto, If, IfError, Return, Unreachable}
+use Rattle.ir_core.specs.declared.code.Last.TheVariants.{Goto, If, IfError}
 use Rattle.ir_core.specs.declared.code.Block.{Block}
 use Rattle.ir_core.specs.declared.code.Func.{Func}
 use Rattle.ir_core.specs.declared.code.Program.{Program}
@@ -35,15 +35,7 @@ labels_append n (x ∷ xs) ys =
 module _ (p : Program) where
   no_label : (o : Op) → is_label (line_of p o) ≡ false
   no_label (Move r s) = refl
-  no_label (Lit r l) = refl
-  no_label (Prim to q args) = refl
-  no_label (Call r g args) = refl
-  no_label (Virtual r o n args) = refl
-  no_label (TraitCall r o t n args) = refl
-  no_label Turn = refl
-  no_label (Inc r) = refl
-  no_label (Dec r) = refl
-  no_label (XDec r) = refl
+  no_label _ = refl
 
   no_op_labels : (n : ℕ) (ops : List (Op × ℕ)) → labels_from n (op_lines p ops) ≡ []
   no_op_labels n [] = refl
@@ -52,10 +44,7 @@ module _ (p : Program) where
 
   no_end_labels : (n k : ℕ) (last : Last) → labels_from n (end_lines label_of k last) ≡ []
   no_end_labels n k (Goto t) = refl
-  no_end_labels n k (If r a b) = refl
-  no_end_labels n k (IfError r a b source) = refl
-  no_end_labels n k (Return r) = refl
-  no_end_labels n k Unreachable = refl
+  no_end_labels n k _ = refl
 
   no_labels : (n k : ℕ) (b : Block) → labels_from n (op_lines p b.ops ++ end_lines label_of k b.last) ≡ []
   no_labels n k b =
@@ -126,11 +115,9 @@ module _ (p : Program) where
   are_ops (o ∷ os) = ([], op_lines p os, tt, refl, are_ops os)
 
   is_end : (lines : List Line) (k : ℕ) (last : Last) → IsEnd lines label_of k last (end_lines label_of k last)
-  is_end lines k (Goto t) = refl
   is_end lines k (If r a b) = (label_of a, label_of b, refl, inl refl, inl refl)
   is_end lines k (IfError r a b source) = (label_of a, label_of b, refl, inl refl, inl refl)
-  is_end lines k (Return r) = refl
-  is_end lines k Unreachable = refl
+  is_end lines k _ = refl
 
   block_at : (bs : List Block) (k : ℕ) (b : Block) → slice_get bs k ≡ Some b → IsBlockAt (lines_from p 0 bs) label_of p k (place_of 0 bs k) b
   block_at bs k b e =

@@ -7,7 +7,7 @@ use Rattle.ir_core.specs.declared.code.Op.{Op}
 use Rattle.ir_core.specs.declared.code.Last.{Last}
 use Rattle.ir_core.specs.declared.code.Block.{Block}
 use Rattle.ir_core.specs.declared.kind.Edge.{Edge}
-use Rattle.ir_core.specs.declared.kind.Edge.TheVariants.{NoEdge, Tests, TestsTwice, Jumps}
+use Rattle.ir_core.specs.declared.kind.Edge.TheVariants.{NoEdge}
 use Rattle.ir_core.specs.Items.{Item, End, in_block, item_in}
 use Rattle.ir_core.specs.Rows.{Declared, edge_of_op}
 use Rattle.ir_core.specs.Missing.{missing, ahead, edges_in}
@@ -28,9 +28,7 @@ edges_count regs all (o ∷ ops) last = ap suc (edges_count regs all ops last)
 missing_ahead : (at : ℕ → ℕ → Option Item) (e : Edge) (os : List (Op × ℕ)) (last : Last) → missing at e (option_map End (ahead os last)) ≡ missing at e (in_block os last 0)
 missing_ahead at e [] last = refl
 missing_ahead at NoEdge (o ∷ os) last = refl
-missing_ahead at (Tests r) (o ∷ os) last = refl
-missing_ahead at (TestsTwice r) (o ∷ os) last = refl
-missing_ahead at Jumps (o ∷ os) last = refl
+missing_ahead at _ (o ∷ os) last = refl
 
 pub ahead_more : (ops : List (Op × ℕ)) (n : ℕ) (last : Last) → n < length ops → ahead (drop n ops) last ≡ None
 ahead_more [] n last l = absurd (omega (arith, l))

@@ -1,11 +1,9 @@
--- What small programs do.
-use Rattle.std.proofs.Common.{◌≡◌, ◌≢◌, refl, ℕ, zero, suc, ◌<◌, arith, lit<, true, false, List, [], ◌∷◌, ◌++◌, Option, Some, None, ℤ, pos, negsuc, codes, inl, inr, ⊎_elim}
-use Rattle.std.specs.Fmt.{digits}
-use Rattle.std.specs.Int.{int_wrap}
-use Rattle.std.specs.Option.{option_map}
-use Rattle.std.specs.Str.{chars, is_utf8}
+-- What small programs do, in tables with a row for each sample: what is computed, and what is wanted of it.
+use Rattle.std.proofs.Common.{◌≡◌, ◌≢◌, refl, ℕ, zero, suc, ◌<◌, arith, lit<, true, false, List, [], ◌∷◌, ◌++◌, length, map, Option, Some, None, ℤ, pos, negsuc, codes, inl, inr, ⊎_elim}
+use Rattle.std.specs.{Fmt.digits, Int.int_wrap, List.list_any, Option.option_map, Str.chars, Str.is_utf8}
 use Rattle.std.proofs.Math.Utf8.{encode}
 use Rattle.unicode_ident.proofs.Computing.{unicode_ident}
+use Rattle.value_core.specs.declared.exception.ExcClass.{ExcClass}
 use Rattle.value_core.specs.declared.exception.ExcClass.TheVariants.{OverflowError, IndexError, KeyError, ValueError, RuntimeError, AttributeError}
 use Rattle.value_core.specs.Ending.{Ending, Done, Raised, Cut, Over}
 use Rattle.value_core.specs.Exceptions.{Thrown, thrown}
@@ -13,11 +11,10 @@ use Rattle.value_core.specs.Items as item
 use Rattle.value_core.specs.Items.{Items, Eof}
 use Rattle.value_core.specs.Value.{Value, IntVal, BoolVal, NoneVal, StrVal, ObjVal, DictObj, InstObj}
 use Rattle.c_core.specs.declared.code.CArg.TheVariants as c_arg
-use Rattle.c_core.specs.declared.code.CClass.{CClass}
 use Rattle.c_core.specs.declared.code.Kind.TheVariants as kind
 use Rattle.c_core.specs.declared.code.CLit.TheVariants as c_lit
 use Rattle.c_core.specs.declared.code.Line.TheVariants as line
-use Rattle.c_core.specs.declared.primitive.Primitive.{Primitive}
+use Rattle.c_core.specs.declared.primitive.{Primitive.Primitive, TaggedPrim.TaggedPrim, DictPrim.DictPrim, AttrPrim.AttrPrim}
 use Rattle.c_core.specs.declared.primitive.Primitive.TheVariants as prim
 use Rattle.c_core.specs.declared.primitive.Int64Prim.TheVariants as int64
 use Rattle.c_core.specs.declared.primitive.TaggedPrim.TheVariants as tagged
@@ -29,609 +26,343 @@ use Rattle.c_core.specs.declared.primitive.AttrPrim.TheVariants as attr
 use Rattle.c_core.specs.declared.primitive.GlobalPrim.TheVariants as global
 use Rattle.c_core.specs.declared.primitive.ErrPrim.TheVariants as err
 use Rattle.c_core.specs.declared.primitive.IoPrim.TheVariants as io
-use Rattle.ir_core.specs.declared.code.RType.{RType}
+use Rattle.c_core.specs.Step as machine
+use Rattle.c_core.specs.{Run.machine_run, WellFormed.well_formed}
+use Rattle.ir_core.specs.declared.code.{RType.RType, Reg.Reg, PArg.PArg, Op.Op, Last.Last, Block.Block, Func.Func, Program.Program}
 use Rattle.ir_core.specs.declared.code.RType.TheVariants.{Int, I64, Bool, Ref}
-use Rattle.ir_core.specs.declared.code.Reg.{Reg}
 use Rattle.ir_core.specs.declared.code.Lit.TheVariants.{Number, PyNone, PyTrue}
 use Rattle.ir_core.specs.declared.code.PArg.TheVariants as arg
-use Rattle.ir_core.specs.declared.code.Op.{Op}
 use Rattle.ir_core.specs.declared.code.Op.TheVariants.{Move, Lit, Prim, Call, Virtual, TraitCall, Turn, Inc, Dec, XDec}
-use Rattle.ir_core.specs.declared.code.Last.{Last}
 use Rattle.ir_core.specs.declared.code.Last.TheVariants.{Goto, If, IfError, Return, Unreachable}
-use Rattle.ir_core.specs.declared.code.Block.{Block}
-use Rattle.ir_core.specs.declared.code.Func.{Func}
-use Rattle.ir_core.specs.declared.code.Program.{Program}
-use Rattle.ir_core.specs.Registers.{Unset, Holds}
-use Rattle.ir_core.specs.Names.{function_id}
 use Rattle.ir_core.specs.declared.code.ErrorKind.TheVariants.{Magic, MagicOverlapping}
-use Rattle.ir_core.specs.Effects.{World, Argument, Given, Written, Effect, Wrong, Gives, Acts, Fails, Ends, IfTarget, IfWritten, effect}
-use Rattle.ir_core.specs.Rows.{kind_by_result, error_kind}
-use Rattle.ir_core.specs.Meaning.{Waiting, Config, Runs, Leaves, Ended, Stuck, Mode, Plain, Strict, Fitting, steps}
-use Rattle.ir_core.specs.Runs.{start, Calm, Fit}
-use Rattle.c_core.specs.Step as machine
-use Rattle.c_core.specs.Step.{MachineEnding}
-use Rattle.c_core.specs.Run.{Stop, machine_run}
-use Rattle.c_core.specs.WellFormed.{well_formed}
-use Rattle.ir_core.specs.Lower.{line_of, lines_from, lower}
-use Rattle.ir_core.specs.Building.{ended_block}
+use Rattle.ir_core.specs.Effects.{World, Argument, Given, Written, Wrong, Gives, Acts, Fails, Ends, IfTarget, IfWritten, effect}
+use Rattle.ir_core.specs.Meaning.{Frame, Waiting, Config, Runs, Leaves, Ended, Stuck, Mode, Plain, Strict, Fitting, steps}
+use Rattle.ir_core.specs.{Registers.Held, Registers.Unset, Registers.Holds, Rows.kind_by_result, Rows.error_kind, Names.function_id}
+use Rattle.ir_core.specs.{Runs.start, Runs.Calm, Runs.Fit, Lower.line_of, Lower.lines_from, Lower.lower, Building.ended_block as block}
 use Rattle.ir_core.specs.Shape.{LastFits, HandlerFits, FuncFits, Shape, op_fits}
-use Rattle.ir_core.proofs.RunLemmas.{ended_is_calm}
-use Rattle.ir_core.proofs.ModeLemmas.{fit_is_calm}
+use Rattle.ir_core.proofs.{RunLemmas.ended_is_calm, ModeLemmas.fit_is_calm}
+
+-- each row of a table is as wanted
+abbrev AsWanted : {A : Type 0} → List (A × A) → Type 0
+AsWanted rows = map (λ r. r.0) rows ≡ map (λ r. r.1) rows
+
+-- what is seen of a configuration: the function, block and place where it goes on; how it has ended, with its output; or itself
+data Sight : Type 0 where
+  IsAt : (fn block place : ℕ) → Sight
+  HasEnded : (e : Ending) (output : List ℕ) → Sight
+  Is : (c : Config) → Sight
+
+abbrev sight : Config → Sight
+sight (Runs f below w) = IsAt f.fn f.block f.place
+sight (Ended e w) = HasEnded e w.output
+sight c = Is c
 
 abbrev reg : ℕ → Reg
 reg n = record { 0 = n }
 
-abbrev var : ℕ → Rattle.ir_core.specs.declared.code.PArg.PArg
+abbrev var : ℕ → PArg
 var n = arg.Var (reg n)
 
-abbrev block : List (Op × ℕ) → Last → Block
-block ops last = ended_block ops last
+abbrev set : ℕ → ℕ → Op
+set r n = Lit (reg r) (Number (pos n))
+
+-- operations of one line of the source
+abbrev on_line : ℕ → List Op → List (Op × ℕ)
+on_line n ops = map (λ o. (o, n)) ops
 
 abbrev program : List Func → Program
 program funcs = record { globals = []; classes = []; funcs = funcs }
 
--- a module's own function
+-- a function with no parameters, and a module's own
+abbrev function : List (List ℕ × RType) → RType → List Block → Func
+function regs ret blocks = record { name = codes "f"; params = 0; regs = regs; ret = ret; blocks = blocks }
+
 abbrev top : List (List ℕ × RType) → List Block → Func
-top regs blocks = record { name = codes "__top_level__"; params = 0; regs = regs; ret = Bool; blocks = blocks }
+top regs blocks = record (function regs Bool blocks) { name = codes "__top_level__" }
 
--- how a run has ended, with its output, and where one goes on, by function, block and place
-abbrev seen : Config → Option (Ending × List ℕ)
-seen (Ended e w) = Some (e, w.output)
-seen _ = None
+-- a world with this input, a frame whose registers all hold the same, and a run from the start
+abbrev reading : Items → World
+reading items = record { store = []; globals = []; pending = None; output = []; items = items; turns = 1 }
 
-abbrev stands : Config → Option (ℕ × ℕ × ℕ)
-stands (Runs f below w) = Some (f.fn, f.block, f.place)
-stands _ = None
+abbrev frame : ℕ → ℕ → Held → Frame
+frame fn block h = record { fn = fn; block = block; place = 0; regs = λ k. h }
+
+abbrev run : Mode → Program → ℕ → ℕ → Sight
+run m p turns n = sight (steps m p n (start p turns Eof))
 
 -- ---- a loop with turns: the sum of the numbers up to n, which the module calls for 3 and prints
 abbrev sum : Func
 sum = record {
   name = codes "tri";
   params = 2;
-  regs = (codes "n", I64) ∷ (codes "acc", I64) ∷ (codes "r0", I64) ∷ (codes "r1", Bool) ∷ (codes "r2", I64) ∷ (codes "r3", I64) ∷ (codes "r4", I64) ∷ [];
+  regs =
+      (codes "n", I64) ∷ (codes "acc", I64) ∷ (codes "r0", I64) ∷ (codes "r1", Bool) ∷ (codes "r2", I64) ∷ (codes "r3", I64)
+      ∷ (codes "r4", I64) ∷ [];
   ret = I64;
   blocks =
-      block ((Turn, 1) ∷ []) (Goto 1)
-      ∷ block ((Lit (reg 2) (Number (pos 0)), 2) ∷ (Prim (Some (reg 3)) (prim.Int64 int64.Lt) (var 2 ∷ var 0 ∷ []), 2) ∷ []) (If (reg 3) 2 3)
-      ∷ block
-      ((Prim (Some (reg 4)) (prim.Int64 int64.Add) (var 1 ∷ var 0 ∷ []), 3) ∷ (Move (reg 1) (reg 4), 3) ∷ (Lit (reg 5) (Number (pos 1)), 4)
-      ∷ (Prim (Some (reg 6)) (prim.Int64 int64.Subtract) (var 0 ∷ var 5 ∷ []), 4) ∷ (Move (reg 0) (reg 6), 4) ∷ (Turn, 2) ∷ []) (Goto 1)
+      block (on_line 1 (Turn ∷ [])) (Goto 1)
+      ∷ block (on_line 2 (set 2 0 ∷ Prim (Some (reg 3)) (prim.Int64 int64.Lt) (var 2 ∷ var 0 ∷ []) ∷ [])) (If (reg 3) 2 3)
+      ∷ block (on_line 3 (Prim (Some (reg 4)) (prim.Int64 int64.Add) (var 1 ∷ var 0 ∷ []) ∷ Move (reg 1) (reg 4) ∷ set 5 1
+      ∷ Prim (Some (reg 6)) (prim.Int64 int64.Subtract) (var 0 ∷ var 5 ∷ []) ∷ Move (reg 0) (reg 6) ∷ Turn ∷ [])) (Goto 1)
       ∷ block [] (Return (reg 1)) ∷ [];
 }
 
-abbrev printing_sum : Func
-printing_sum =
+-- the module, with what counts the text behind its writing
+abbrev printing : List Op → Func
+printing counts =
     top ((codes "r0", I64) ∷ (codes "r1", I64) ∷ (codes "r2", I64) ∷ (codes "r3", Ref) ∷ (codes "r4", Bool) ∷ [])
-    (block
-    ((Lit (reg 0) (Number (pos 3)), 6) ∷ (Lit (reg 1) (Number (pos 0)), 6) ∷ (Call (reg 2) 0 (reg 0 ∷ reg 1 ∷ []), 6)
-    ∷ (Prim (Some (reg 3)) (prim.Int64 int64.Str) (var 2 ∷ []), 6) ∷ (Prim None (prim.Io io.Write) (var 3 ∷ []), 6) ∷ (Dec (reg 3), 6) ∷ (Lit (reg 4) (Number (pos 1)), 6)
-    ∷ []) (Return (reg 4)) ∷ [])
+    (block (on_line 6 (set 0 3 ∷ set 1 0 ∷ Call (reg 2) 0 (reg 0 ∷ reg 1 ∷ [])
+    ∷ Prim (Some (reg 3)) (prim.Int64 int64.Str) (var 2 ∷ []) ∷ Prim None (prim.Io io.Write) (var 3 ∷ [])
+    ∷ counts ++ set 4 1 ∷ [])) (Return (reg 4)) ∷ [])
 
 abbrev summing : Program
-summing = program (sum ∷ printing_sum ∷ [])
+summing = program (sum ∷ printing (Dec (reg 3) ∷ []) ∷ [])
 
 -- the call and each round of the loop spend a turn
-with_four_turns : (m : Mode) → seen (steps m summing 60 (start summing 4 Eof)) ≡ Some (Done, codes "6")
+runs_of_sum : AsWanted (
+    (run Plain summing 4 60, HasEnded Done (codes "6")) ∷ (run Strict summing 4 60, HasEnded Done (codes "6"))
+    ∷ (run Fitting summing 4 60, HasEnded Done (codes "6")) ∷ (run Plain summing 3 60, HasEnded Cut []) ∷ [])
 unfolding digits int_wrap
-with_four_turns Plain = refl
-with_four_turns Strict = refl
-with_four_turns Fitting = refl
-
-with_three_turns : seen (steps Plain summing 60 (start summing 3 Eof)) ≡ Some (Cut, [])
-unfolding int_wrap
-with_three_turns = refl
+runs_of_sum = refl
 
 -- the machine of the C text writes the same and ends alike, with each reference given up
-abbrev machine_seen : Option Stop → Option (MachineEnding × List ℕ)
-machine_seen r = option_map (λ stop. (stop.ending, stop.state.output)) r
-
-machine_with_four_turns : machine_seen (machine_run 4 Eof (lower summing)) ≡ Some (machine.Ended Done, codes "6")
+runs_of_text :
+    let seen : ℕ → Option (machine.MachineEnding × List ℕ) =
+    λ turns. option_map (λ stop. (stop.ending, stop.state.output)) (machine_run turns Eof (lower summing)) in
+    AsWanted ((seen 4, Some (machine.Ended Done, codes "6")) ∷ (seen 3, Some (machine.Ended Cut, [])) ∷ [])
 unfolding digits int_wrap
-machine_with_four_turns = refl
-
-machine_with_three_turns : machine_seen (machine_run 3 Eof (lower summing)) ≡ Some (machine.Ended Cut, [])
-unfolding digits int_wrap
-machine_with_three_turns = refl
+runs_of_text = refl
 
 -- its C text, line by line
 lines_of_sum : lines_from summing 0 sum.blocks ≡
-    line.Turn ∷ line.Goto 0 ∷ line.Label ∷ line.Lit 2 (c_lit.Number (pos 0)) ∷ line.Call (Some 3) (codes "CPyInt64_Lt") (c_arg.Var 2 ∷ c_arg.Var 0 ∷ []) ∷ line.If 3 1 2
-    ∷ line.Label ∷ line.Call (Some 4) (codes "CPyInt64_Add") (c_arg.Var 1 ∷ c_arg.Var 0 ∷ []) ∷ line.Move 1 4 ∷ line.Lit 5 (c_lit.Number (pos 1))
-    ∷ line.Call (Some 6) (codes "CPyInt64_Subtract") (c_arg.Var 0 ∷ c_arg.Var 5 ∷ []) ∷ line.Move 0 6 ∷ line.Turn ∷ line.Goto 0 ∷ line.Label ∷ line.Return 1 ∷ []
+    line.Turn ∷ line.Goto 0 ∷ line.Label ∷ line.Lit 2 (c_lit.Number (pos 0))
+    ∷ line.Call (Some 3) (codes "CPyInt64_Lt") (c_arg.Var 2 ∷ c_arg.Var 0 ∷ []) ∷ line.If 3 1 2
+    ∷ line.Label ∷ line.Call (Some 4) (codes "CPyInt64_Add") (c_arg.Var 1 ∷ c_arg.Var 0 ∷ []) ∷ line.Move 1 4
+    ∷ line.Lit 5 (c_lit.Number (pos 1)) ∷ line.Call (Some 6) (codes "CPyInt64_Subtract") (c_arg.Var 0 ∷ c_arg.Var 5 ∷ [])
+    ∷ line.Move 0 6 ∷ line.Turn ∷ line.Goto 0 ∷ line.Label ∷ line.Return 1 ∷ []
 lines_of_sum = refl
 
 -- ---- a loop without turns goes on for ever
 abbrev round : Func
 round = top [] (block [] (Goto 1) ∷ block [] (Goto 1) ∷ [])
 
-abbrev in_round : World → Config
-in_round w = Runs (record { fn = 0; block = 1; place = 0; regs = λ k. Unset }) [] w
-
-for_ever : (n : ℕ) (w : World) → steps Plain (program (round ∷ [])) n (in_round w) ≡ in_round w
+for_ever : (n : ℕ) (w : World) → steps Plain (program (round ∷ [])) n (Runs (frame 0 1 Unset) [] w) ≡ Runs (frame 0 1 Unset) [] w
 for_ever zero w = refl
 for_ever (suc n) w = for_ever n w
 
--- ---- a function that calls itself is cut once its turns are spent
-abbrev calling_itself : Program
-calling_itself =
-    program (record { name = codes "f"; params = 0; regs = (codes "r0", I64) ∷ []; ret = I64; blocks = block ((Turn, 1) ∷ (Call (reg 0) 0 [], 2) ∷ []) (Return (reg 0)) ∷ [] } ∷ top ((codes "r0", I64) ∷ []) (block ((Call (reg 0) 0 [], 3) ∷ []) (Return (reg 0)) ∷ []) ∷ [])
-
-recursion_is_cut : seen (steps Plain calling_itself 10 (start calling_itself 3 Eof)) ≡ Some (Cut, [])
-recursion_is_cut = refl
-
 -- ---- a failure: function 0 is left by an exception, function 1 called it, and the module called that
-abbrev failure : Thrown
-failure = thrown ValueError (codes "no")
+abbrev failing : World
+failing = record (reading Eof) { pending = Some (thrown ValueError (codes "no")) }
 
-abbrev failing_world : World
-failing_world = record { store = []; globals = []; pending = Some failure; output = []; items = Eof; turns = 1 }
-
-abbrev waits : ℕ → Waiting
-waits fn = record { frame = record { fn = fn; block = 0; place = 0; regs = λ k. Unset }; into = reg 0 }
-
-abbrev leaving : Config
-leaving = Leaves 0 (waits 1 ∷ waits 2 ∷ []) failing_world
-
-abbrev function : RType → List Block → Func
-function t blocks = record { name = codes "f"; params = 0; regs = (codes "r0", t) ∷ []; ret = t; blocks = blocks }
-
-abbrev asking : RType → List Block → Program
-asking t blocks =
-    program (function t [] ∷ function t blocks ∷ top ((codes "r0", t) ∷ (codes "r1", Bool) ∷ []) (block ((Call (reg 0) 1 [], 3) ∷ (Lit (reg 1) (Number (pos 1)), 3) ∷ []) (Return (reg 1)) ∷ []) ∷ [])
-
-abbrev unasked : Program
-unasked = asking Ref (block ((Call (reg 0) 0 [], 2) ∷ []) (Return (reg 0)) ∷ [])
-
--- nothing asks for it: it leaves both functions, and the module. The fitting machine is stuck at the first
-two_frames_are_left : seen (steps Strict unasked 3 leaving) ≡ Some (Raised failure, [])
-two_frames_are_left = refl
-
-not_yet_after_two : steps Strict unasked 2 leaving ≡ Leaves 2 [] failing_world
-not_yet_after_two = refl
-
-unasked_is_unfit : steps Fitting unasked 1 leaving ≡ Stuck
-unasked_is_unfit = refl
-
--- the block ends by a test of the result: there the failure is caught
-abbrev asked : RType → Program
-asked t =
-    asking t (block ((Call (reg 0) 0 [], 2) ∷ []) (IfError (reg 0) 1 2 2) ∷ block [] (Return (reg 0)) ∷ block [] (Return (reg 0)) ∷ [])
-
-failure_is_caught : (m : Mode) → stands (steps m (asked Ref) 2 leaving) ≡ Some (1, 1, 0)
-failure_is_caught Plain = refl
-failure_is_caught Strict = refl
-failure_is_caught Fitting = refl
-
--- and from there it leaves the function by its error value
-failure_is_passed_on : seen (steps Strict (asked Ref) 4 leaving) ≡ Some (Raised failure, [])
-failure_is_passed_on = refl
-
--- nothing asks for it, but the block has a handler: there it is caught
-abbrev guarded : Option ℕ → Program
-guarded h =
-    asking Ref (record { ops = (Call (reg 0) 0 [], 2) ∷ []; last = Return (reg 0); handler = h } ∷ block [] (Return (reg 0)) ∷ [])
-
-handler_catches : stands (steps Strict (guarded (Some 1)) 1 leaving) ≡ Some (1, 1, 0)
-handler_catches = refl
-
-without_handler_it_leaves : steps Strict (guarded None) 1 leaving ≡ Leaves 1 (waits 2 ∷ []) failing_world
-without_handler_it_leaves = refl
-
-guarded_is_unfit : steps Fitting (guarded (Some 1)) 1 leaving ≡ Stuck
-guarded_is_unfit = refl
-
--- a handler is a higher block
-handler_behind : HandlerFits 2 0 (Some 1)
-handler_behind = (lit< tt, lit< tt)
-
-handler_of_itself : HandlerFits 2 1 (Some 1) → ⊥
-handler_of_itself h = let below : 1 < 1 = h.0 in omega arith
-
--- ---- -113 is an error value of a native integer with an exception, and a value without one; a test of the word tells no
--- difference. So one test is no edge, and two are
-one_test_is_no_edge : steps Fitting (asked I64) 1 leaving ≡ Stuck
-one_test_is_no_edge = refl
-
--- the second test goes on at a block where there is no exception
-abbrev asked_twice : ℕ → Program
-asked_twice n =
-    program
-    (function I64 []
-    ∷ record {
-      name = codes "g";
-      params = 0;
-      regs = (codes "r0", I64) ∷ (codes "r1", Bool) ∷ [];
-      ret = I64;
-      blocks =
-          block ((Call (reg 0) 0 [], 2) ∷ []) (IfError (reg 0) 1 3 2) ∷ block ((Prim (Some (reg 1)) (prim.Err err.Occurred) [], 2) ∷ []) (If (reg 1) 2 n)
-          ∷ block [] (Return (reg 0)) ∷ block [] (Return (reg 0)) ∷ [];
-    }
-    ∷ top ((codes "r0", I64) ∷ (codes "r1", Bool) ∷ []) (block ((Call (reg 0) 1 [], 3) ∷ (Lit (reg 1) (Number (pos 1)), 3) ∷ []) (Return (reg 1)) ∷ []) ∷ [])
-
-native_failure_is_caught : stands (steps Fitting (asked_twice 3) 4 leaving) ≡ Some (1, 2, 0)
-native_failure_is_caught = refl
-
--- which is that where the result is no error value
-tests_part : steps Fitting (asked_twice 2) 1 leaving ≡ Stuck
-tests_part = refl
-
-abbrev minus_113 : Program
-minus_113 =
-    program
-    (function I64 (block ((Turn, 1) ∷ (Lit (reg 0) (Number (negsuc 112)), 2) ∷ []) (Return (reg 0)) ∷ [])
-    ∷ top ((codes "r0", I64) ∷ (codes "r1", Ref) ∷ (codes "r2", Bool) ∷ [])
-    (block ((Call (reg 0) 0 [], 4) ∷ []) (IfError (reg 0) 1 2 4)
-    ∷ block ((Prim (Some (reg 2)) (prim.Err err.Occurred) [], 4) ∷ []) (If (reg 2) 3 2)
-    ∷ block ((Prim (Some (reg 1)) (prim.Int64 int64.Str) (var 0 ∷ []), 4) ∷ (Prim None (prim.Io io.Write) (var 1 ∷ []), 4) ∷ (Lit (reg 2) (Number (pos 1)), 4) ∷ []) (Return (reg 2))
-    ∷ block [] (Return (reg 2)) ∷ [])
-    ∷ [])
-
-minus_113_is_a_value : seen (steps Fitting minus_113 20 (start minus_113 1 Eof)) ≡ Some (Done, codes "-113")
+failures :
+    let two : RType → List (List ℕ × RType) = λ t. (codes "r0", t) ∷ (codes "r1", Bool) ∷ [] in
+    let call = on_line 2 (Call (reg 0) 0 [] ∷ []) in
+    let return = block [] (Return (reg 0)) in
+    let occurred = λ (r : ℕ). on_line 2 (Prim (Some (reg r)) (prim.Err err.Occurred) [] ∷ []) in
+    let asking = λ (t : RType) (blocks : List Block). program (function (two t) t [] ∷ function (two t) t blocks
+    ∷ top (two t) (block (on_line 3 (Call (reg 0) 1 [] ∷ set 1 1 ∷ [])) (Return (reg 1)) ∷ []) ∷ []) in
+    let guarded = λ (h : Option ℕ). asking Ref (record (block call (Return (reg 0))) { handler = h } ∷ return ∷ []) in
+    let asked = λ (t : RType). asking t (block call (IfError (reg 0) 1 2 2) ∷ return ∷ return ∷ []) in
+    let asked_twice = λ (n : ℕ). asking I64 (
+    block call (IfError (reg 0) 1 3 2) ∷ block (occurred 1) (If (reg 1) 2 n) ∷ return ∷ return ∷ []) in
+    let waits : ℕ → Waiting = λ fn. record { frame = frame fn 0 Unset; into = reg 0 } in
+    let left = λ (m : Mode) (p : Program) (n : ℕ). sight (steps m p n (Leaves 0 (waits 1 ∷ waits 2 ∷ []) failing)) in
+    let raised = HasEnded (Raised (thrown ValueError (codes "no"))) [] in
+    let turning = λ (o : Op). function (two I64) I64 (block (on_line 1 (Turn ∷ o ∷ [])) (Return (reg 0)) ∷ []) in
+    let minus_113 = program (turning (Lit (reg 0) (Number (negsuc 112)))
+    ∷ top ((codes "r0", I64) ∷ (codes "r1", Ref) ∷ (codes "r2", Bool) ∷ []) (
+    block call (IfError (reg 0) 1 2 4) ∷ block (occurred 2) (If (reg 2) 3 2)
+    ∷ block (on_line 4 (Prim (Some (reg 1)) (prim.Int64 int64.Str) (var 0 ∷ []) ∷ Prim None (prim.Io io.Write) (var 1 ∷ [])
+    ∷ set 2 1 ∷ [])) (Return (reg 2)) ∷ block [] (Return (reg 2)) ∷ []) ∷ []) in
+    let calling_itself = program (turning (Call (reg 0) 0 []) ∷ top (two I64) (block call (Return (reg 0)) ∷ []) ∷ []) in
+    AsWanted (
+    -- nothing asks for it: it leaves both functions, and the module; the fitting machine is stuck at the first
+    (left Strict (guarded None) 1, Is (Leaves 1 (waits 2 ∷ []) failing)) ∷ (left Fitting (guarded None) 1, Is Stuck)
+    ∷ (left Strict (guarded None) 2, Is (Leaves 2 [] failing)) ∷ (left Strict (guarded None) 3, raised)
+    -- nor here, but the block has a handler, where it is caught
+    ∷ (left Strict (guarded (Some 1)) 1, IsAt 1 1 0) ∷ (left Fitting (guarded (Some 1)) 1, Is Stuck)
+    -- the block ends by a test of the result: there it is caught, and from there leaves the function by its error value
+    ∷ map (λ m. (left m (asked Ref) 2, IsAt 1 1 0)) (Plain ∷ Strict ∷ Fitting ∷ []) ++ (left Strict (asked Ref) 4, raised)
+    -- -113 is an error value of a native integer with an exception, and a value without one; a test of the word tells no
+    -- difference. So one test is no edge, and two are, of which the second goes on at a block where there is no exception,
+    -- which is that where the result is no error value
+    ∷ (left Fitting (asked I64) 1, Is Stuck) ∷ (left Fitting (asked_twice 3) 4, IsAt 1 2 0)
+    ∷ (left Fitting (asked_twice 2) 1, Is Stuck) ∷ (run Fitting minus_113 1 20, HasEnded Done (codes "-113"))
+    ∷ (sight (steps Plain minus_113 4 (Leaves 0 (waits 1 ∷ []) failing)), IsAt 1 3 0)
+    -- a function that calls itself is cut once its turns are spent
+    ∷ (run Plain calling_itself 3 10, HasEnded Cut []) ∷ [])
 unfolding digits
-minus_113_is_a_value = refl
+failures = refl
 
-minus_113_is_an_error : stands (steps Plain minus_113 4 (Leaves 0 (waits 1 ∷ []) failing_world)) ≡ Some (1, 3, 0)
-minus_113_is_an_error = refl
-
--- ---- rows on numbers, texts and the input
-abbrev reading : Items → World
-reading items = record { store = []; globals = []; pending = None; output = []; items = items; turns = 1 }
-
-abbrev does : Primitive → List Argument → Effect
-does q xs = effect (program []) q xs (reading Eof)
-
-abbrev int : ℤ → Argument
-int n = Given (IntVal n)
-
-abbrev text : List ℕ → Argument
-text t = Given (StrVal t)
-
-past_64_bits : does (prim.Tagged tagged.Add) (int (pos 9223372036854775807) ∷ int (pos 1) ∷ []) ≡ Gives (IntVal (pos 9223372036854775808)) (reading Eof)
-past_64_bits = refl
-
-past_128_bits : does (prim.Tagged tagged.Lshift) (int (pos 1) ∷ int (pos 127) ∷ []) ≡ Fails (thrown OverflowError (codes "integer is past 128 bits")) (reading Eof)
-past_128_bits = refl
-
--- a truth is no `int` before it is made one
-truth_is_no_int : does (prim.Tagged tagged.Add) (int (pos 1) ∷ Given (BoolVal true) ∷ []) ≡ Wrong
-truth_is_no_int = refl
-
-truth_as_int : does (prim.Tagged tagged.FromBool) (Given (BoolVal true) ∷ []) ≡ Gives (IntVal (pos 1)) (reading Eof)
-truth_as_int = refl
-
--- the text of an `int` is as it is printed, and no short one
-long_text : does (prim.Tagged tagged.FromText) (Written (arg.Text (codes "4611686018427387904")) ∷ []) ≡ Gives (IntVal (pos 4611686018427387904)) (reading Eof)
-unfolding digits
-long_text = refl
-
-short_text : does (prim.Tagged tagged.FromText) (Written (arg.Text (codes "4611686018427387903")) ∷ []) ≡ Wrong
-unfolding digits
-short_text = refl
-
-zero_before : does (prim.Tagged tagged.FromText) (Written (arg.Text (codes "04611686018427387904")) ∷ []) ≡ Wrong
-unfolding digits
-zero_before = refl
-
--- an `int` past 64 bits is no native integer
-too_wide : does (prim.Tagged tagged.AsInt64) (int (pos 9223372036854775808) ∷ []) ≡ Fails (thrown OverflowError (codes "integer does not fit in i64")) (reading Eof)
-too_wide = refl
-
--- "a" and an accented "e" are three bytes and two characters
-abbrev accented : List ℕ
-accented = 97 ∷ 195 ∷ 169 ∷ []
-
-characters : does (prim.Str str.Len) (text accented ∷ []) ≡ Gives (IntVal (pos 2)) (reading Eof)
-unfolding chars
-characters = refl
-
-last_character : does (prim.Str str.GetItem) (text accented ∷ int (negsuc 0) ∷ []) ≡ Gives (StrVal (195 ∷ 169 ∷ [])) (reading Eof)
-unfolding chars encode
-last_character = refl
-
-past_the_text : does (prim.Str str.GetItem) (text accented ∷ int (pos 2) ∷ []) ≡ Fails (thrown IndexError (codes "string index out of range")) (reading Eof)
-unfolding chars
-past_the_text = refl
-
-shorter_is_less : does (prim.Str str.Lt) (text (codes "a") ∷ text accented ∷ []) ≡ Gives (BoolVal true) (reading Eof)
-unfolding chars
-shorter_is_less = refl
-
--- a line is read, one that is not UTF-8 is passed over, and past the bytes that a program may read the run ends
-line_is_read : effect (program []) (prim.Io io.Input) [] (reading (item.Line (codes "a") Eof)) ≡ Gives (StrVal (codes "a")) (reading Eof)
-line_is_read = refl
-
-bad_line : effect (program []) (prim.Io io.Input) [] (reading (item.Bad (item.Line (codes "a") Eof))) ≡ Fails (thrown ValueError (codes "input is not UTF-8")) (reading (item.Line (codes "a") Eof))
-bad_line = refl
-
-too_far : effect (program []) (prim.Io io.Input) [] (reading item.Over) ≡ Ends Over (reading item.Over)
-too_far = refl
-
--- ---- rows on dicts
-abbrev holding : List (Value × Value) → World
-holding pairs = record (reading Eof) { store = DictObj pairs ∷ [] }
-
-abbrev on_dict : Primitive → List (Value × Value) → List Argument → Effect
-on_dict q pairs xs = effect (program []) q (Given (ObjVal 0) ∷ xs) (holding pairs)
-
-abbrev one_pair : List (Value × Value)
-one_pair = (StrVal (codes "a"), IntVal (pos 1)) ∷ []
-
-pair_added : on_dict (prim.Dict dict.SetItem) one_pair (int (pos 1) ∷ text (codes "b") ∷ []) ≡ Acts (holding (one_pair ++ (IntVal (pos 1), StrVal (codes "b")) ∷ []))
-pair_added = refl
-
-value_replaced : on_dict (prim.Dict dict.SetItem) one_pair (text (codes "a") ∷ text (codes "b") ∷ []) ≡ Acts (holding ((StrVal (codes "a"), StrVal (codes "b")) ∷ []))
-value_replaced = refl
-
-pair_cut : on_dict (prim.Dict dict.DelItem) one_pair (text (codes "a") ∷ []) ≡ Gives (BoolVal true) (holding [])
-pair_cut = refl
-
-value_read : on_dict (prim.Dict dict.GetItem) one_pair (text (codes "a") ∷ []) ≡ Gives (IntVal (pos 1)) (holding one_pair)
-value_read = refl
-
-key_is_missing : on_dict (prim.Dict dict.GetItem) one_pair (text (codes "b") ∷ []) ≡ Fails (thrown KeyError (codes "b")) (holding one_pair)
-key_is_missing = refl
-
--- a truth is no number, and an object no key
-truth_is_no_number : on_dict (prim.Dict dict.Contains) ((IntVal (pos 1), NoneVal) ∷ []) (Given (BoolVal true) ∷ []) ≡ Gives (BoolVal false) (holding ((IntVal (pos 1), NoneVal) ∷ []))
-truth_is_no_number = refl
-
-object_is_no_key : on_dict (prim.Dict dict.Contains) one_pair (Given (ObjVal 0) ∷ []) ≡ Wrong
-object_is_no_key = refl
-
-size_has_changed : on_dict (prim.Dict dict.CheckSize) one_pair (int (pos 2) ∷ []) ≡ Fails (thrown RuntimeError (codes "dictionary changed size during iteration")) (holding one_pair)
-size_has_changed = refl
-
-past_the_keys : on_dict (prim.Dict dict.KeyAt) one_pair (int (pos 1) ∷ []) ≡ Wrong
-past_the_keys = refl
-
--- ---- rows on instances
-abbrev class_of_slots : CClass
-class_of_slots = record { name = codes "K"; attrs = (codes "n", kind.Tagged) ∷ (codes "s", kind.Object) ∷ []; methods = []; traits = [] }
-
--- the module alone, with an object, an `int` and a second object, and an instance of the class with these attributes
-abbrev with_slots : List (Op × ℕ) → Program
-with_slots ops = record {
+-- ---- rows of primitives
+-- the module's own function with these operations, and a class with two attributes and a method that it has of a trait
+abbrev with_class : List Op → Program
+with_class ops = record {
   globals = [];
-  classes = class_of_slots ∷ [];
-  funcs = top ((codes "o", Ref) ∷ (codes "i", Int) ∷ (codes "p", Ref) ∷ []) (block ops (Return (reg 0)) ∷ []) ∷ [];
-}
-
-abbrev having : List (Option Value) → World
-having attributes = record (reading Eof) { store = InstObj 0 attributes ∷ [] }
-
-abbrev on_slots : Primitive → List (Option Value) → List Argument → Effect
-on_slots q attributes xs = effect (with_slots []) q (Given (ObjVal 0) ∷ xs) (having attributes)
-
-abbrev slot : ℤ → Argument
-slot n = Written (arg.Number n)
-
-instance_made : effect (with_slots []) (prim.Instance instance.New) (Written (arg.Class (codes "K")) ∷ []) (reading Eof) ≡ Gives (ObjVal 0) (having (None ∷ None ∷ []))
-instance_made = refl
-
-no_such_class : effect (with_slots []) (prim.Instance instance.New) (Written (arg.Class (codes "L")) ∷ []) (reading Eof) ≡ Wrong
-no_such_class = refl
-
-attribute_read : on_slots (prim.Attr attr.Get) (Some (IntVal (pos 1)) ∷ None ∷ []) (slot (pos 0) ∷ []) ≡ IfTarget kind.Tagged (Gives (IntVal (pos 1)) (having (Some (IntVal (pos 1)) ∷ None ∷ [])))
-attribute_read = refl
-
-attribute_is_unset : on_slots (prim.Attr attr.Get) (Some (IntVal (pos 1)) ∷ None ∷ []) (slot (pos 1) ∷ []) ≡ IfTarget kind.Object (Fails (thrown AttributeError (codes "attribute 's' of 'K' undefined")) (having (Some (IntVal (pos 1)) ∷ None ∷ [])))
-attribute_is_unset = refl
-
-attribute_written : on_slots (prim.Attr attr.Set) (Some (IntVal (pos 1)) ∷ None ∷ []) (slot (pos 1) ∷ text (codes "a") ∷ []) ≡ IfWritten kind.Object (Acts (having (Some (IntVal (pos 1)) ∷ Some (StrVal (codes "a")) ∷ [])))
-attribute_written = refl
-
-past_the_slots : on_slots (prim.Attr attr.Get) (None ∷ None ∷ []) (slot (pos 2) ∷ []) ≡ Wrong
-past_the_slots = refl
-
--- a register of another type than the slot's is neither read into nor written, also where the attribute is unset
-abbrev on_slot : Option Reg → Primitive → List Rattle.ir_core.specs.declared.code.PArg.PArg → Config
-on_slot to q args =
-    steps Plain (with_slots ((Prim to q args, 1) ∷ [])) 1 (Runs (record { fn = 0; block = 0; place = 0; regs = λ k. Holds (ObjVal 0) }) [] (having (None ∷ None ∷ [])))
-
-unset_into_its_type : on_slot (Some (reg 2)) (prim.Attr attr.Get) (var 0 ∷ arg.Number (pos 1) ∷ []) ≡ Leaves 0 [] (record (having (None ∷ None ∷ [])) { pending = Some (thrown AttributeError (codes "attribute 's' of 'K' undefined")) })
-unset_into_its_type = refl
-
-unset_into_another : on_slot (Some (reg 2)) (prim.Attr attr.Get) (var 0 ∷ arg.Number (pos 0) ∷ []) ≡ Stuck
-unset_into_another = refl
-
-written_of_its_type : stands (on_slot None (prim.Attr attr.Set) (var 0 ∷ arg.Number (pos 1) ∷ var 2 ∷ [])) ≡ Some (0, 0, 1)
-written_of_its_type = refl
-
-written_of_another : on_slot None (prim.Attr attr.Set) (var 0 ∷ arg.Number (pos 0) ∷ var 2 ∷ []) ≡ Stuck
-written_of_another = refl
-
--- how they tell that they failed
-int_tells : error_kind (prim.Tagged tagged.Remainder) (Some Int) ≡ Magic
-int_tells = refl
-
-native_tells : error_kind (prim.Tagged tagged.AsInt64) (Some I64) ≡ MagicOverlapping
-native_tells = refl
-
--- by their rows, whatever the target
-native_without_target_tells : error_kind (prim.Int64 int64.FloorDivide) None ≡ MagicOverlapping
-native_without_target_tells = refl
-
-int_for_native_tells : error_kind (prim.Tagged tagged.Add) (Some I64) ≡ Magic
-int_for_native_tells = refl
-
--- where the row leaves it to a slot or a global, by the target
-attribute_tells : (t : Option RType) → error_kind (prim.Attr attr.Get) t ≡ kind_by_result t
-attribute_tells t = refl
-
-lent_attribute_tells : (t : Option RType) → error_kind (prim.Attr attr.GetBorrow) t ≡ kind_by_result t
-lent_attribute_tells t = refl
-
-global_tells : (t : Option RType) → error_kind (prim.Global global.Get) t ≡ kind_by_result t
-global_tells t = refl
-
--- ---- stuck, each in its way: the module alone, with an object, a truth, a native integer and an `int`
-abbrev alone : List (Op × ℕ) → Last → Program
-alone ops last =
-    program (top ((codes "o", Ref) ∷ (codes "b", Bool) ∷ (codes "n", I64) ∷ (codes "i", Int) ∷ (codes "p", Ref) ∷ []) (block ops last ∷ []) ∷ [])
-
-abbrev run : Mode → ℕ → List (Op × ℕ) → Last → Config
-run m n ops last = steps m (alone ops last) n (start (alone ops last) 1 Eof)
-
-abbrev of : Op → List (Op × ℕ)
-of o = (o, 1) ∷ []
-
-abbrev then_ends : List (Op × ℕ) → List (Op × ℕ)
-then_ends ops = ops ++ (Lit (reg 1) (Number (pos 1)), 1) ∷ []
-
--- a move of an error value, out of an object
-moved_plainly : seen (run Plain 3 (then_ends (of (Move (reg 4) (reg 0)))) (Return (reg 1))) ≡ Some (Done, [])
-moved_plainly = refl
-
-moved_strictly : run Strict 1 (of (Move (reg 4) (reg 0))) (Return (reg 1)) ≡ Stuck
-moved_strictly = refl
-
-moved_truth : seen (run Strict 3 (then_ends (of (Move (reg 1) (reg 1)))) (Return (reg 1))) ≡ Some (Done, [])
-moved_truth = refl
-
--- a register or a block or a function that is not there
-no_register : run Plain 1 (of (Lit (reg 9) (Number (pos 1)))) (Return (reg 1)) ≡ Stuck
-no_register = refl
-
-no_block : run Plain 2 [] (Goto 7) ≡ Stuck
-no_block = refl
-
-no_function : run Plain 1 (of (Call (reg 2) 5 [])) (Return (reg 1)) ≡ Stuck
-no_function = refl
-
-no_module : start (program []) 1 Eof ≡ Stuck
-no_module = refl
-
--- a literal of another type; 3 is the number of no `int`, and 1 is its error value
-wrong_literal : run Plain 1 (of (Lit (reg 1) (Number (pos 3)))) (Return (reg 1)) ≡ Stuck
-wrong_literal = refl
-
-odd_literal : run Plain 1 (of (Lit (reg 3) (Number (pos 3)))) (Return (reg 1)) ≡ Stuck
-odd_literal = refl
-
-error_literal : seen (run Plain 3 (then_ends (of (Lit (reg 3) (Number (pos 1))))) (Return (reg 1))) ≡ Some (Done, [])
-error_literal = refl
-
--- a primitive with an error value, with no text, with one argument too many, and without its target
-unset_argument : run Plain 1 (of (Prim None (prim.Io io.Write) (var 0 ∷ []))) (Return (reg 1)) ≡ Stuck
-unset_argument = refl
-
-no_text : run Plain 2 ((Lit (reg 0) PyNone, 1) ∷ of (Prim None (prim.Io io.Write) (var 0 ∷ []))) (Return (reg 1)) ≡ Stuck
-no_text = refl
-
-too_many : run Plain 1 (of (Prim (Some (reg 2)) (prim.Int64 int64.Negate) (var 2 ∷ var 2 ∷ []))) (Return (reg 1)) ≡ Stuck
-too_many = refl
-
-no_target : run Plain 1 (of (Prim None (prim.Str str.Literal) (arg.Text (codes "a") ∷ []))) (Return (reg 1)) ≡ Stuck
-no_target = refl
-
--- a count of an error value, but for the one that allows it
-unset_taken : run Plain 1 (of (Inc (reg 0))) (Return (reg 1)) ≡ Stuck
-unset_taken = refl
-
-unset_given_up : run Plain 1 (of (Dec (reg 0))) (Return (reg 1)) ≡ Stuck
-unset_given_up = refl
-
-unset_passed_over : seen (run Plain 3 (then_ends (of (XDec (reg 0)))) (Return (reg 1))) ≡ Some (Done, [])
-unset_passed_over = refl
-
--- a test of an error value, and of an object
-unset_tested : run Plain 1 [] (If (reg 1) 1 1) ≡ Stuck
-unset_tested = refl
-
-object_tested : run Plain 2 (of (Lit (reg 0) PyTrue)) (If (reg 0) 1 1) ≡ Stuck
-object_tested = refl
-
--- an error value returned without an exception, and false from the module
-unset_returned : run Plain 1 [] (Return (reg 1)) ≡ Stuck
-unset_returned = refl
-
-false_returned : run Plain 2 (of (Lit (reg 1) (Number (pos 0)))) (Return (reg 1)) ≡ Stuck
-false_returned = refl
-
--- a call with too few arguments, with one of another type, or for a result of another type; and of a method of no object
-abbrev taking_one : Func
-taking_one = record { name = codes "f"; params = 1; regs = (codes "n", I64) ∷ []; ret = I64; blocks = block [] (Return (reg 0)) ∷ [] }
-
-abbrev called : Reg → List Reg → Config
-called r args =
-    let p = program (taking_one ∷ top ((codes "n", I64) ∷ (codes "b", Bool) ∷ []) (block ((Lit (reg 1) (Number (pos 1)), 1) ∷ of (Call r 0 args)) (Return (reg 1)) ∷ []) ∷ []) in steps Plain p 2 (start p 1 Eof)
-
-well_called : stands (called (reg 0) (reg 0 ∷ [])) ≡ Some (0, 0, 0)
-well_called = refl
-
-too_few : called (reg 0) [] ≡ Stuck
-too_few = refl
-
-wrong_argument : called (reg 0) (reg 1 ∷ []) ≡ Stuck
-wrong_argument = refl
-
-wrong_result : called (reg 1) (reg 0 ∷ []) ≡ Stuck
-wrong_result = refl
-
-no_object : run Plain 2 ((Lit (reg 0) PyNone, 1) ∷ of (Virtual (reg 1) (reg 0) 0 [])) (Return (reg 1)) ≡ Stuck
-no_object = refl
-
--- while an exception is pending a turn, a call, a primitive and a place that is not reached are stuck
-abbrev pending_at : List (Op × ℕ) → Last → Config
-pending_at ops last =
-    steps Plain (alone ops last) 1 (Runs (record { fn = 0; block = 0; place = 0; regs = λ k. Unset }) [] failing_world)
-
-pending_turn : pending_at (of Turn) (Return (reg 1)) ≡ Stuck
-pending_turn = refl
-
-pending_call : pending_at (of (Call (reg 1) 0 [])) (Return (reg 1)) ≡ Stuck
-pending_call = refl
-
-pending_text : pending_at (of (Prim (Some (reg 0)) (prim.Str str.Literal) (arg.Text [] ∷ []))) (Return (reg 1)) ≡ Stuck
-pending_text = refl
-
-pending_at_end : pending_at [] Unreachable ≡ Stuck
-pending_at_end = refl
-
-cut_at_end : seen (run Plain 1 [] Unreachable) ≡ Some (Cut, [])
-cut_at_end = refl
-
-raised_at_end : seen (pending_at [] (Return (reg 1))) ≡ Some (Raised failure, [])
-raised_at_end = refl
-
--- ---- a method is found by the object's class, under its name in C text
-method_is_named : function_id (codes "Node.sum") ≡ codes "4Node_sum"
-unfolding digits chars
-method_is_named = refl
-
-function_is_named : function_id (codes "tri") ≡ codes "tri"
-function_is_named = refl
-
-abbrev with_class : Program
-with_class = record {
-  globals = [];
-  classes = record { name = codes "A"; attrs = []; methods = codes "1A_m" ∷ []; traits = (codes "T", codes "1A_m" ∷ []) ∷ [] } ∷ record { name = codes "T"; attrs = []; methods = []; traits = [] } ∷ [];
+  classes =
+      record {
+        name = codes "K";
+        attrs = (codes "n", kind.Tagged) ∷ (codes "s", kind.Object) ∷ [];
+        methods = codes "1K_m" ∷ [];
+        traits = (codes "T", codes "1K_m" ∷ []) ∷ [];
+      }
+      ∷ record { name = codes "T"; attrs = []; methods = []; traits = [] } ∷ [];
   funcs =
-      record { name = codes "A.m"; params = 1; regs = (codes "self", Ref) ∷ []; ret = Ref; blocks = block [] (Return (reg 0)) ∷ [] }
-      ∷ top ((codes "o", Ref) ∷ (codes "r0", Ref) ∷ []) (block ((Virtual (reg 1) (reg 0) 0 [], 1) ∷ (TraitCall (reg 1) (reg 0) 1 0 [], 1) ∷ []) (Return (reg 1)) ∷ []) ∷ [];
+      record (function ((codes "self", Ref) ∷ []) Ref (block [] (Return (reg 0)) ∷ [])) { name = codes "K.m"; params = 1 }
+      ∷ top ((codes "o", Ref) ∷ (codes "i", Int) ∷ (codes "p", Ref) ∷ []) (block (on_line 1 ops) (Return (reg 0)) ∷ []) ∷ [];
 }
 
-abbrev at_call : ℕ → Config
-at_call i =
-    Runs (record { fn = 1; block = 0; place = i; regs = λ k. Holds (ObjVal 0) }) []
-    (record { store = InstObj 0 [] ∷ []; globals = []; pending = None; output = []; items = Eof; turns = 0 })
+-- a world with an instance of it
+abbrev having : Option Value → Option Value → World
+having n s = record (reading Eof) { store = InstObj 0 (n ∷ s ∷ []) ∷ []; turns = 0 }
 
-virtual_call : stands (steps Plain with_class 1 (at_call 0)) ≡ Some (0, 0, 0)
+abbrev undefined : Thrown
+undefined = thrown AttributeError (codes "attribute 's' of 'K' undefined")
+
+effects :
+    let int = λ (n : ℤ). Given (IntVal n) in
+    let text = λ (t : List ℕ). Given (StrVal t) in
+    let does = λ (q : Primitive) (xs : List Argument). effect (program []) q xs (reading Eof) in
+    let gives = λ (v : Value). Gives v (reading Eof) in
+    let fails = λ (c : ExcClass) (t : List ℕ). Fails (thrown c t) (reading Eof) in
+    let tag = λ (q : TaggedPrim) (xs : List Argument). does (prim.Tagged q) xs in
+    let of_text = λ (t : List ℕ). tag tagged.FromText (Written (arg.Text t) ∷ []) in
+    let accented = text (97 ∷ 195 ∷ 169 ∷ []) in
+    let input = λ (items : Items). effect (program []) (prim.Io io.Input) [] (reading items) in
+    let a_line = item.Line (codes "a") Eof in
+    let holding : List (Value × Value) → World = λ pairs. record (reading Eof) { store = DictObj pairs ∷ [] } in
+    let on_dict = λ (q : DictPrim) (pairs : List (Value × Value)) (xs : List Argument).
+    effect (program []) (prim.Dict q) (Given (ObjVal 0) ∷ xs) (holding pairs) in
+    let pair : List (Value × Value) = (StrVal (codes "a"), IntVal (pos 1)) ∷ [] in
+    let ones : List (Value × Value) = (IntVal (pos 1), NoneVal) ∷ [] in
+    let changed = codes "dictionary changed size during iteration" in
+    let a = text (codes "a") in
+    let b = text (codes "b") in
+    let new = λ (k : List ℕ). effect (with_class []) (prim.Instance instance.New) (Written (arg.Class k) ∷ []) (reading Eof) in
+    let attribute = λ (q : AttrPrim) (n : ℕ) (xs : List Argument) (w : World).
+    effect (with_class []) (prim.Attr q) (Given (ObjVal 0) ∷ Written (arg.Number (pos n)) ∷ xs) w in
+    let one = Some (IntVal (pos 1)) in
+    AsWanted (
+    -- a number past 64 bits, and past 128
+    (tag tagged.Add (int (pos 9223372036854775807) ∷ int (pos 1) ∷ []), gives (IntVal (pos 9223372036854775808)))
+    ∷ (tag tagged.Lshift (int (pos 1) ∷ int (pos 127) ∷ []), fails OverflowError (codes "integer is past 128 bits"))
+    -- a truth is no `int` before it is made one
+    ∷ (tag tagged.Add (int (pos 1) ∷ Given (BoolVal true) ∷ []), Wrong)
+    ∷ (tag tagged.FromBool (Given (BoolVal true) ∷ []), gives (IntVal (pos 1)))
+    -- the text of an `int` is as it is printed, and no short one
+    ∷ (of_text (codes "4611686018427387904"), gives (IntVal (pos 4611686018427387904)))
+    ∷ (of_text (codes "4611686018427387903"), Wrong) ∷ (of_text (codes "04611686018427387904"), Wrong)
+    -- an `int` past 64 bits is no native integer
+    ∷ (tag tagged.AsInt64 (int (pos 9223372036854775808) ∷ []), fails OverflowError (codes "integer does not fit in i64"))
+    -- "a" and an accented "e" are three bytes and two characters; the shorter text is less
+    ∷ (does (prim.Str str.Len) (accented ∷ []), gives (IntVal (pos 2)))
+    ∷ (does (prim.Str str.GetItem) (accented ∷ int (negsuc 0) ∷ []), gives (StrVal (195 ∷ 169 ∷ [])))
+    ∷ (does (prim.Str str.GetItem) (accented ∷ int (pos 2) ∷ []), fails IndexError (codes "string index out of range"))
+    ∷ (does (prim.Str str.Lt) (a ∷ accented ∷ []), gives (BoolVal true))
+    -- a line is read, one that is not UTF-8 is passed over, and past the bytes that a program may read the run ends
+    ∷ (input a_line, gives (StrVal (codes "a"))) ∷ (input item.Over, Ends Over (reading item.Over))
+    ∷ (input (item.Bad a_line), Fails (thrown ValueError (codes "input is not UTF-8")) (reading a_line))
+    -- a pair is added to a dict; a value is replaced; a pair is cut; a value is read; a key is missing
+    ∷ (on_dict dict.SetItem pair (int (pos 1) ∷ b ∷ []), Acts (holding (pair ++ (IntVal (pos 1), StrVal (codes "b")) ∷ [])))
+    ∷ (on_dict dict.SetItem pair (a ∷ b ∷ []), Acts (holding ((StrVal (codes "a"), StrVal (codes "b")) ∷ [])))
+    ∷ (on_dict dict.DelItem pair (a ∷ []), Gives (BoolVal true) (holding []))
+    ∷ (on_dict dict.GetItem pair (a ∷ []), Gives (IntVal (pos 1)) (holding pair))
+    ∷ (on_dict dict.GetItem pair (b ∷ []), Fails (thrown KeyError (codes "b")) (holding pair))
+    -- a truth is no number, and an object no key
+    ∷ (on_dict dict.Contains ones (Given (BoolVal true) ∷ []), Gives (BoolVal false) (holding ones))
+    ∷ (on_dict dict.Contains pair (Given (ObjVal 0) ∷ []), Wrong)
+    -- the size of a dict has changed, and a place is past its keys
+    ∷ (on_dict dict.CheckSize pair (int (pos 2) ∷ []), Fails (thrown RuntimeError changed) (holding pair))
+    ∷ (on_dict dict.KeyAt pair (int (pos 1) ∷ []), Wrong)
+    -- an instance is made, and none of no class
+    ∷ (new (codes "K"), Gives (ObjVal 0) (record (having None None) { turns = 1 })) ∷ (new (codes "L"), Wrong)
+    -- an attribute is read, is unset, is written, and is past the slots
+    ∷ (attribute attr.Get 0 [] (having one None), IfTarget kind.Tagged (Gives (IntVal (pos 1)) (having one None)))
+    ∷ (attribute attr.Get 1 [] (having one None), IfTarget kind.Object (Fails undefined (having one None)))
+    ∷ (attribute attr.Set 1 (a ∷ []) (having one None), IfWritten kind.Object (Acts (having one (Some (StrVal (codes "a"))))))
+    ∷ (attribute attr.Get 2 [] (having None None), Wrong) ∷ [])
+unfolding digits chars encode
+effects = refl
+
+-- how they tell that they failed: by their rows, whatever the target is, or, where the row leaves it to a slot or a global, by it
+kinds : (t : Option RType) → AsWanted (
+    (error_kind (prim.Tagged tagged.Remainder) (Some Int), Magic) ∷ (error_kind (prim.Tagged tagged.Add) (Some I64), Magic)
+    ∷ (error_kind (prim.Tagged tagged.AsInt64) (Some I64), MagicOverlapping)
+    ∷ (error_kind (prim.Int64 int64.FloorDivide) None, MagicOverlapping) ∷ map (λ q. (error_kind q t, kind_by_result t)) (
+    prim.Attr attr.Get ∷ prim.Attr attr.GetBorrow ∷ prim.Global global.Get ∷ []))
+kinds t = refl
+
+-- ---- an object and its class
+on_object :
+    let begin = Runs (frame 1 0 (Holds (ObjVal 0))) [] (having None None) in
+    let first = λ (o : Op). sight (steps Plain (with_class (o ∷ [])) 1 begin) in
+    let get = λ (n : ℕ). Prim (Some (reg 2)) (prim.Attr attr.Get) (var 0 ∷ arg.Number (pos n) ∷ []) in
+    let put = λ (n : ℕ). Prim None (prim.Attr attr.Set) (var 0 ∷ arg.Number (pos n) ∷ var 2 ∷ []) in
+    AsWanted (
+    -- a register of another type than the slot's is neither read into nor written, also where the attribute is unset
+    (first (get 1), Is (Leaves 1 [] (record (having None None) { pending = Some undefined }))) ∷ (first (get 0), Is Stuck)
+    ∷ (first (put 1), IsAt 1 0 1) ∷ (first (put 0), Is Stuck)
+    -- a method is found by the object's class
+    ∷ (first (Virtual (reg 2) (reg 0) 0 []), IsAt 0 0 0) ∷ (first (TraitCall (reg 2) (reg 0) 1 0 []), IsAt 0 0 0) ∷ [])
 unfolding digits chars
-virtual_call = refl
+on_object = refl
 
-trait_call : stands (steps Plain with_class 1 (at_call 1)) ≡ Some (0, 0, 0)
+-- a call of a method has a line of its own, with the trait by its name
+method_lines : AsWanted (
+    (line_of (with_class []) (Virtual (reg 1) (reg 0) 0 (reg 2 ∷ [])), line.Virtual 1 0 0 (2 ∷ []))
+    ∷ (line_of (with_class []) (TraitCall (reg 1) (reg 0) 1 0 []), line.TraitCall 1 0 (codes "T") 0 []) ∷ [])
+method_lines = refl
+
+-- under its name in C text
+names : AsWanted ((function_id (codes "Node.sum"), codes "4Node_sum") ∷ (function_id (codes "tri"), codes "tri") ∷ [])
 unfolding digits chars
-trait_call = refl
+names = refl
 
--- and has a line of its own, with the trait by its name
-virtual_line : line_of with_class (Virtual (reg 1) (reg 0) 0 (reg 2 ∷ [])) ≡ line.Virtual 1 0 0 (2 ∷ [])
-virtual_line = refl
+-- ---- the module alone, with an object, a truth, a native integer and an `int`
+abbrev alone : List Op → Last → Program
+alone ops last =
+    program (top ((codes "o", Ref) ∷ (codes "b", Bool) ∷ (codes "n", I64) ∷ (codes "i", Int) ∷ (codes "p", Ref) ∷ [])
+    (block (on_line 1 ops) last ∷ []) ∷ [])
 
-trait_line : line_of with_class (TraitCall (reg 1) (reg 0) 1 0 []) ≡ line.TraitCall 1 0 (codes "T") 0 []
-trait_line = refl
+-- stuck, each in its way, and what is near it and is not
+stuck :
+    let at_last : Mode → List Op → Sight × Sight = λ m ops. (run m (alone ops (Return (reg 1))) 1 (length ops), Is Stuck) in
+    let at_end : List Op → Last → Sight × Sight = λ ops l. (run Plain (alone ops l) 1 (suc (length ops)), Is Stuck) in
+    let goes_on : Mode → Op → Sight × Sight = λ m o. (run m (alone (o ∷ set 1 1 ∷ []) (Return (reg 1))) 1 3, HasEnded Done []) in
+    let pending = λ (ops : List Op) (l : Last). sight (steps Plain (alone ops l) 1 (Runs (frame 0 0 Unset) [] failing)) in
+    let write = Prim None (prim.Io io.Write) (var 0 ∷ []) in
+    let taking_one : Func = record (function ((codes "n", I64) ∷ []) I64 (block [] (Return (reg 0)) ∷ [])) { params = 1 } in
+    let calls = λ (r : ℕ) (args : List Reg). run Plain (program (taking_one ∷ top ((codes "n", I64) ∷ (codes "b", Bool) ∷ [])
+    (block (on_line 1 (set 1 1 ∷ Call (reg r) 0 args ∷ [])) (Return (reg 1)) ∷ []) ∷ [])) 1 2 in
+    AsWanted (
+    -- a move of an error value, out of an object
+    goes_on Plain (Move (reg 4) (reg 0)) ∷ at_last Strict (Move (reg 4) (reg 0) ∷ []) ∷ goes_on Strict (Move (reg 1) (reg 1))
+    -- a register or a block or a function or a module that is not there
+    ∷ at_last Plain (set 9 1 ∷ []) ∷ (run Plain (alone [] (Goto 7)) 1 2, Is Stuck) ∷ at_last Plain (Call (reg 2) 5 [] ∷ [])
+    ∷ (run Plain (program []) 1 0, Is Stuck)
+    -- a literal of another type; 3 is the number of no `int`, and 1 is its error value
+    ∷ at_last Plain (set 1 3 ∷ []) ∷ at_last Plain (set 3 3 ∷ []) ∷ goes_on Plain (set 3 1)
+    -- a primitive with an error value, with no text, with one argument too many, and without its target
+    ∷ at_last Plain (write ∷ []) ∷ at_last Plain (Lit (reg 0) PyNone ∷ write ∷ [])
+    ∷ at_last Plain (Prim (Some (reg 2)) (prim.Int64 int64.Negate) (var 2 ∷ var 2 ∷ []) ∷ [])
+    ∷ at_last Plain (Prim None (prim.Str str.Literal) (arg.Text (codes "a") ∷ []) ∷ [])
+    -- a count of an error value, but for the one that allows it
+    ∷ at_last Plain (Inc (reg 0) ∷ []) ∷ at_last Plain (Dec (reg 0) ∷ []) ∷ goes_on Plain (XDec (reg 0))
+    -- a test of an error value, and of an object
+    ∷ at_end [] (If (reg 1) 1 1) ∷ at_end (Lit (reg 0) PyTrue ∷ []) (If (reg 0) 1 1)
+    -- an error value returned without an exception, and false from the module
+    ∷ at_end [] (Return (reg 1)) ∷ at_end (set 1 0 ∷ []) (Return (reg 1))
+    -- a call with too few arguments, with one of another type, or for a result of another type; and of a method of no object
+    ∷ (calls 0 (reg 0 ∷ []), IsAt 0 0 0) ∷ (calls 0 [], Is Stuck) ∷ (calls 0 (reg 1 ∷ []), Is Stuck)
+    ∷ (calls 1 (reg 0 ∷ []), Is Stuck) ∷ at_last Plain (Lit (reg 0) PyNone ∷ Virtual (reg 1) (reg 0) 0 [] ∷ [])
+    -- while an exception is pending a turn, a call, a primitive and a place that is not reached
+    ∷ (pending (Turn ∷ []) (Return (reg 1)), Is Stuck) ∷ (pending (Call (reg 1) 0 [] ∷ []) (Return (reg 1)), Is Stuck)
+    ∷ (pending (Prim (Some (reg 0)) (prim.Str str.Literal) (arg.Text [] ∷ []) ∷ []) (Return (reg 1)), Is Stuck)
+    ∷ (pending [] Unreachable, Is Stuck) ∷ (run Plain (alone [] Unreachable) 1 1, HasEnded Cut [])
+    ∷ (pending [] (Return (reg 1)), HasEnded (Raised (thrown ValueError (codes "no"))) []) ∷ [])
+stuck = refl
 
--- ---- shape
+-- ---- shape: the sum has it without its count, and its C text is well formed with it as well
 sum_fits : FuncFits sum
 sum_fits = (
   record { ops = (refl, tt); last = (lit< tt, lit< tt, inl (lit< tt)); handler = tt },
@@ -644,80 +375,58 @@ sum_fits = (
   ),
 )
 
--- the same without its count
-abbrev uncounted_sum : Func
-uncounted_sum =
-    top ((codes "r0", I64) ∷ (codes "r1", I64) ∷ (codes "r2", I64) ∷ (codes "r3", Ref) ∷ (codes "r4", Bool) ∷ [])
-    (block
-    ((Lit (reg 0) (Number (pos 3)), 6) ∷ (Lit (reg 1) (Number (pos 0)), 6) ∷ (Call (reg 2) 0 (reg 0 ∷ reg 1 ∷ []), 6)
-    ∷ (Prim (Some (reg 3)) (prim.Int64 int64.Str) (var 2 ∷ []), 6) ∷ (Prim None (prim.Io io.Write) (var 3 ∷ []), 6) ∷ (Lit (reg 4) (Number (pos 1)), 6)
-    ∷ []) (Return (reg 4)) ∷ [])
-
-abbrev uncounted : Program
-uncounted = program (sum ∷ uncounted_sum ∷ [])
-
-uncounted_fits : FuncFits uncounted_sum
-uncounted_fits = (record { ops = (refl, (refl, (refl, (refl, (refl, (refl, tt)))))); last = tt; handler = tt }, tt)
-
-uncounted_is_well_formed : well_formed (lower uncounted) ≡ true
+has_shape : Shape (program (sum ∷ printing [] ∷ []))
 unfolding digits chars is_utf8 encode unicode_ident
-uncounted_is_well_formed = refl
+has_shape =
+    let fits : FuncFits (printing []) = (record { ops = (refl, (refl, (refl, (refl, (refl, (refl, tt)))))); last = tt; handler = tt }, tt) in
+    record { funcs = (sum_fits, (fits, tt)); turns = ((1, refl), tt); lowered = refl }
 
-uncounted_has_shape : Shape uncounted
-uncounted_has_shape =
-    record { funcs = (sum_fits, (uncounted_fits, tt)); turns = ((1, refl), tt); lowered = uncounted_is_well_formed }
-
-counting_does_not_fit : op_fits (Dec (reg 3)) ≡ false
-counting_does_not_fit = refl
-
-sum_is_well_formed : well_formed (lower summing) ≡ true
+is_well_formed : well_formed (lower summing) ≡ true
 unfolding digits chars is_utf8 encode unicode_ident
-sum_is_well_formed = refl
+is_well_formed = refl
 
--- a jump back without a turn, and one to block 0
-round_does_not_fit : FuncFits round → ⊥
-round_does_not_fit h = ⊎_elim (λ l. omega arith) (λ e. absurd (cc)) h.1.0.last.2
+-- a count, a target among the arguments, a result without a target, a target without a result, and what is only lent
+do_not_fit : list_any op_fits (
+    Dec (reg 3) ∷ Prim (Some (reg 0)) (prim.Int64 int64.Negate) (var 0 ∷ []) ∷ Prim None (prim.Int64 int64.Negate) (var 0 ∷ [])
+    ∷ Prim (Some (reg 1)) (prim.Io io.Write) (var 0 ∷ [])
+    ∷ Prim (Some (reg 0)) (prim.List list.GetItemBorrow) (var 1 ∷ var 2 ∷ []) ∷ []) ≡ false
+do_not_fit = refl
 
-starting_again : LastFits 2 1 ((Turn, 1) ∷ []) (Goto 0) → ⊥
-starting_again h = let below : 0 < 0 = h.0 in omega arith
+-- a handler is a higher block, and not the block itself
+handlers : HandlerFits 2 0 (Some 1) × (HandlerFits 2 1 (Some 1) → ⊥)
+handlers = ((lit< tt, lit< tt), λ h. let below : 1 < 1 = h.0 in omega arith)
 
-testing_back : LastFits 2 1 [] (If (reg 0) 1 1) → ⊥
-testing_back h = let below : 1 < 1 = h.0.0 in omega arith
-
--- a target among the arguments, and a result without a target
-target_is_argument : op_fits (Prim (Some (reg 0)) (prim.Int64 int64.Negate) (var 0 ∷ [])) ≡ false
-target_is_argument = refl
-
-result_without_target : op_fits (Prim None (prim.Int64 int64.Negate) (var 0 ∷ [])) ≡ false
-result_without_target = refl
-
-target_without_result : op_fits (Prim (Some (reg 1)) (prim.Io io.Write) (var 0 ∷ [])) ≡ false
-target_without_result = refl
-
--- and what is only lent
-lent_result : op_fits (Prim (Some (reg 0)) (prim.List list.GetItemBorrow) (var 1 ∷ var 2 ∷ [])) ≡ false
-lent_result = refl
+-- a jump back without a turn, one to block 0, and a test of a block that is not higher
+jumps_back : (FuncFits round → ⊥) × (LastFits 2 1 ((Turn, 1) ∷ []) (Goto 0) → ⊥) × (LastFits 2 1 [] (If (reg 0) 1 1) → ⊥)
+jumps_back = (
+  λ h. ⊎_elim (λ l. omega arith) (λ e. absurd (cc)) h.1.0.last.2,
+  λ h. let below : 0 < 0 = h.0 in omega arith,
+  λ h. let below : 1 < 1 = h.0.0 in omega arith,
+)
 
 -- ---- all runs: the sum is fit, whatever the turns and the input are
-abbrev after_sum : ℕ → Items → List ℕ → World
-after_sum turns items output =
-    record { store = []; globals = []; pending = None; output = output; items = items; turns = turns }
-
-cut_short : (turns n k : ℕ) (items : Items) → steps Fitting summing n (start summing turns items) ≡ Ended Cut (after_sum 0 items []) → steps Fitting summing k (start summing turns items) ≢ Stuck
-cut_short turns n k items e = ended_is_calm Fitting summing n k (start summing turns items) Cut (after_sum 0 items []) e
-
 sum_is_fit : Fit summing
 unfolding digits int_wrap
-sum_is_fit zero items k = cut_short 0 60 k items refl
-sum_is_fit (suc zero) items k = cut_short 1 60 k items refl
-sum_is_fit (suc (suc zero)) items k = cut_short 2 60 k items refl
-sum_is_fit (suc (suc (suc zero))) items k = cut_short 3 60 k items refl
-sum_is_fit (suc (suc (suc (suc t)))) items k =
-    ended_is_calm Fitting summing 60 k (start summing (suc (suc (suc (suc t)))) items) Done (after_sum t items (codes "6")) refl
+sum_is_fit turns items k = by turns
+  where
+    ends : (t : ℕ) (e : Ending) (w : World) → steps Fitting summing 60 (start summing t items) ≡ Ended e w
+        → steps Fitting summing k (start summing t items) ≢ Stuck
+    ends t e w is = ended_is_calm Fitting summing 60 k (start summing t items) e w is
+
+    cut : World
+    cut = record (reading items) { turns = 0 }
+
+    by : (t : ℕ) → steps Fitting summing k (start summing t items) ≢ Stuck
+    by zero = ends 0 Cut cut refl
+    by (suc zero) = ends 1 Cut cut refl
+    by (suc (suc zero)) = ends 2 Cut cut refl
+    by (suc (suc (suc zero))) = ends 3 Cut cut refl
+    by (suc (suc (suc (suc t)))) =
+        ends (suc (suc (suc (suc t)))) Done (record (reading items) { output = codes "6"; turns = t }) refl
 
 sum_is_calm : Calm summing
 sum_is_calm = fit_is_calm summing sum_is_fit
 
 -- a module that moves an error value out of an object is not
-moving_is_not_calm : Calm (alone (of (Move (reg 4) (reg 0))) (Return (reg 1))) → ⊥
+moving_is_not_calm : Calm (alone (Move (reg 4) (reg 0) ∷ []) (Return (reg 1))) → ⊥
 moving_is_not_calm calm = calm 0 Eof 1 refl

@@ -3,7 +3,7 @@ use Rattle.std.proofs.Common.{◌≡◌, refl, ◌∙◌, ap, ℕ, suc, true, Li
 use Rattle.std.specs.List.{list_all}
 use Rattle.std.proofs.lemmas.Bool.{and_from, and_parts}
 use Rattle.c_core.specs.declared.code.Kind.{Kind}
-use Rattle.c_core.specs.declared.code.Kind.TheVariants.{Tagged, Int64, Char, Object}
+use Rattle.c_core.specs.declared.code.Kind.TheVariants.{Tagged}
 use Rattle.c_core.specs.declared.code.CArg.TheVariants as c_arg
 use Rattle.c_core.specs.declared.code.Line.{Line}
 use Rattle.c_core.specs.declared.code.Line.TheVariants as line
@@ -11,16 +11,14 @@ use Rattle.c_core.specs.declared.code.Code.{Code}
 use Rattle.c_core.specs.WellFormed.{Declared as Variable, spelled_line, same_kind, line_fits}
 use Rattle.ir_core.specs.declared.code.Reg.{Reg}
 use Rattle.ir_core.specs.declared.code.Op.{Op}
-use Rattle.ir_core.specs.declared.code.Op.TheVariants.{Move, Lit, Prim, Call, Virtual, TraitCall, Turn, Inc, Dec, XDec}
+use Rattle.ir_core.specs.declared.code.Op.TheVariants.{Prim, Call, TraitCall}
 use Rattle.ir_core.specs.declared.code.Block.{Block}
 use Rattle.ir_core.specs.declared.code.Program.{Program}
 use Rattle.ir_core.specs.Lower.{number_of, register_in, called_as, line_of, op_lines, label_before, label_of, end_lines, block_lines, lines_from}
 
 pub same_self : (k : Kind) → same_kind k k ≡ true
 same_self Tagged = refl
-same_self Int64 = refl
-same_self Char = refl
-same_self Object = refl
+same_self _ = refl
 
 -- registers as variables, and by their numbers
 pub map_registers : (args : List Reg) → map c_arg.Var (map number_of args) ≡ map register_in args
@@ -62,17 +60,10 @@ module _ (code : Code) (vars : List Variable) (ret : Kind) where
 -- ---- lines of two programs
 module _ (p q : Program) (classes : q.classes ≡ p.classes) (calls : (n : ℕ) → called_as q n ≡ called_as p n) where
   pub line_same : (o : Op) → line_of q o ≡ line_of p o
-  line_same (Move r s) = refl
-  line_same (Lit r l) = refl
-  line_same (Prim to c args) = refl
   line_same (Call r n args) = ap (λ name. line.Call (Some r.0) name (map register_in args)) (calls n)
-  line_same (Virtual r o n args) = refl
   line_same (TraitCall r o t n args) =
       ap (λ ks. line_of (record q { classes = ks }) (TraitCall r o t n args)) classes
-  line_same Turn = refl
-  line_same (Inc r) = refl
-  line_same (Dec r) = refl
-  line_same (XDec r) = refl
+  line_same _ = refl
 
   ops_same : (ops : List (Op × ℕ)) → op_lines q ops ≡ op_lines p ops
   ops_same [] = refl
