@@ -1,5 +1,5 @@
 -- A function that is called: its registers hold its arguments, and what its body gives is what the call gives.
-use Rattle.ir_builder.proofs.Common.{◌≡◌, ℕ, zero, suc, ◌+◌, ◌-◌, ◌<◌, ◌≤◌, true, false, List, [], ◌∷◌, ◌++◌, length, map, take, Option, Some, None, refl, ap, ◌∙◌, arith, ◌⊎◌, inl, inr, ⊎_elim, slice_get, nat_eq, nat_lt, if◌then◌else◌, replicate, option_map, Value, BoolVal, NoneVal, Sort, State, Outcome, Gives, Raises, Stops, on_to, Variable, TypedFunc, TypedModule, Flow, Goes, Breaks, Continues, Returns, and_set, answer, Func, Program, Waiting, Config, RType, Held, Unset, Holds, error_of, error_at, first_regs, Declared, type_of_reg, Vars, world, running, Ends, HasKind, flag_of, flag_in, Matches, parameter_sorts, CallGives, CallRaises, rtype_of, get_below, means_suite, variable_registers, variables_of, LeavesWith, BodyWorks, body_frame, end_value, Does, Escapes, watch_each, watch}
+use Rattle.ir_builder.proofs.Common.{◌≡◌, ℕ, zero, suc, ◌+◌, ◌-◌, ◌<◌, ◌≤◌, true, false, List, [], ◌∷◌, ◌++◌, length, map, take, Option, Some, None, refl, ap, ◌∙◌, arith, ⊎_elim, cases_lt, slice_get, nat_eq, nat_lt, if◌then◌else◌, replicate, option_map, Value, BoolVal, NoneVal, Sort, State, Outcome, Gives, Raises, Stops, on_to, Variable, TypedFunc, TypedModule, Flow, Goes, Breaks, Continues, Returns, and_set, answer, Func, Program, Waiting, Config, RType, Held, Unset, Holds, error_of, error_at, first_regs, Regs, Declared, type_of_reg, world, running, Ends, HasKind, flag_of, Matches, parameter_sorts, CallGives, CallRaises, rtype_of, get_below, means_suite, variable_registers, variables_of, LeavesWith, BodyWorks, end_value, Does, Escapes, watch_each, watch}
 use Rattle.std.proofs.lemmas.Bool.Decides.{nat_tests}
 use Rattle.py_typed.specs.Sorts as sort
 use Rattle.ir_core.specs.declared.code.RType.TheVariants.{Bool as BoolType}
@@ -7,6 +7,8 @@ use Rattle.std.proofs.lemmas.Bool.{eqb-true}
 use Rattle.source_soundness.proofs.Inverse.{watched_is}
 use Rattle.ir_builder_frames.proofs.ComingLemmas.{ends_stuck}
 use Rattle.ir_builder.specs.Functions.{FunctionWorks}
+use Rattle.ir_builder.specs.Lines.{setting_in}
+use Rattle.std.proofs.lemmas.List.{length-map, length-take-le}
 use Rattle.source_meaning.specs.State.{stop, ◌>>◌, ◌>>=◌, Stuck}
 use Rattle.source_meaning.specs.WaysOut.{inside}
 use Rattle.value_core.specs.Value.{IntVal}
@@ -14,27 +16,11 @@ use Rattle.std.specs.Prelude.{Bool}
 
 -- ---- arguments
 
-pub less_or : (j n : ℕ) → (j < n) ⊎ (n ≤ j)
-less_or zero zero = inr (omega arith)
-less_or zero (suc n) = inl (omega arith)
-less_or (suc j) zero = inr (omega arith)
-less_or (suc j) (suc n) = ⊎_elim (λ lt. inl (omega arith)) (λ le. inr (omega arith)) (less_or j n)
-
 abbrev pub sort_of : Variable → Sort
 sort_of v = v.1
 
-pub map_length : {A B : Type 0} (f : A → B) (xs : List A) → length (map f xs) ≡ length xs
-map_length f [] = refl
-map_length f (x ∷ xs) = ap suc (map_length f xs)
-
-take_size : {A : Type 0} (n : ℕ) (xs : List A) → n ≤ length xs → length (take n xs) ≡ n
-take_size zero [] le = refl
-take_size zero (x ∷ xs) le = refl
-take_size (suc n) [] le = absurd (omega arith)
-take_size (suc n) (x ∷ xs) le = ap suc (take_size n xs (omega arith))
-
 pub sorts_size : (f : TypedFunc) → f.params ≤ length f.locals → length (parameter_sorts f) ≡ f.params
-sorts_size f le = map_length sort_of (take f.params f.locals) ∙ take_size f.params f.locals le
+sorts_size f le = length-map (take f.params f.locals) sort_of ∙ length-take-le f.params f.locals le
 
 -- a parameter, its argument, and its register
 args_at : (vs : List Variable) (args : List Value) (more : Declared) (rest : List (Option Value)) (j : ℕ) (v : Variable) → j < length args → slice_get vs j ≡ Some v → (a : Value) × (slice_get (map Some args ++ rest) j ≡ Some (Some a)) × (first_regs (variable_registers vs ++ more) (map Holds args) j ≡ Holds a)
@@ -71,29 +57,28 @@ flag_unset ds xs k None le e h = let f : None ≡ Some BoolType = h in absurd (c
 flag_unset ds xs k (Some d) le e h = first_unset ds xs k d le e ∙ ap error_of (let f : Some d.1 ≡ Some BoolType = h in let same : d.1 ≡ BoolType = cc in same)
 
 -- the flags of a function's registers
-abbrev pub HaveFlags : Vars → ℕ → Declared → Type 0
-HaveFlags vars n declared =
-    (j : ℕ) → vars.params ≤ j → j < n → type_of_reg declared (record { 0 = flag_of vars j }) ≡ Some BoolType
+abbrev pub HaveFlags : ℕ → ℕ → Declared → Type 0
+HaveFlags params n declared =
+    (j : ℕ) → params ≤ j → j < n → type_of_reg declared (record { 0 = flag_of (variables_of params n) j }) ≡ Some BoolType
 
-pub entered : (m : TypedModule) (vs : List Variable) (vars : Vars) (params : ℕ) (declared more : Declared) (args : List Value) (s : State) → vars ≡ variables_of params (length vs) → params ≤ length vs → declared ≡ variable_registers vs ++ more → HaveFlags vars (length vs) declared → length args ≡ params → Matches (record { source = m; variables = vs; frame = body_frame vars }) (first_regs declared (map Holds args)) (record s { locals = map Some args ++ replicate (length vs - length args) None; handled = [] })
-entered m vs vars params declared more args s is few regs flags size = record {
+entered : (m : TypedModule) (vs : List Variable) (params : ℕ) (declared more : Declared) (args : List Value) (s : State) → params ≤ length vs → declared ≡ variable_registers vs ++ more → HaveFlags params (length vs) declared → length args ≡ params → Matches (setting_in m params vs) (first_regs declared (map Holds args)) (record s { locals = map Some args ++ replicate (length vs - length args) None; handled = [] })
+entered m vs params declared more args s few regs flags size = record {
   each = λ j v at.
       let low : j < length vs = get_below vs j v at in
-      let ps : vars.params ≡ params = ap (λ (z : Vars). z.params) is in
-      let many : vars.count ≡ length vs = ap (λ (z : Vars). z.count) is in
+      let now : Regs = first_regs declared (map Holds args) in
+      let place : ℕ = flag_of (variables_of params (length vs)) j in
       ⊎_elim
       (λ (lt : j < params).
       let a = args_at vs args more (replicate (length vs - length args) None) j v (omega (arith, size)) at in
-      let flag : flag_in vars (first_regs declared (map Holds args)) j ≡ Holds (BoolVal true) = (let l : j < vars.params = omega (arith, ps) in let e : nat_lt j vars.params ≡ true = grind (arith, nat_tests) in ap (λ b. if b then Holds (BoolVal true) else first_regs declared (map Holds args) (flag_of vars j)) e) in
-      let held : first_regs declared (map Holds args) j ≡ Holds a.0 = ap (λ ds. first_regs ds (map Holds args) j) regs ∙ a.2 in
-      (Some a.0, a.1, (held, flag)))
+      let e : nat_lt j params ≡ true = grind (arith, nat_tests) in
+      let held : now j ≡ Holds a.0 = ap (λ ds. first_regs ds (map Holds args) j) regs ∙ a.2 in
+      (Some a.0, a.1, (held, ap (λ b. if b then Holds (BoolVal true) else now place) e)))
       (λ (le : params ≤ j).
-      let above : vars.params ≤ j = omega (arith, ps) in
-      let wide : length (map {B = Held} Holds args) ≤ flag_of vars j = omega (arith, map_length {B = Held} Holds args, size, many, few) in
-      let unset : first_regs declared (map Holds args) (flag_of vars j) ≡ Unset = flag_unset declared (map Holds args) (flag_of vars j) (slice_get declared (flag_of vars j)) wide refl (flags j above low) in
-      let flag : flag_in vars (first_regs declared (map Holds args)) j ≡ Unset = (let e : nat_lt j vars.params ≡ false = grind (arith, nat_tests) in ap (λ b. if b then Holds (BoolVal true) else first_regs declared (map Holds args) (flag_of vars j)) e ∙ unset) in
-      (None, unset_at args (length vs - length args) j (omega (arith, size)) (omega (arith, size)), flag))
-      (less_or j params);
+      let wide : length (map {B = Held} Holds args) ≤ place = omega (arith, length-map {B = Held} args Holds, size) in
+      let unset : now place ≡ Unset = flag_unset declared (map Holds args) place (slice_get declared place) wide refl (flags j le low) in
+      let e : nat_lt j params ≡ false = grind (arith, nat_tests) in
+      (None, unset_at args (length vs - length args) j (omega (arith, size)) (omega (arith, size)), ap (λ b. if b then Holds (BoolVal true) else now place) e ∙ unset))
+      (cases_lt j params);
 }
 
 -- each is looked at
@@ -126,16 +111,17 @@ by_either true d e s P f q = f refl
 by_either false d e s P f q = q
 
 -- what a call of a function does once its turn is spent
-pub function_works : (p : Program) (m : TypedModule) (f : TypedFunc) (fn : ℕ) (h : Func) (vars : Vars) (more : Declared) → f.params ≤ length f.locals → vars ≡ variables_of f.params (length f.locals) → h.regs ≡ variable_registers f.locals ++ more → HaveFlags vars (length f.locals) h.regs → BodyWorks p (record { source = m; variables = f.locals; frame = body_frame vars }) (Some f.ret) (end_value (rtype_of f.ret)) (means_suite (record { source = m; variables = f.locals; frame = body_frame vars }) f.body) fn 0 1 → FunctionWorks p m f fn h
-function_works p m f fn h vars more few is regs flags body n calls args below s le =
+pub function_works : (p : Program) (m : TypedModule) (f : TypedFunc) (fn : ℕ) (h : Func) (more : Declared) → f.params ≤ length f.locals → h.regs ≡ variable_registers f.locals ++ more → HaveFlags f.params (length f.locals) h.regs → BodyWorks p (setting_in m f.params f.locals) (Some f.ret) (end_value (rtype_of f.ret)) (means_suite (setting_in m f.params f.locals) f.body) fn 0 1 → FunctionWorks p m f fn h
+function_works p m f fn h more few regs flags body n calls args below s le =
     let rest : List (Option Value) = replicate (length f.locals - length args) None in
     let first : State = record s { locals = map Some args ++ rest; handled = [] } in
     let here = running fn 0 1 (first_regs h.regs (map Holds args)) below (world None s) in
-    let run : Does Value = inside (map Some args ++ rest) (means_suite (record { source = m; variables = f.locals; frame = body_frame vars }) f.body n >>= answer NoneVal) in
+    let means : Does Flow = means_suite (setting_in m f.params f.locals) f.body n in
+    let run : Does Value = inside (map Some args ++ rest) (means >>= answer NoneVal) in
     let P : Outcome Value → Type 0 = λ o. Ends p s.turns here o (CallGives p f.ret below s) (CallRaises fn below s) in
     let stuck : P (Stops Stuck s) = ends_stuck p s.turns here s (CallGives p f.ret below s) (CallRaises fn below s) in
     by_either (nat_eq (length args) f.params) (watch_each (watch m) f.locals args >> run) (stop Stuck) s P
     (λ fits. each_watched m f.locals args s (λ o. P (on_to o (λ u. run)))
-    (answers p f fn below s here s.turns (means_suite (record { source = m; variables = f.locals; frame = body_frame vars }) f.body n first) (body n calls (first_regs h.regs (map Holds args)) below first (entered m f.locals vars f.params h.regs more args s is few regs flags (eqb-true (length args) f.params fits)) le))
+    (answers p f fn below s here s.turns (means first) (body n calls (first_regs h.regs (map Holds args)) below first (entered m f.locals f.params h.regs more args s few regs flags (eqb-true (length args) f.params fits)) le))
     stuck)
     stuck

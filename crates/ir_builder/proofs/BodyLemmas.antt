@@ -1,5 +1,6 @@
 -- The code of a function's body.
-use Rattle.ir_builder.proofs.Common.{◌≡◌, ℕ, suc, ◌≤◌, false, List, [], ◌∷◌, length, Option, Some, None, refl, sym, ap, ◌∙◌, subst, arith, slice_get, option_map, Value, State, Flow, Goes, Breaks, Continues, Returns, Sort, Func, Lit, Program, Reg, RType, Building, handled, Extends, Waiting, Config, Strict, declared_of, registers_of, Holds, Regs, literal_of, look, type_of_reg, return_step, Adds, Closes, world, running, returning, Leads, Meaning, Surrounding, LastKinds, Has, Placed, or_other, Setting, leads_refl, leads_step, leads_trans, ends_more, extends_trans, has_less, type_has, Filled, LeavesWith, Bodied, Escapes}
+use Rattle.ir_builder.proofs.Common.{◌≡◌, ℕ, suc, ◌≤◌, false, List, [], ◌∷◌, length, Option, Some, None, refl, sym, ap, ◌∙◌, subst, arith, slice_get, option_map, Value, State, Flow, Goes, Breaks, Continues, Returns, Sort, Func, Lit, Program, Reg, RType, Building, handled, Extends, Waiting, Config, Strict, declared_of, registers_of, Holds, Regs, literal_of, look, type_of_reg, return_step, Adds, Closes, world, running, returning, Leads, Meaning, Has, Placed, or_other, Setting, leads_refl, leads_step, leads_trans, ends_more, extends_trans, has_less, type_has, Filled, LeavesWith, Bodied, Escapes}
+use Rattle.std.proofs.lemmas.List.{nil_from_length}
 use Rattle.ir_core.specs.declared.code.Last.TheVariants.{Return as Leave}
 use Rattle.ir_core.specs.declared.code.Lit.{Lit as Literal}
 use Rattle.ir_builder_frames.proofs.StepLemmas.{literal_makes}
@@ -11,10 +12,6 @@ use Rattle.ir_builder.proofs.FillLemmas.{true_false, all_written}
 no_other : (h : Option ℕ) → h ≡ or_other h None
 no_other None = refl
 no_other (Some k) = refl
-
-pub no_items : {A : Type 0} (l : List A) → length l ≡ 0 → l ≡ []
-no_items [] e = refl
-no_items (x ∷ l) e = absurd (omega arith)
 
 -- exits that were filled are jumps to one place
 fill_jumps : (p : Program) (fn : ℕ) (b1 b3 b4 : Building) (start end : ℕ) → Extends b1 b3 → Filled b3 b4 start end end → Has p fn b4 → (from to : ℕ) (es : List Exit) → start ≤ from → to ≤ end → OpenIn b1 from to es → JumpTo p fn b1 (λ w. end) es
@@ -60,7 +57,7 @@ module _ (x : Setting) (result : Option Sort) (t : RType) (last : Literal) (m : 
       let n4 = f.blocks in
       record {
         extends = f.extends b0 (extends_trans b0 b1 b3 q.works.extends x13) (omega (arith, is_from));
-        ops = f.ops ∙ no_items b3.ops c.ops;
+        ops = f.ops ∙ nil_from_length b3.ops c.ops;
         more = omega arith;
         full = λ k le. all_written b2 b3 b4 r from end c f is_end k (omega (arith, is_from, le));
         works = λ p fn h value has handlers there is n calls regs below s match le.
@@ -71,7 +68,3 @@ module _ (x : Setting) (result : Option Sort) (t : RType) (last : Literal) (m : 
             let run = q.works.runs p fn None (λ w. end) placed jumps n calls regs below s match le in
             ends_more p s.turns _ (m n s) _ (LeavesWith p result value below) _ (Escapes fn below) (λ g u d z. flow_out p fn h value has3 there is regs below g u d z) (λ v u d z. z) run;
       }
-
--- the register that is given has the type of the result
-pub given_kinds : {line : ℕ} (g : Surrounding) (b1 b2 : Building) (r : Reg) (t : RType) (last : Literal) → Adds b1 b2 r.0 t (Lit r last) line → g.ret ≡ t → LastKinds g b2.regs (Leave r)
-given_kinds g b1 b2 r t last a is = a.type ∙ ap Some (sym is)

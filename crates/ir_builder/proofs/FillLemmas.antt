@@ -1,26 +1,16 @@
 -- The ends that are still open are written.
-use Rattle.ir_builder.proofs.Common.{◌≡◌, ◌≢◌, ℕ, zero, suc, ◌+◌, ◌<◌, ◌≤◌, Bool, true, false, List, [], ◌∷◌, length, Some, None, refl, sym, ap, ◌∙◌, subst, arith, ⊎_elim, cases_lt, Block, Last, Goto, If, IfError, Return, Unreachable, Op, Reg, End, in_block, Building, with_last, held_in, held, is_unwritten, is_open_at, item_at, Closes, Open, Filled}
-use Rattle.ir_builder_frames.proofs.PatchLemmas.{patches, ends_same}
+use Rattle.ir_builder.proofs.Common.{◌≡◌, ◌≢◌, ℕ, zero, suc, ◌+◌, ◌<◌, ◌≤◌, Bool, true, false, List, [], ◌∷◌, length, Some, None, refl, sym, ap, ◌∙◌, subst, arith, ⊎_elim, cases_lt, Block, Last, Goto, Return, Unreachable, Op, Reg, End, in_block, Building, with_last, held_in, held, is_unwritten, is_open_at, item_at, Closes, Open, Filled}
+use Rattle.ir_builder_frames.proofs.PatchLemmas.{patches}
 
 hole_end : (os : List (Op × ℕ)) (l : Last) → is_unwritten l ≡ true → in_block os l (length os) ≡ Some (End Unreachable)
-hole_end [] (Goto t) e = absurd (cc)
-hole_end [] (If r a b) e = absurd (cc)
-hole_end [] (IfError r a b line) e = absurd (cc)
-hole_end [] (Return r) e = absurd (cc)
 hole_end [] Unreachable e = refl
+hole_end [] l e = absurd (cc)
 hole_end (o ∷ os) l e = hole_end os l e
 
 open_at : (bs : List Block) (os : List (Op × ℕ)) (k : ℕ) → is_open_at bs k ≡ true → (i : ℕ) × (held_in bs os k i ≡ Some (End Unreachable))
 open_at [] os k e = absurd (cc)
 open_at (b ∷ bs) os zero e = (length b.ops, hole_end b.ops b.last e)
 open_at (b ∷ bs) os (suc k) e = open_at bs os k e
-
--- an open block's end is the unwritten one
-end_open : (os : List (Op × ℕ)) (l : Last) (i : ℕ) → in_block os l i ≡ Some (End Unreachable) → is_unwritten l ≡ true
-end_open [] l zero e = let f : Some (End l) ≡ Some (End Unreachable) = e in let g : l ≡ Unreachable = cc in ap is_unwritten g
-end_open [] l (suc i) e = let f : None ≡ Some (End Unreachable) = e in absurd (cc)
-end_open (o ∷ os) l zero e = absurd (cc)
-end_open (o ∷ os) l (suc i) e = end_open os l i e
 
 open_set : (bs : List Block) (k t : ℕ) → is_open_at (with_last bs k (Goto t)) k ≡ false
 open_set [] k t = refl
@@ -39,15 +29,17 @@ open_past [] k le = refl
 open_past (b ∷ bs) zero le = absurd (omega arith)
 open_past (b ∷ bs) (suc k) le = open_past bs k (omega arith)
 
--- what is held as an unwritten end below the blocks is an open block
-held_open : (bs : List Block) (os : List (Op × ℕ)) (k i : ℕ) → k < length bs → held_in bs os k i ≡ Some (End Unreachable) → is_open_at bs k ≡ true
-held_open [] os k i lt e = absurd (omega arith)
-held_open (b ∷ bs) os zero i lt e = end_open b.ops b.last i e
-held_open (b ∷ bs) os (suc k) i lt e = held_open bs os k i (omega arith) e
+-- the end that is held of a block says whether the block is open
+end_says : (os : List (Op × ℕ)) (x l : Last) (i : ℕ) → in_block os x i ≡ Some (End l) → is_unwritten x ≡ is_unwritten l
+end_says [] x l zero e = let f : Some (End x) ≡ Some (End l) = e in let same : x ≡ l = cc in ap is_unwritten same
+end_says [] x l (suc i) e = let f : None ≡ Some (End l) = e in absurd (cc)
+end_says (o ∷ os) x l zero e = absurd (cc)
+end_says (o ∷ os) x l (suc i) e = end_says os x l i e
 
-not_true : (x : Bool) → (x ≡ true → ⊥) → x ≡ false
-not_true true h = absurd (h refl)
-not_true false h = refl
+held_says : (bs : List Block) (os : List (Op × ℕ)) (k i : ℕ) (l : Last) → k < length bs → held_in bs os k i ≡ Some (End l) → is_open_at bs k ≡ is_unwritten l
+held_says [] os k i l lt e = absurd (omega arith)
+held_says (b ∷ bs) os zero i l lt e = end_says b.ops b.last l i e
+held_says (b ∷ bs) os (suc k) i l lt e = held_says bs os k i l (omega arith) e
 
 pub true_false : (x : Bool) → x ≡ true → x ≡ false → ⊥
 true_false x e f = let g : true ≡ false = sym e ∙ f in cc
@@ -60,7 +52,7 @@ filled_past b c from k to shut le below f = record {
       (λ ge.
       let q : j ≡ k = omega arith in
       let is : held b k i ≡ Some (End Unreachable) = subst (λ z. held b z i ≡ Some (End Unreachable)) q e in
-      absurd (true_false (is_open_at b.blocks k) (held_open b.blocks b.ops k i below is) (sym (f.same k (omega arith)) ∙ shut)))
+      absurd (true_false (is_open_at b.blocks k) (held_says b.blocks b.ops k i Unreachable below is) (sym (f.same k (omega arith)) ∙ shut)))
       (cases_lt j k);
   extends = f.extends;
   later = λ j i x l e. f.later j i x (omega arith) e;
@@ -101,15 +93,9 @@ filled_set b c d from k to is_open le f e =
       ops = ap (λ (v : Building). v.ops) e ∙ f.ops;
     }
 
-pub filled_end : (b c : Building) (from k upto to : ℕ) → upto ≤ k → k ≤ upto → Filled b c from k to → Filled b c from upto to
-filled_end b c from k upto to l u f = subst (λ z. Filled b c from z to) (let q : k ≡ upto = omega arith in q) f
-
 -- the last block returns
 closed_last : (b c : Building) (r : Reg) → Closes b c (Return r) → (k : ℕ) → k ≡ length b.blocks → is_open_at c.blocks k ≡ false
-closed_last b c r q k is = not_true (is_open_at c.blocks k) (λ is_open.
-    let o = open_at c.blocks c.ops k is_open in
-    let at : held c k (length b.ops) ≡ Some (End (Return r)) = ap (λ z. held c z (length b.ops)) is ∙ q.at in
-    let both : Unreachable ≡ Return r = ends_same c.blocks c.ops k o.0 (length b.ops) Unreachable (Return r) o.1 at in cc)
+closed_last b c r q k is = held_says c.blocks c.ops k (length b.ops) (Return r) (let n = q.blocks in omega (arith, is, n)) (ap (λ z. held c z (length b.ops)) is ∙ q.at)
 
 -- no end is open
 pub all_written : (b3 b4 b5 : Building) (r : Reg) (from to : ℕ) → Closes b3 b4 (Return r) → Filled b4 b5 from to to → to ≡ length b3.blocks → (k : ℕ) → from ≤ k → is_open_at b5.blocks k ≡ false

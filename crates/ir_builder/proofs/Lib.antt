@@ -1,7 +1,6 @@
 pub mod RegisterLemmas
 pub mod FillLemmas
 pub mod BodyLemmas
-pub mod LinedLemmas
 pub mod EdgeLemmas
 pub mod CallLemmas
 pub mod ArgumentLemmas

@@ -1,6 +1,8 @@
 -- A whole program does what its module does, is calm, and is built as a program is.
-use Rattle.ir_builder.proofs.Common.{◌≡◌, ◌≢◌, ℕ, zero, suc, ◌+◌, ◌-◌, ◌<◌, List, [], ◌∷◌, ◌++◌, length, map, take, get_or, Option, Some, None, ⊎_elim, refl, sym, ap, ◌∙◌, subst, arith, le_refl, add-one, length-append, slice_get, replicate, list_all, Ending, Done, Raised, is_identifier, names_differ, Sort, Outcome, Gives, Raises, Stops, start, top_of, stopped, raised_as, stop_of, TypedFunc, TypedModule, typed_func, typed_module, TFunc, Flow, Goes, Breaks, Continues, Returns, Func, Program, RType, Do, item_in, blocks_of, Config, Leaves, Ended, Stuck, Strict, if_some, leave, step, steps, error_of, first_regs, Declared, world, running, Escapes, Leads, Ends, FunctionType, head_of, parameter_sorts, BeginWith, HasHead, names_of, NoEdges, rtype_of, leads_as, leads_step, leads_trans, get_map, FunctionSuits, ModuleSuits, head_of_code, IsBuilt, IsFunction, IsOwn, IsProgram, heads_of, IsFunctionOf, AllBuilt, IsBuiltOf, register_of, variable_registers}
-use Rattle.std.proofs.lemmas.List.{map_push}
+use Rattle.ir_builder.proofs.Common.{◌≡◌, ◌≢◌, ℕ, zero, suc, ◌+◌, ◌-◌, ◌<◌, List, [], ◌∷◌, ◌++◌, length, map, take, get_or, Option, Some, None, ⊎_elim, refl, sym, ap, ◌∙◌, subst, arith, le_refl, add-one, length-append, slice_get, replicate, list_all, Ending, Done, Raised, is_identifier, names_differ, Sort, Outcome, Gives, Raises, Stops, start, top_of, stopped, raised_as, stop_of, TypedFunc, TypedModule, typed_func, typed_module, TFunc, Flow, Goes, Breaks, Continues, Returns, Func, Program, RType, item_in, blocks_of, Config, Leaves, Ended, Stuck, Strict, if_some, leave, step, steps, error_of, first_regs, Declared, world, running, Escapes, Leads, Ends, FunctionType, head_of, parameter_sorts, BeginWith, HasHead, names_of, NoEdges, AllFit, rtype_of, leads_as, leads_step, leads_trans, get_map, FunctionSuits, ModuleSuits, head_of_code, IsFunction, IsOwn, IsProgram, heads_of, IsFunctionOf, AllBuilt, IsBuiltOf, register_of, variable_registers}
+use Rattle.std.proofs.lemmas.List.{length-map, map_push}
+use Rattle.std.proofs.lemmas.Option.{slice_get-get_or}
+use Rattle.std.proofs.lemmas.Slice.Zip.{AllZip-long, all_zipped_more}
 use Rattle.std.proofs.Math.Seq.{take-suc}
 use Rattle.value_core.specs.Items.{Items}
 use Rattle.py_typed.specs.declared.checked.Checked.{Checked}
@@ -19,7 +21,6 @@ use Rattle.ir_builder_frames.specs.Watching.{watch}
 use Rattle.ir_builder.specs.Lines.{HasLines}
 use Rattle.ir_builder.specs.Meaning.{module_stop, DoesAsModule}
 use Rattle.ir_builder.proofs.CallLemmas.{IsThere, calls_work}
-use Rattle.ir_builder.proofs.ArgumentLemmas.{map_length}
 use Rattle.ir_builder.proofs.EdgeLemmas.{no_edges}
 use Rattle.ir_builder.proofs.FunctionLemmas.{names_are}
 
@@ -27,24 +28,23 @@ use Rattle.ir_builder.proofs.FunctionLemmas.{names_are}
 
 module _ (m : TypedModule) where
   built_at : (fs : List TypedFunc) (hs : List Func) (own : Func) (i : ℕ) (f : TypedFunc) → AllBuilt m fs hs → slice_get fs i ≡ Some f → (h : Func) × (slice_get (hs ++ own ∷ []) i ≡ Some h) × IsFunctionOf m f h
-  built_at [] [] own i f all e = let g : None ≡ Some f = e in absurd (cc)
-  built_at [] (h ∷ hs) own i f all e = absurd all
+  built_at [] hs own i f all e = let g : None ≡ Some f = e in absurd (cc)
   built_at (x ∷ fs) [] own i f all e = absurd all
   built_at (x ∷ fs) (h ∷ hs) own zero f all e = (h, refl, let g : Some x ≡ Some f = e in let same : x ≡ f = cc in subst (λ z. IsFunctionOf m z h) same all.0)
   built_at (x ∷ fs) (h ∷ hs) own (suc i) f all e = built_at fs hs own i f all.1 e
 
   code_at : (fs : List TypedFunc) (hs : List Func) (i : ℕ) (h : Func) → AllBuilt m fs hs → slice_get hs i ≡ Some h → (f : TypedFunc) × IsFunctionOf m f h
-  code_at [] [] i h all e = let g : None ≡ Some h = e in absurd (cc)
+  code_at fs [] i h all e = let g : None ≡ Some h = e in absurd (cc)
   code_at [] (x ∷ hs) i h all e = absurd all
-  code_at (f ∷ fs) [] i h all e = absurd all
   code_at (f ∷ fs) (x ∷ hs) zero h all e = (f, let g : Some x ≡ Some h = e in let same : x ≡ h = cc in subst (λ z. IsFunctionOf m f z) same all.0)
   code_at (f ∷ fs) (x ∷ hs) (suc i) h all e = code_at fs hs i h all.1 e
 
-  built_last : (fs : List TypedFunc) (hs : List Func) (f : TypedFunc) (h : Func) → AllBuilt m fs hs → IsFunctionOf m f h → AllBuilt m (fs ++ f ∷ []) (hs ++ h ∷ [])
-  built_last [] [] f h all one = (one, tt)
-  built_last [] (x ∷ hs) f h all one = absurd all
-  built_last (g ∷ fs) [] f h all one = absurd all
-  built_last (g ∷ fs) (x ∷ hs) f h all one = (all.0, built_last fs hs f h all.1 one)
+  -- what each function's code has in common with the function
+  same_map : {B : Type 0} (u : Func → B) (v : TypedFunc → B) → ((f : TypedFunc) (h : Func) → IsFunctionOf m f h → u h ≡ v f) → (fs : List TypedFunc) (hs : List Func) → AllBuilt m fs hs → map u hs ≡ map v fs
+  same_map u v one [] [] all = refl
+  same_map u v one [] (h ∷ hs) all = absurd all
+  same_map u v one (f ∷ fs) [] all = absurd all
+  same_map u v one (f ∷ fs) (h ∷ hs) all = ap (λ x. x ∷ map u hs) (one f h all.0) ∙ ap (λ l. v f ∷ l) (same_map u v one fs hs all.1)
 
   begin_params : (ds : Declared) (ts : List Sort) → BeginWith ds ts → map (λ (d : List ℕ × RType). d.1) (take (length ts) ds) ≡ map rtype_of ts
   begin_params ds [] b = refl
@@ -58,24 +58,6 @@ module _ (m : TypedModule) where
       let Q : RType → FunctionType = λ t. record { params = map rtype_of (parameter_sorts f); ret = t } in
       ap P params ∙ ap Q e.ret
 
-  heads_same : (fs : List TypedFunc) (hs : List Func) → AllBuilt m fs hs → map head_of_code hs ≡ map head_of fs
-  heads_same [] [] all = refl
-  heads_same [] (h ∷ hs) all = absurd all
-  heads_same (f ∷ fs) [] all = absurd all
-  heads_same (f ∷ fs) (h ∷ hs) all = ap (λ x. x ∷ map head_of_code hs) (head_same f h all.0.head) ∙ ap (λ l. head_of f ∷ l) (heads_same fs hs all.1)
-
-  names_same : (fs : List TypedFunc) (hs : List Func) → AllBuilt m fs hs → map (λ (h : Func). h.name) hs ≡ map (λ (f : TypedFunc). f.name) fs
-  names_same [] [] all = refl
-  names_same [] (h ∷ hs) all = absurd all
-  names_same (f ∷ fs) [] all = absurd all
-  names_same (f ∷ fs) (h ∷ hs) all = ap (λ x. x ∷ map (λ (z : Func). z.name) hs) all.0.name ∙ ap (λ l. f.name ∷ l) (names_same fs hs all.1)
-
-  as_many : (fs : List TypedFunc) (hs : List Func) → AllBuilt m fs hs → length fs ≡ length hs
-  as_many [] [] all = refl
-  as_many [] (h ∷ hs) all = absurd all
-  as_many (f ∷ fs) [] all = absurd all
-  as_many (f ∷ fs) (h ∷ hs) all = ap suc (as_many fs hs all.1)
-
 last_at : (hs : List Func) (own : Func) → slice_get (hs ++ own ∷ []) (length hs) ≡ Some own
 last_at [] own = refl
 last_at (h ∷ hs) own = last_at hs own
@@ -83,9 +65,7 @@ last_at (h ∷ hs) own = last_at hs own
 -- ---- the loop over functions
 
 get_at : {A : Type 0} (xs : List A) (i : ℕ) (x : A) → i < length xs → x ≡ get_or xs i x → slice_get xs i ≡ Some x
-get_at [] i x lt e = absurd (omega arith)
-get_at (y ∷ xs) zero x lt e = ap Some (sym e)
-get_at (y ∷ xs) (suc i) x lt e = get_at xs i x (omega arith) e
+get_at xs i x lt e = slice_get-get_or xs i x lt ∙ ap Some (sym e)
 
 pub suits_at : (c : Checked) (xs : List TFunc) (i : ℕ) (f : TFunc) → ModuleSuits (typed_module c) → xs ≡ c.funcs → i < length xs → f ≡ get_or xs i f → FunctionSuits (typed_module c) (typed_func f)
 suits_at c xs i f suits same lt is =
@@ -95,12 +75,9 @@ pub built_next : (m : TypedModule) (xs : List TFunc) (i : ℕ) (f : TFunc) (hs h
 built_next m xs i f hs hs' h lt is all one e =
     let row : take (i + 1) xs ≡ take i xs ++ f ∷ [] = rw (add-one, take-suc xs i f lt, ← is) refl in
     let fs : map typed_func (take (i + 1) xs) ≡ map typed_func (take i xs) ++ typed_func f ∷ [] = ap (map typed_func) row ∙ map_push typed_func (take i xs) f in
-    subst (λ l. AllBuilt m l hs') (sym fs) (subst (λ l. AllBuilt m (map typed_func (take i xs) ++ typed_func f ∷ []) l) (sym e) (built_last m (map typed_func (take i xs)) hs (typed_func f) h all one))
+    subst (λ l. AllBuilt m l hs') (sym fs) (subst (λ l. AllBuilt m (map typed_func (take i xs) ++ typed_func f ∷ []) l) (sym e) (all_zipped_more (IsFunctionOf m) (map typed_func (take i xs)) hs (typed_func f) h all one))
 
 -- ---- runs
-
-built_edges : (heads : List FunctionType) (globals : Declared) (p : Program) (fn : ℕ) (h : Func) → slice_get p.funcs fn ≡ Some h → IsBuilt heads globals h → NoEdges p fn
-built_edges heads globals p fn h there b = no_edges p fn h b.low b.highest there b.fits
 
 module _ (m : TypedModule) (p : Program) (b : IsBuiltOf m p) (suits : ModuleSuits m) where
   there : (g : ℕ) (f : TypedFunc) → slice_get m.funcs g ≡ Some f → IsThere p m g f
@@ -115,22 +92,20 @@ module _ (m : TypedModule) (p : Program) (b : IsBuiltOf m p) (suits : ModuleSuit
   pub has_lines : HasLines m p
   has_lines = record {
     functions = λ n f e. let k = built_at m m.funcs b.functions b.own n f b.each e in record { code = k.0; there = ap (λ fs. slice_get fs n) b.are ∙ k.1; lined = k.2.lined };
-    own = record { code = b.own; there = ap (slice_get p.funcs) (as_many m m.funcs b.functions b.each) ∙ own_at; lined = b.own_built.lined };
+    own = record { code = b.own; there = ap (slice_get p.funcs) (sym (AllZip-long (IsFunctionOf m) m.funcs b.functions b.each)) ∙ own_at; lined = b.own_built.lined };
   }
 
-  -- behind no operation that may fail stands a test of its result
-  edges_at : (fn : ℕ) (o : Option Func) → slice_get p.funcs fn ≡ o → NoEdges p fn
-  edges_at fn None none = record {
-    each = λ k i r o line is may. let gone : None ≡ Some (Do o line) = sym (ap (λ z. item_in (blocks_of z) k i) none) ∙ is in absurd (cc);
-  }
-  edges_at fn (Some h) there =
+  -- the ends of each function go up to one of its blocks, so behind no operation that may fail stands a test of its result
+  ends_at : (fn : ℕ) (o : Option Func) → slice_get p.funcs fn ≡ o → (n : ℕ) × AllFit n 0 (blocks_of o)
+  ends_at fn None none = (0, tt)
+  ends_at fn (Some h) there =
       ⊎_elim
-      (λ function. let k = code_at m m.funcs b.functions fn h b.each function in built_edges (heads_of m) (variable_registers m.globals) p fn h there k.1.built.built)
-      (λ last. built_edges (heads_of m) (variable_registers m.globals) p fn h there (subst (IsBuilt (heads_of m) (variable_registers m.globals)) (sym last) b.own_built.built.built))
+      (λ function. let one = (code_at m m.funcs b.functions fn h b.each function).1.built.built in (one.highest, one.fits))
+      (λ last. subst (λ (z : Func). (n : ℕ) × AllFit n 0 z.blocks) (sym last) (b.own_built.built.built.highest, b.own_built.built.built.fits))
       (get_behind b.functions b.own h fn (ap (λ fs. slice_get fs fn) (sym b.are) ∙ there))
 
   pub no_tests : (fn : ℕ) → NoEdges p fn
-  no_tests fn = edges_at fn (slice_get p.funcs fn) refl
+  no_tests fn = let ends = ends_at fn (slice_get p.funcs fn) refl in no_edges p fn ends.0 ends.1
 
   -- an exception that leaves the module's own code
   leaves : (w : World) → step Strict p (Leaves (length b.functions) [] w) ≡ leave Strict p Bool (error_of Bool) [] w
@@ -157,7 +132,7 @@ module _ (m : TypedModule) (p : Program) (b : IsBuiltOf m p) (suits : ModuleSuit
   starts : (turns : ℕ) (items : Items) → run.start p turns items ≡ running (length b.functions) 0 0 (first_regs b.own.regs []) [] (world None (start m turns items))
   starts turns items =
       let last : length p.funcs - 1 ≡ length b.functions = omega (arith, ap length b.are, length-append b.functions (b.own ∷ [])) in
-      let globals : length p.globals ≡ length m.globals = ap length b.globals ∙ map_length register_of m.globals in
+      let globals : length p.globals ≡ length m.globals = ap length b.globals ∙ length-map m.globals register_of in
       let W : ℕ → World = λ k. record { store = []; globals = replicate k None; pending = None; output = []; items = items; turns = turns } in
       ap (λ n. begins n (first_world p turns items) (slice_get p.funcs n)) last
       ∙ ap (begins (length b.functions) (first_world p turns items)) own_at
@@ -190,14 +165,14 @@ module _ (m : TypedModule) (p : Program) (b : IsBuiltOf m p) (suits : ModuleSuit
 
   pub is_program : IsProgram p
   is_program =
-      let heads : map head_of_code b.functions ≡ heads_of m = heads_same m m.funcs b.functions b.each in
+      let heads : map head_of_code b.functions ≡ heads_of m = same_map m head_of_code head_of (λ f h k. head_same m f h k.head) m.funcs b.functions b.each in
       record {
         functions = b.functions;
         own = b.own;
         are = b.are;
         each = λ n h e. let k = code_at m m.funcs b.functions n h b.each e in subst (λ gs. IsFunction (map head_of_code b.functions) gs h) (sym b.globals) (subst (λ hs. IsFunction hs (variable_registers m.globals) h) (sym heads) k.1.built);
         own_built = subst (λ gs. IsOwn (map head_of_code b.functions) gs b.own) (sym b.globals) (subst (λ hs. IsOwn hs (variable_registers m.globals) b.own) (sym heads) b.own_built.built);
-        differ = ap names_differ (names_same m m.funcs b.functions b.each) ∙ suits.differ;
+        differ = ap names_differ (same_map m (λ (h : Func). h.name) (λ (f : TypedFunc). f.name) (λ f h k. k.name) m.funcs b.functions b.each) ∙ suits.differ;
         classes = b.classes;
         globals = ap (λ ds. list_all is_identifier (names_of ds)) b.globals ∙ ap (list_all is_identifier) (names_are m.globals) ∙ suits.identifiers;
         globals_differ = ap (λ ds. names_differ (names_of ds)) b.globals ∙ ap names_differ (names_are m.globals) ∙ suits.globals_differ;

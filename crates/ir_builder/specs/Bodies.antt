@@ -1,8 +1,7 @@
 -- What the code of a function's body does.
-use Rattle.std.specs.Prelude.{◌≡◌, ℕ, suc, ◌<◌, ◌≤◌, false, List, [], length, Option, Some, None, slice_get}
+use Rattle.std.specs.Prelude.{◌≡◌, ℕ, ◌<◌, ◌≤◌, false, List, [], length, Option, Some, None, slice_get}
 use Rattle.value_core.specs.Value.{Value}
 use Rattle.source_meaning.specs.State.{State}
-use Rattle.py_typed.specs.Statements.{TypedModule}
 use Rattle.source_meaning.specs.WaysOut.{Flow, Goes, Returns}
 use Rattle.py_typed.specs.Sorts.{Sort}
 use Rattle.ir_core.specs.declared.code.Func.{Func}
@@ -10,7 +9,8 @@ use Rattle.ir_core.specs.declared.code.Last.TheVariants.{Goto, Unreachable}
 use Rattle.ir_core.specs.declared.code.Lit.{Lit}
 use Rattle.ir_core.specs.declared.code.Program.{Program}
 use Rattle.ir_core.specs.declared.code.RType.{RType}
-use Rattle.ir_core.specs.Building.{Building, held, handled, Extends, is_open_at}
+use Rattle.ir_builder_frames.specs.Building.{Building, held, handled, Extends}
+use Rattle.ir_core.specs.Building.{is_open_at}
 use Rattle.ir_core.specs.Items.{Item, End}
 use Rattle.ir_core.specs.Meaning.{Config, Waiting, item_at, handler_at}
 use Rattle.ir_core.specs.Registers.{Holds, Regs, literal_of}
@@ -18,13 +18,10 @@ use Rattle.ir_builder_frames.specs.declared.frame.Frame.{Frame}
 use Rattle.ir_builder_frames.specs.declared.frame.Vars.{Vars}
 use Rattle.ir_builder_frames.specs.Coming.{world, running, returning, Escapes, Ends}
 use Rattle.ir_builder_frames.specs.Computing.{Meaning}
-use Rattle.ir_builder_frames.specs.Kinds.{Surrounding, LiteralFits}
 use Rattle.ir_builder_frames.specs.Matching.{Matches, CallsWork}
 use Rattle.ir_builder_frames.specs.Placing.{Has}
 use Rattle.ir_builder_frames.specs.Settings.{Setting}
-use Rattle.ir_builder_frames.specs.Shaped.{Shaped}
 use Rattle.ir_builder_loops_and_jumps.specs.Runs.{GivesOne}
-use Rattle.ir_builder_statements.specs.Kinds.{IsAround}
 
 -- ---- ends that are still open
 
@@ -64,13 +61,3 @@ pub record Bodied (x : Setting) (result : Option Sort) (t : RType) (last : Lit) 
   pub more : length old.blocks < length new.blocks
   pub full : (k : ℕ) → length old.blocks ≤ k → is_open_at new.blocks k ≡ false
   pub works : (p : Program) (fn : ℕ) (h : Func) (end : Value) → Has p fn new → ((k : ℕ) → handler_at p fn k ≡ handled new k) → slice_get p.funcs fn ≡ Some h → literal_of t last ≡ Some (Holds end) → BodyWorks p x result end m fn (length old.blocks) (length old.ops)
-
--- it goes where it may, up to the last block
-abbrev pub CompletesShape : Building → Building → Type 0
-CompletesShape b c = (n m : ℕ) → n ≤ length b.regs → length c.blocks ≡ suc m → Shaped n m b → Shaped n m c
-
--- what a body is built among that gives a literal of this type at its end
-pub record BodyAround (m : TypedModule) (gives : Option Sort) (t : RType) (last : Lit) (g : Surrounding) : Type 0 where
-  pub around : IsAround m gives g
-  pub ret : g.ret ≡ t
-  pub fits : LiteralFits t last

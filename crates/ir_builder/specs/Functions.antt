@@ -1,5 +1,6 @@
 -- What is built of a function, and of a module's own statements.
 use Rattle.std.specs.Prelude.{◌≡◌, ℕ, ◌≤◌, false, pos, List, [], ◌∷◌, ◌++◌, map, Some, None, slice_get}
+use Rattle.std.specs.List.{AllZip}
 use Rattle.value_core.specs.Value.{Value, IntVal, BoolVal, NoneVal}
 use Rattle.value_core.specs.Ending.{Done}
 use Rattle.source_meaning.specs.State.{State}
@@ -17,7 +18,7 @@ use Rattle.ir_core.specs.Registers.{Holds, first_regs}
 use Rattle.ir_builder_frames.specs.Coming.{world, running, Escapes, Ends}
 use Rattle.ir_builder_frames.specs.Settings.{variable_registers}
 use Rattle.ir_builder_frames.specs.Watching.{watch, calls_in}
-use Rattle.ir_builder_frames.specs.Kinds.{FunctionType, head_of}
+use Rattle.ir_builder_frames.specs.Among.{heads_of}
 use Rattle.ir_builder_frames.specs.Matching.{HasHead, CallGives, CallRaises, CallsWork}
 use Rattle.ir_builder_shapes_laws.specs.Built.{IsFunction, IsOwn}
 use Rattle.ir_builder.specs.Lines.{setting_in, LinedFunction}
@@ -31,9 +32,6 @@ abbrev pub end_value : RType → Value
 end_value Ref = NoneVal
 end_value Bool = BoolVal false
 end_value t = IntVal (pos 0)
-
-abbrev pub heads_of : TypedModule → List FunctionType
-heads_of m = map head_of m.funcs
 
 -- where calls work, the function's code does behind its turn what the function's body does on arguments
 abbrev pub FunctionWorks : Program → TypedModule → TypedFunc → ℕ → Func → Type 0
@@ -59,10 +57,7 @@ pub record IsOwnOf (m : TypedModule) (h : Func) : Type 0 where
 
 -- each function has its code, in order
 abbrev pub AllBuilt : TypedModule → List TypedFunc → List Func → Type 0
-AllBuilt m [] [] = Unit {0}
-AllBuilt m [] (h ∷ hs) = ⊥
-AllBuilt m (f ∷ fs) [] = ⊥
-AllBuilt m (f ∷ fs) (h ∷ hs) = IsFunctionOf m f h × AllBuilt m fs hs
+AllBuilt m = AllZip (IsFunctionOf m)
 
 -- the program of a module: its functions in order, and its own statements behind them
 pub record IsBuiltOf (m : TypedModule) (p : Program) : Type 0 where

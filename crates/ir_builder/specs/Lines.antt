@@ -3,16 +3,10 @@ use Rattle.std.specs.Prelude.{◌≡◌, ℕ, List, [], ◌∷◌, length, Some,
 use Rattle.py_typed.specs.Statements.{Variable, TypedFunc, TypedModule, TypedSuite}
 use Rattle.ir_core.specs.declared.code.Func.{Func}
 use Rattle.ir_core.specs.declared.code.Program.{Program}
-use Rattle.ir_core.specs.Building.{Building}
 use Rattle.ir_builder_frames.specs.Settings.{Setting}
-use Rattle.ir_builder_shapes_laws.specs.Built.{building_of}
 use Rattle.ir_builder_statements.specs.Lined.{body, LinedPieces}
 use Rattle.ir_builder.specs.Bodies.{body_frame}
-use Rattle.ir_builder.specs.Registers.{variables_of}
-
--- a function before anything stands in it
-abbrev pub nothing_yet : Building
-nothing_yet = record { name = []; regs = []; blocks = []; ops = [] }
+use Rattle.ir_builder.specs.Registers.{beginning, variable_registers, variables_of}
 
 -- what the body of a function with so many parameters is built for
 abbrev pub setting_in : TypedModule → ℕ → List Variable → Setting
@@ -21,7 +15,9 @@ setting_in m params locals = record { source = m; variables = locals; frame = bo
 -- the code of a function is that of its body, with the lines of its statements and their expressions. What stands before and
 -- behind the body stands for nothing in the text, and has line 0
 abbrev pub LinedFunction : Setting → TypedSuite → Func → Type 0
-LinedFunction x suite h = LinedPieces x 0 (body suite ∷ []) nothing_yet (building_of h)
+LinedFunction x suite h =
+    let start = beginning x.source (variable_registers x.variables) h.ret in
+    LinedPieces x 0 (body suite ∷ []) start (record start { regs = h.regs; blocks = h.blocks })
 
 -- a function of a program has the lines of a body
 pub record LinedAt (p : Program) (n : ℕ) (x : Setting) (suite : TypedSuite) : Type 0 where

@@ -1,10 +1,7 @@
 //! The functions of a program.
-ghost use Rattle.std.specs.Prelude.{◌≡◌, IfOk, true};
-ghost use Rattle.c_core.specs.WellFormed.{names_differ};
+ghost use Rattle.std.specs.Prelude.{◌≡◌, IfOk};
 ghost use Rattle.py_typed.specs.Statements.{typed_module, typed_func};
-ghost use Rattle.ir_builder_frames.specs.Naming.{names_of};
 ghost use Rattle.ir_builder_statements.specs.Modules.{ModuleSuits, FunctionSuits};
-ghost use Rattle.ir_builder.specs.Registers.{Begins};
 ghost use Rattle.ir_builder.specs.Functions.{end_literal, IsFunctionOf, IsOwnOf};
 
 use crate::body::{NO_LINE, emit_body};
@@ -17,18 +14,19 @@ use std::alloc::Global;
 use value_core::{Many, Memory, Name};
 
 /// The code of a function.
+#[tactic(auto, using(crate::proofs::FunctionLemmas::few_params, crate::proofs::FunctionLemmas::literal_fits))]
 pub fn build_function(alloc: Global, checked: &Checked, f: &TFunc) -> Result<Func, Memory>
     requires module { ModuleSuits (typed_module checked.now) }
     requires function { FunctionSuits (typed_module checked.now) (typed_func f.now) }
     ensures { IfOk result (IsFunctionOf (typed_module checked.now) (typed_func f.now)) }
 {
     let variables = registers_for(alloc, f.locals.as_slice())?;
-    let mut b = begin(alloc, variables);
+    let ret = register_type(&f.ret);
+    let mut b = Emitter::new(alloc, checked, ret, variables);
     let count = f.locals.len();
     let vars = vars_of(f.params, count)?;
     add_flags(&mut b, f.params, count)?;
     b.push(Op::Turn, NO_LINE)?;
-    let ret = register_type(&f.ret);
     emit_body(
         &mut b,
         alloc,
@@ -41,15 +39,15 @@ pub fn build_function(alloc: Global, checked: &Checked, f: &TFunc) -> Result<Fun
         f.body.as_slice(),
     )?;
     let name = f.name.clone()?;
-    Ok(named(b.finish(f.params, ret), name))
+    Ok(b.finish(name, f.params))
 }
 
-/// The code of a module's own statements, which gives true at their end.
+/// The code of a module's own statements, which gives true at their end. It has no name.
 pub fn build_own(alloc: Global, checked: &Checked) -> Result<Func, Memory>
     requires { ModuleSuits (typed_module checked.now) }
     ensures { IfOk result (IsOwnOf (typed_module checked.now)) }
 {
-    let mut b = begin(alloc, Vec::new(alloc));
+    let mut b = Emitter::new(alloc, checked, RType::Bool, Many::new(alloc));
     let vars = vars_of(0, 0)?;
     emit_body(
         &mut b,
@@ -62,24 +60,7 @@ pub fn build_own(alloc: Global, checked: &Checked) -> Result<Func, Memory>
         Lit::Number(1),
         checked.top.as_slice(),
     )?;
-    Ok(b.finish(0, RType::Bool))
-}
-
-// A function whose variables have these registers, before its first operation. It gets its name when it is done.
-fn begin(alloc: Global, registers: Vec<(Name, RType)>) -> Emitter
-    requires { names_differ (names_of registers.items) ≡ true }
-    ensures { Begins registers.items result }
-{
-    let name = Name::from_string(String::new(alloc));
-    Emitter::new(alloc, name, Many::from_vec(registers))
-}
-
-// A function under a name.
-fn named(mut f: Func, name: Name) -> Func
-    ensures { result ≡ record f { name = name } }
-{
-    f.name = name;
-    f
+    Ok(b.finish(Name::from_string(String::new(alloc)), 0))
 }
 
 // What the code of a function gives at its end, where its result has registers of a type.

@@ -41,7 +41,7 @@ fn build_all(alloc: Global, checked: &Checked) -> Result<Program, Memory>
     funcs.push(own)?;
     let globals = registers_for(alloc, checked.globals.as_slice())?;
     Ok(Program {
-        globals: Many::from_vec(globals),
+        globals,
         classes: Many::new(alloc),
         funcs: Many::from_vec(funcs),
     })

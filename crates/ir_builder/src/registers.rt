@@ -1,8 +1,6 @@
 //! The registers with which a function begins.
 ghost use Rattle.std.specs.Prelude.{◌≡◌, ◌≤◌, ◌-◌, map, IfOk, OnOk};
 ghost use Rattle.py_typed.specs.Statements.{variable};
-ghost use Rattle.ir_builder_frames.specs.Shaped.{Keeps};
-ghost use Rattle.ir_builder_frames.specs.Kinds.{KeepsKinds};
 ghost use Rattle.ir_builder.specs.Registers.{variable_registers, variables_of, AddsFlags};
 
 use ir_builder_expressions::register_type;
@@ -10,13 +8,13 @@ use ir_builder_frames::{Emitter, Vars};
 use ir_core::RType;
 use py_typed::Var;
 use std::alloc::Global;
-use value_core::{Memory, Name};
+use value_core::{Many, Memory, Name};
 
 /// A register for each variable, under its name.
-pub fn registers_for(alloc: Global, variables: &[Var]) -> Result<Vec<(Name, RType)>, Memory>
-    ensures { IfOk result (λ made. made.items ≡ variable_registers (map variable variables.now)) }
+pub fn registers_for(alloc: Global, variables: &[Var]) -> Result<Many<(Name, RType)>, Memory>
+    ensures { IfOk result (λ made. made ≡ variable_registers (map variable variables.now)) }
 {
-    let mut registers = Vec::new(alloc);
+    let mut registers = Many::new(alloc);
     for one in variables {
         let name = one.name.clone()?;
         registers.push((name, register_type(&one.ty)))?;
@@ -39,22 +37,10 @@ pub fn vars_of(params: usize, count: usize) -> Result<Vars, Memory>
 /// The flags of the variables that are no parameters. They are unset when the function begins.
 pub fn add_flags(b: &mut Emitter, params: usize, count: usize) -> Result<(), Memory>
     requires { params ≤ count }
-    ensures added { OnOk result (AddsFlags (count - params) b.old b.new) }
-    ensures shaped { OnOk result (Keeps b.old b.new) }
-    ensures kinds { OnOk result (KeepsKinds b.old b.new) }
+    ensures { OnOk result (AddsFlags (count - params) b.old b.new) }
 {
     for variable in params..count {
-        add_flag(b)?;
+        b.temporary(RType::Bool)?;
     }
-    Ok(())
-}
-
-// The flag of one variable.
-fn add_flag(b: &mut Emitter) -> Result<(), Memory>
-    ensures added { OnOk result (AddsFlags 1 b.old b.new) }
-    ensures shaped { Keeps b.old b.new }
-    ensures kinds { KeepsKinds b.old b.new }
-{
-    b.temporary(RType::Bool)?;
     Ok(())
 }

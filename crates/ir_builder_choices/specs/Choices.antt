@@ -5,7 +5,7 @@ use Rattle.ir_core.specs.declared.code.Op.TheVariants.{Move}
 use Rattle.ir_core.specs.declared.code.Last.TheVariants.{Goto, If, Unreachable}
 use Rattle.ir_core.specs.declared.code.Program.{Program}
 use Rattle.ir_core.specs.Items.{Do, End}
-use Rattle.ir_core.specs.Building.{Building, held, handled, Extends}
+use Rattle.ir_builder_frames.specs.Building.{Building, held, handled, Extends}
 use Rattle.ir_core.specs.Meaning.{item_at}
 use Rattle.ir_builder_frames.specs.Placing.{HasType, Has}
 

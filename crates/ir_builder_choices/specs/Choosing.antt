@@ -7,7 +7,7 @@ use Rattle.source_meaning.specs.State.{State, Does, ◌>>=◌}
 use Rattle.source_meaning.specs.Operations.{truth_of}
 use Rattle.ir_core.specs.declared.code.Program.{Program}
 use Rattle.ir_core.specs.Registers.{Regs}
-use Rattle.ir_core.specs.Building.{Building, Extends}
+use Rattle.ir_builder_frames.specs.Building.{Building, Extends}
 use Rattle.ir_core.specs.Meaning.{Waiting}
 use Rattle.ir_builder_frames.specs.Settings.{Setting, rtype_of}
 use Rattle.ir_builder_frames.specs.Placing.{HasType, Placed}

@@ -1,9 +1,8 @@
 //! A choice between two values.
 ghost use Rattle.std.specs.Prelude.{◌≡◌, ◌<◌, ◌≤◌, length, IfOk, OnOk, OnErr, ℕ};
-ghost use Rattle.ir_core.specs.Building.{Extends};
+ghost use Rattle.ir_builder_frames.specs.Building.{Extends};
 ghost use Rattle.ir_builder_frames.specs.Calling.{Open};
-ghost use Rattle.ir_builder_frames.specs.Shaped.{Keeps};
-ghost use Rattle.ir_builder_frames.specs.Kinds.{IsOf, AreAlike, KeepsKinds, KeepsKindsIf};
+ghost use Rattle.ir_builder_frames.specs.Kinds.{IsOf, AreAlike};
 ghost use Rattle.ir_builder_frames.specs.Lines.{OwnLines};
 ghost use Rattle.ir_builder_choices.specs.Choices.{Opens, Brings, Meets};
 
@@ -24,8 +23,6 @@ pub struct Choice {
 pub fn begin(b: &mut Emitter, t: RType) -> Result<Choice, Memory>
     ensures kept { Extends b.old b.new }
     ensures opens { IfOk result (λ c. Opens b.old b.new c.target.0 c.test c.first t) }
-    ensures shaped { Keeps b.old b.new }
-    ensures kinds { KeepsKinds b.old b.new }
     ensures lined { (l : ℕ) → OwnLines l b.old b.new }
 {
     let target = b.temporary(t)?;
@@ -40,10 +37,9 @@ pub fn begin(b: &mut Emitter, t: RType) -> Result<Choice, Memory>
 
 /// Brings the first value, and answers the block that ends with it. Behind it comes the second value.
 pub fn turn(b: &mut Emitter, choice: Choice, r: Reg, line: usize) -> Result<usize, Memory>
+    requires alike { AreAlike b.old.regs choice.target r }
     ensures kept { Extends b.old b.new }
     ensures brings { IfOk result (λ k. Brings b.old b.new choice.target.0 r.0 k) }
-    ensures shaped { Keeps b.old b.new }
-    ensures kinds { KeepsKindsIf (λ g. AreAlike b.old.regs choice.target r) b.old b.new }
     ensures lined { OwnLines line b.old b.new }
 {
     b.push(Op::Move(choice.target, r), line)?;
@@ -67,10 +63,10 @@ pub fn meet(
     requires end { choice.first ≤ end }
     requires second { end < second }
     requires here { second ≤ length b.old.blocks }
+    requires alike { AreAlike b.old.regs choice.target r }
+    requires flag { IsOf b.old.regs condition RType.Bool }
     ensures kept { OnErr result (Extends b.old b.new) }
     ensures meets { OnOk result (Meets b.old b.new choice.target.0 r.0 condition.0 choice.test choice.first end second) }
-    ensures shaped { Keeps b.old b.new }
-    ensures kinds { KeepsKindsIf (λ g. AreAlike b.old.regs choice.target r × IsOf b.old.regs condition RType.Bool) b.old b.new }
     ensures lined { OwnLines line b.old b.new }
 {
     b.push(Op::Move(choice.target, r), line)?;

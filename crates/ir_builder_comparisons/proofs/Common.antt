@@ -13,7 +13,7 @@ pub use Rattle.ir_builder_operations.specs.Rows.{compared_sort, compares, invert
 pub use Rattle.ir_builder_operations.specs.declared.operation.Compared.{Compared}
 pub use Rattle.ir_builder_operations.specs.declared.operation.Compared.TheVariants.{Ints, Natives, Texts}
 pub use Rattle.ir_builder_operations.specs.declared.operation.Test.TheVariants.{AtMost, Equal, Less}
-pub use Rattle.ir_core.specs.Building.{Building}
+pub use Rattle.ir_builder_frames.specs.Building.{Building}
 pub use Rattle.ir_core.specs.declared.code.Reg.{Reg}
 pub use Rattle.py_typed.specs.Sorts.{Sort, sort}
 pub use Rattle.source_meaning.specs.Operations.{are_alike, is_equal}

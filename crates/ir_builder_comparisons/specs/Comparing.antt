@@ -8,7 +8,7 @@ use Rattle.py_typed.specs.Sorts.{Sort}
 use Rattle.source_meaning.specs.State.{Does}
 use Rattle.source_meaning.specs.Operations.{is_equal, is_less, truth_of}
 use Rattle.ir_core.specs.declared.code.RType.TheVariants as rtype
-use Rattle.ir_core.specs.Building.{Building}
+use Rattle.ir_builder_frames.specs.Building.{Building}
 use Rattle.ir_builder_frames.specs.Computing.{Shows, Attempts}
 use Rattle.ir_builder_operations.specs.declared.operation.Compared.{Compared}
 use Rattle.ir_builder_operations.specs.declared.operation.Compared.TheVariants.{Ints, Natives, Texts}

@@ -3,12 +3,10 @@ ghost use Rattle.std.specs.Prelude.{◌≡◌, IfOk, true};
 ghost use Rattle.py_syntax.specs.declared.expression.CmpOp.TheVariants.{Ne};
 ghost use Rattle.py_typed.specs.Sorts.{sort};
 ghost use Rattle.ir_core.specs.Registers.{Holds};
-ghost use Rattle.ir_core.specs.Building.{Extends};
+ghost use Rattle.ir_builder_frames.specs.Building.{Extends};
 ghost use Rattle.ir_builder_frames.specs.Computing.{Makes};
 ghost use Rattle.ir_builder_frames.specs.Placing.{HasType};
 ghost use Rattle.ir_builder_frames.specs.Settings.{rtype_of};
-ghost use Rattle.ir_builder_frames.specs.Shaped.{Keeps};
-ghost use Rattle.ir_builder_frames.specs.Kinds.{KeepsKinds};
 ghost use Rattle.ir_builder_frames.specs.Lines.{OwnLines};
 ghost use Rattle.ir_builder_operations.specs.Operating.{is_written};
 ghost use Rattle.ir_builder_operations.specs.Rows.{compared_sort, tested};
@@ -38,8 +36,6 @@ fn emit_test(
     requires right { HasType b.old y.0 (rtype_of (compared_sort compared)) }
     ensures kept { Extends b.old b.new }
     ensures made { IfOk result (λ r. Compares compared (tested test) b.old b.new r.0 x.0 y.0) }
-    ensures shaped { Keeps b.old b.new }
-    ensures kinds { KeepsKinds b.old b.new }
     ensures lined { OwnLines line b.old b.new }
 {
     let operation = Operation::Comparison(compared, test);
@@ -59,8 +55,6 @@ fn emit_difference(
     requires right { HasType b.old y.0 (rtype_of (compared_sort compared)) }
     ensures kept { Extends b.old b.new }
     ensures made { IfOk result (λ r. Compares compared (ordered Ne) b.old b.new r.0 x.0 y.0) }
-    ensures shaped { Keeps b.old b.new }
-    ensures kinds { KeepsKinds b.old b.new }
     ensures lined { OwnLines line b.old b.new }
 {
     let same = emit_test(b, alloc, compared, Test::Equal, x, y, line)?;
@@ -83,8 +77,6 @@ pub fn emit_comparison(
     requires right { HasType b.old y.0 (rtype_of (compared_sort compared)) }
     ensures kept { Extends b.old b.new }
     ensures made { IfOk result (λ r. Compares compared (ordered op) b.old b.new r.0 x.0 y.0) }
-    ensures shaped { Keeps b.old b.new }
-    ensures kinds { KeepsKinds b.old b.new }
     ensures lined { OwnLines line b.old b.new }
 {
     match op {
@@ -106,8 +98,6 @@ fn emit_false(
 ) -> Result<Reg, Memory>
     ensures kept { Extends b.old b.new }
     ensures made { IfOk result (λ r. Makes b.old b.new r.0 (rtype_of (compared_sort compared)) (λ regs h. h ≡ Holds (false_of compared))) }
-    ensures shaped { Keeps b.old b.new }
-    ensures kinds { KeepsKinds b.old b.new }
     ensures lined { OwnLines line b.old b.new }
 {
     match compared {
@@ -128,8 +118,6 @@ fn emit_compared_truth(
     requires { HasType b.old x.0 (rtype_of (compared_sort compared)) }
     ensures kept { Extends b.old b.new }
     ensures found { IfOk result (λ c. FindsTruth b.old b.new x.0 c.0 (compared_sort compared)) }
-    ensures shaped { Keeps b.old b.new }
-    ensures kinds { KeepsKinds b.old b.new }
     ensures lined { OwnLines line b.old b.new }
 {
     let none = emit_false(b, alloc, compared, line)?;
@@ -161,8 +149,6 @@ pub fn emit_truth(
     requires value { HasType b.old x.0 (rtype_of (sort t.now)) }
     ensures kept { Extends b.old b.new }
     ensures found { IfOk result (λ c. FindsTruth b.old b.new x.0 c.0 (sort t.now)) }
-    ensures shaped { Keeps b.old b.new }
-    ensures kinds { KeepsKinds b.old b.new }
     ensures lined { OwnLines line b.old b.new }
 {
     match compared_by(t) {

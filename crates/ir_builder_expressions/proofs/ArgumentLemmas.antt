@@ -1,7 +1,6 @@
 -- Arguments one after another.
-use Rattle.ir_builder_expressions.proofs.Common.{◌≡◌, refl, sym, ◌∙◌, ap, subst, ℕ, ◌+◌, ◌<◌, ◌≤◌, arith, le_refl, List, [], ◌∷◌, ◌++◌, length, map, Some, take, drop, get_or, add-one, drop_more, take_all, map_push, Value, TExpr, Sort, TypedModule, Variable, TypedExpr, type_of, exprs_of, typed_expr, State, Gives, on_to, Reg, Declared, type_of_reg, Regs, Building, Extends, Setting, rtype_of, HasRoom, IsThrown, means, Shows, ShowAll, HaveTypes, ArrivesAll, ComputesAll, extends_refl, extends_trans, type_kept, placed_part, ends_now, ends_of, on_assoc, room_on, computes_then, computes_all_then, Suits, ArgumentsSuit, SomeSuit, means_all, Emits, EmitsAll, Walks, show_kept}
+use Rattle.ir_builder_expressions.proofs.Common.{◌≡◌, refl, sym, ◌∙◌, ap, subst, ℕ, ◌+◌, ◌<◌, ◌≤◌, arith, le_refl, List, [], ◌∷◌, ◌++◌, length, map, Some, take, drop, get_or, add-one, drop_more, take_all, map_push, Value, TExpr, Sort, TypedModule, Variable, TypedExpr, type_of, exprs_of, typed_expr, State, Gives, on_to, Reg, Declared, type_of_reg, Regs, Building, Extends, Setting, rtype_of, HasRoom, IsThrown, means, Shows, ShowAll, HaveTypes, ArrivesAll, ComputesAll, extends_refl, extends_trans, type_kept, placed_part, ends_now, ends_of, on_assoc, room_on, computes_then, computes_all_then, Suits, ArgumentsSuit, SomeSuit, means_all, Emits, EmitsAll, show_kept}
 use Rattle.std.proofs.Math.Seq.{take-suc}
-use Rattle.ir_builder_expressions.proofs.WalkingLemmas.{walks_refl, walks_trans}
 
 snoc_means : (x : Setting) (n : ℕ) (es : List TypedExpr) (e : TypedExpr) (s : State) → means_all x (exprs_of (es ++ e ∷ [])) n s ≡ on_to (means_all x (exprs_of es) n s) (λ vs s1. on_to (means x e n s1) (λ v s2. Gives (vs ++ v ∷ []) s2))
 snoc_means x n [] e s = refl
@@ -86,16 +85,14 @@ module _ (m : TypedModule) (vs : List Variable) where
 
 -- arguments that were emitted from the left
 pub record Passing (x : Setting) (es : List TExpr) (i : ℕ) (start b : Building) (rs : List Reg) : Type 0 where
-  pub walks : Walks x.source start b
   pub emitted : EmitsAll x (map type_of (map typed_expr (take i es))) (exprs_of (map typed_expr (take i es))) start b rs
   pub suits : SomeSuit x.source x.variables (map typed_expr (drop i es))
 
 pub passing_none : (x : Setting) (es : List TExpr) (b : Building) → SomeSuit x.source x.variables (map typed_expr es) → Passing x es 0 b b []
-passing_none x es b suits = record { walks = walks_refl x.source b; emitted = none_emitted x b; suits = suits }
+passing_none x es b suits = record { emitted = none_emitted x b; suits = suits }
 
-pub passing_on : (x : Setting) (es : List TExpr) (i : ℕ) (e : TExpr) (start b c : Building) (rs rs' : List Reg) (r : Reg) → i < length es → e ≡ get_or es i e → HasRoom x start → Passing x es i start b rs → Walks x.source b c → Emits x (typed_expr e) b c r.0 → rs' ≡ rs ++ r ∷ [] → Passing x es (i + 1) start c rs'
-passing_on x es i e start b c rs rs' r lt is room g w one new = record {
-  walks = walks_trans x.source start b c g.walks w;
+pub passing_on : (x : Setting) (es : List TExpr) (i : ℕ) (e : TExpr) (start b c : Building) (rs rs' : List Reg) (r : Reg) → i < length es → e ≡ get_or es i e → HasRoom x start → Passing x es i start b rs → Emits x (typed_expr e) b c r.0 → rs' ≡ rs ++ r ∷ [] → Passing x es (i + 1) start c rs'
+passing_on x es i e start b c rs rs' r lt is room g one new = record {
   emitted = argument_emitted x es i e start b c rs rs' r lt is room g.emitted one new;
   suits = (argument_suits x.source x.variables es i e lt is g.suits).1;
 }

@@ -23,20 +23,21 @@ is_local e i is = is_node e _ _ (typed_node-Local i) is
 pub is_global : (e : TExpr) (i : ℕ) → e.kind ≡ kind.Global i → Is e (tree.Global i)
 is_global e i is = is_node e _ _ (typed_node-Global i) is
 
-pub is_compare : (e : TExpr) (a : Part) (cs : List (CmpOp × TExpr)) → e.kind ≡ kind.Compare a cs → Is e (tree.Compare (typed_expr a.value) (comparisons_of (map typed_comparison cs)))
-is_compare e a cs is = typed_expr-Compare e a cs is
+-- parts have other names in the code
+pub is_compare : (e : TExpr) (a : Part) (cs ds : List (CmpOp × TExpr)) (p : TExpr) → e.kind ≡ kind.Compare a cs → p ≡ a.value → ds ≡ cs → Is e (tree.Compare (typed_expr p) (comparisons_of (map typed_comparison ds)))
+is_compare e a cs ds p is same rest = rw (same, rest) (typed_expr-Compare e a cs is)
 
-pub is_and : (e : TExpr) (a b : Part) → e.kind ≡ kind.And a b → Is e (tree.And (typed_expr a.value) (typed_expr b.value))
-is_and e a b is = is_node e _ _ (typed_node-And a b) is
+pub is_and : (e : TExpr) (a b : Part) (p q : TExpr) → e.kind ≡ kind.And a b → p ≡ a.value → q ≡ b.value → Is e (tree.And (typed_expr p) (typed_expr q))
+is_and e a b p q is same other = rw (same, other) (is_node e _ _ (typed_node-And a b) is)
 
-pub is_or : (e : TExpr) (a b : Part) → e.kind ≡ kind.Or a b → Is e (tree.Or (typed_expr a.value) (typed_expr b.value))
-is_or e a b is = is_node e _ _ (typed_node-Or a b) is
+pub is_or : (e : TExpr) (a b : Part) (p q : TExpr) → e.kind ≡ kind.Or a b → p ≡ a.value → q ≡ b.value → Is e (tree.Or (typed_expr p) (typed_expr q))
+is_or e a b p q is same other = rw (same, other) (is_node e _ _ (typed_node-Or a b) is)
 
-pub is_cond : (e : TExpr) (a test b : Part) → e.kind ≡ kind.Cond a test b → Is e (tree.Cond (typed_expr a.value) (typed_expr test.value) (typed_expr b.value))
-is_cond e a test b is = is_node e _ _ (typed_node-Cond a test b) is
+pub is_cond : (e : TExpr) (a test b : Part) (p t q : TExpr) → e.kind ≡ kind.Cond a test b → p ≡ a.value → t ≡ test.value → q ≡ b.value → Is e (tree.Cond (typed_expr p) (typed_expr t) (typed_expr q))
+is_cond e a test b p t q is same tested other = rw (same, tested, other) (is_node e _ _ (typed_node-Cond a test b) is)
 
-pub is_call : (e : TExpr) (f : ℕ) (es : List TExpr) → e.kind ≡ kind.Call f es → Is e (tree.Call f (exprs_of (map typed_expr es)))
-is_call e f es is = is_node e _ _ (typed_node-Call f es) is
+pub is_call : (e : TExpr) (f : ℕ) (es fs : List TExpr) → e.kind ≡ kind.Call f es → fs ≡ es → Is e (tree.Call f (exprs_of (map typed_expr fs)))
+is_call e f es fs is same = rw same (is_node e _ _ (typed_node-Call f es) is)
 
 pub is_int : (e : TExpr) (n : ℤ) → e.kind ≡ kind.Int n → Is e (tree.Int n)
 is_int e n is = is_node e _ _ (typed_node-Int n) is
@@ -53,19 +54,19 @@ module _ (m : TypedModule) (vs : List Variable) where
   asked e n is s = subst (Suits m vs) is s
 
   -- of a choice by the truth of a part: each row, and its arms
-  pub and_asked : (e : TExpr) (a b : Part) → e.kind ≡ kind.And a b → Suits m vs (typed_expr e) → ChoiceSuits m vs (sort_of e.ty) (typed_expr a.value) (Some (typed_expr b.value)) None
+  pub and_asked : (e : TExpr) (a b : TypedExpr) → Is e (tree.And a b) → Suits m vs (typed_expr e) → ChoiceSuits m vs (sort_of e.ty) a (Some b) None
   and_asked e a b is s =
-      let h = asked e _ (is_and e a b is) s in
+      let h = asked e (tree.And a b) is s in
       record { tested = ap is_scalar h.1 ∙ h.0; test_suits = h.3; body_type = h.2; other_type = h.1; body_suits = h.4; other_suits = tt }
 
-  pub or_asked : (e : TExpr) (a b : Part) → e.kind ≡ kind.Or a b → Suits m vs (typed_expr e) → ChoiceSuits m vs (sort_of e.ty) (typed_expr a.value) None (Some (typed_expr b.value))
+  pub or_asked : (e : TExpr) (a b : TypedExpr) → Is e (tree.Or a b) → Suits m vs (typed_expr e) → ChoiceSuits m vs (sort_of e.ty) a None (Some b)
   or_asked e a b is s =
-      let h = asked e _ (is_or e a b is) s in
+      let h = asked e (tree.Or a b) is s in
       record { tested = ap is_scalar h.1 ∙ h.0; test_suits = h.3; body_type = h.1; other_type = h.2; body_suits = tt; other_suits = h.4 }
 
-  pub cond_asked : (e : TExpr) (a test b : Part) → e.kind ≡ kind.Cond a test b → Suits m vs (typed_expr e) → ChoiceSuits m vs (sort_of e.ty) (typed_expr test.value) (Some (typed_expr a.value)) (Some (typed_expr b.value))
+  pub cond_asked : (e : TExpr) (a test b : TypedExpr) → Is e (tree.Cond a test b) → Suits m vs (typed_expr e) → ChoiceSuits m vs (sort_of e.ty) test (Some a) (Some b)
   cond_asked e a test b is s =
-      let h = asked e _ (is_cond e a test b is) s in
+      let h = asked e (tree.Cond a test b) is s in
       record { tested = ap is_scalar h.2; test_suits = h.5; body_type = h.1; other_type = h.3; body_suits = h.4; other_suits = h.6 }
 
 -- what it promises

@@ -10,10 +10,9 @@ pub use Rattle.ir_builder_expressions.specs.Emitting.{Emits, EmitsAll, EmitsChai
 pub use Rattle.ir_builder_expressions.specs.Linking.{Begins, Ended, Linked, Met, Pending}
 pub use Rattle.ir_builder_expressions.specs.Literals.{literal_of_truth}
 pub use Rattle.ir_builder_expressions.specs.Parts.{fitting_in, is_i64, is_pair, is_scalar, is_text, literal_in, native_in, part_sort, sort_by}
-pub use Rattle.ir_builder_expressions.specs.Reading.{EmitsGlobal, EmitsLocal, HasRegisters, TestsSet, reports_unbound, setting_in}
+pub use Rattle.ir_builder_expressions.specs.Reading.{EmitsRead, TestsSet, reports_unbound}
 pub use Rattle.ir_builder_expressions.specs.Site.{setting_of}
 pub use Rattle.ir_builder_expressions.specs.Suiting.{ArgumentsSuit, ComparisonsSuit, IsSimpleAt, NodeSuits, SomeSuit, Suits}
-pub use Rattle.ir_builder_expressions.specs.Walking.{Walks}
 pub use Rattle.ir_builder_expressions.specs.declared.applying.Binary.{Binary}
 pub use Rattle.ir_builder_expressions.specs.declared.applying.Binary.TheVariants.{Arithmetic, Indexed, Joined}
 pub use Rattle.ir_builder_expressions.specs.declared.applying.Unary.{Unary}
@@ -22,7 +21,7 @@ pub use Rattle.ir_builder_expressions.specs.declared.chain.Link.{Link}
 pub use Rattle.ir_builder_expressions.specs.declared.comparing.Side.{Side}
 pub use Rattle.ir_builder_frames.proofs.AttemptLemmas.{both_attempt, failed_off}
 pub use Rattle.ir_builder_frames.proofs.ComingLemmas.{ends_both, ends_needed, ends_from, ends_lead, ends_map, ends_now, ends_of, leads_refl, leads_step, leads_trans, on_assoc}
-pub use Rattle.ir_builder_frames.proofs.HeldLemmas.{adds_has, extends_refl, extends_trans, get_below, guard_at, has_less, ok_join, ok_map, placed_part, pushes_has, type_below, type_has, type_kept}
+pub use Rattle.ir_builder_frames.proofs.HeldLemmas.{adds_has, extends_refl, extends_trans, get_below, guard_at, has_less, ok_map, placed_part, pushes_has, type_below, type_has, type_kept}
 pub use Rattle.ir_builder_frames.proofs.MatchLemmas.{computes_all_then, computes_of, computes_then, made_computes, match_kept, room_on, thrown_at, thrown_from, thrown_now}
 pub use Rattle.ir_builder_frames.proofs.WatchLemmas.{looked_at, watched}
 pub use Rattle.ir_builder_frames.specs.Watching.{watch}
@@ -30,20 +29,23 @@ pub use Rattle.ir_builder_frames.proofs.StepLemmas.{literal_makes, read_is}
 pub use Rattle.ir_builder_frames.specs.Calling.{Adds, Closes, Patches, Pushes}
 pub use Rattle.ir_builder_frames.specs.Coming.{Ends, Leads, returning, running, world}
 pub use Rattle.ir_builder_frames.specs.Computing.{Arrives, ArrivesAll, Attempts, Computes, ComputesAll, HaveTypes, Makes, Meaning, ShowAll, Itself, Showing, Shows, means, means_node}
-pub use Rattle.ir_builder_frames.specs.Kinds.{Answers, AreAlike, Calls, IsAmong, IsOf, KeepsKinds, KeepsKindsIf, LiteralFits, ReadsGlobal, Surrounding, Take, head_of}
-pub use Rattle.ir_builder_frames.specs.Matching.{BeginWith, HasHead, HasKind, HasRoom, IsThrown, Matches, flag_in, flag_of, parameter_sorts}
+pub use Rattle.ir_builder_frames.specs.Kinds.{AreAlike, Calls, ReadsGlobal, Take}
+pub use Rattle.ir_builder_frames.specs.Among.{IsAmong, Surrounding, head_of}
+pub use Rattle.ir_builder_frames.specs.Matching.{BeginWith, HasHead, HasKind, HasRoom, IsThrown, Matches, flag_in, flag_of}
+pub use Rattle.ir_builder_frames.specs.Settings.{parameter_sorts}
 pub use Rattle.ir_builder_frames.specs.Operands.{ActsOnAll}
 pub use Rattle.ir_builder_frames.specs.Placing.{Has, HasType, Placed, or_other}
 pub use Rattle.ir_builder_frames.specs.Settings.{Setting, rtype_of}
-pub use Rattle.ir_builder_frames.specs.Shaped.{AllBelow, Keeps}
 pub use Rattle.ir_builder_frames.specs.declared.frame.Vars.{Vars}
 pub use Rattle.ir_builder_operations.proofs.KindLemmas.{by_bool}
 pub use Rattle.ir_builder_operations.proofs.PartLemmas.{as_one, as_two, show_kept, stays}
 pub use Rattle.ir_builder_operations.proofs.ThenLemmas.{attempts_as, attempts_then, two_attempts}
-pub use Rattle.ir_builder_operations.specs.Operating.{Acts, ActsOn, ActsOnTwo, is_arithmetic, is_whole, is_written}
+pub use Rattle.ir_builder_operations.specs.Operating.{Acts, ActsOn, ActsOnTwo, is_written}
+pub use Rattle.ir_builder_operations.specs.Selecting.{is_arithmetic, is_whole}
 pub use Rattle.ir_builder_operations.specs.Rows.{compared_sort, compares, goes, inverts, is_known, of_one, of_two, operands_of, result_of}
 pub use Rattle.ir_core.proofs.StepLemmas.{call_step, error_step, goto_step, op_step, put_other, put_same}
-pub use Rattle.ir_core.specs.Building.{Building, Extends, held, with_last}
+pub use Rattle.ir_builder_frames.specs.Building.{Building, Extends, held}
+pub use Rattle.ir_core.specs.Building.{with_last}
 pub use Rattle.ir_core.specs.Meaning.{Leaves, Strict, Waiting, are_types, away, handler_at, is_fit, is_tested, is_type, item_at, read_all, registers_of, step}
 pub use Rattle.ir_core.specs.Registers.{Held, Holds, Regs, Unset, error_of, first_regs, is_error, put}
 pub use Rattle.ir_core.specs.Rows.{Declared, type_of_reg}

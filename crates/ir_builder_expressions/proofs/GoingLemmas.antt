@@ -1,10 +1,9 @@
 -- A chain of comparisons while it is emitted from the left.
-use Rattle.ir_builder_expressions.proofs.Common.{◌≡◌, sym, ◌∙◌, ap, subst, ℕ, ◌+◌, ◌-◌, ◌<◌, ◌≤◌, arith, true, List, [], ◌∷◌, ◌++◌, length, map, take, drop, get_or, drop_more, drop_all, take_all, CmpOp, TExpr, Sort, Comparisons, type_of, typed_expr, comparisons_of, typed_comparison, type_at, Reg, Lit, Building, Extends, Setting, rtype_of, HasType, Adds, HasRoom, Shows, Attempts, Keeps, KeepsKinds, extends_trans, type_kept, room_on, ActsOnTwo, Link, Side, is_ordering, Suits, ComparisonsSuit, literal_of_truth, is_scalar, is_pair, kind_sort, is_shown_as, holds_as, EmitsSide, EmitsChain, Walks, Begins, Linked, Pending, Ended}
+use Rattle.ir_builder_expressions.proofs.Common.{◌≡◌, sym, ◌∙◌, ap, subst, ℕ, ◌+◌, ◌-◌, ◌<◌, ◌≤◌, arith, true, List, [], ◌∷◌, ◌++◌, length, map, take, drop, get_or, drop_more, drop_all, take_all, CmpOp, TExpr, Sort, Comparisons, type_of, typed_expr, comparisons_of, typed_comparison, type_at, Reg, Lit, Building, Extends, Setting, rtype_of, HasType, Adds, HasRoom, Shows, Attempts, extends_trans, type_kept, room_on, ActsOnTwo, Link, Side, is_ordering, Suits, ComparisonsSuit, literal_of_truth, is_scalar, is_pair, kind_sort, is_shown_as, holds_as, EmitsSide, EmitsChain, Begins, Linked, Pending, Ended}
 use Rattle.py_typed.specs.Sorts as sort
 use Rattle.py_typed.specs.Sorts.{sort as sort_of}
 use Rattle.ir_core.specs.declared.code.RType.TheVariants as rtype
-use Rattle.ir_builder_expressions.proofs.WalkingLemmas.{walks_trans}
-use Rattle.ir_builder_expressions.proofs.LinkLemmas.{pending_snoc, pending_more, ended_last, keeps_both}
+use Rattle.ir_builder_expressions.proofs.LinkLemmas.{pending_snoc, pending_more, ended_last}
 use Rattle.ir_builder_expressions.proofs.ChainLemmas.{EmitsRest, chain_done, rest_done, rest_more, chain_from}
 
 abbrev pub Chain : Type 0
@@ -19,7 +18,7 @@ EmitsFrom x first cs b c r = EmitsChain x (kind_sort first.own) (kind_sort first
 
 -- the comparisons before the rest were emitted, and their choices wait: what is emitted for the rest makes the whole chain
 pub record Going (x : Setting) (first : Side) (whole more : Chain) (start b : Building) (links : List Link) (left : Side) (holds : Reg) : Type 0 where
-  pub walks : Walks x.source start b
+  pub kept : Extends start b
   pub pending : Pending start links b
   pub operand : HasType b left.reg.0 (rtype_of (kind_sort left.shown))
   pub shown : is_shown_as (kind_sort left.own) (kind_sort left.shown) ≡ true
@@ -42,11 +41,11 @@ one_more x left right p more b0 b1 b2 b3 holds r room type ce made rest =
 rest_suits : (x : Setting) (s : Sort) (right : Side) (p : CmpOp × TExpr) (more : Chain) (b c : Building) → EmitsSide x (typed_expr p.1) right b c → ComparisonsSuit x.source x.variables s (chain_of (p ∷ more)) → ComparisonsSuit x.source x.variables (kind_sort right.own) (chain_of more)
 rest_suits x s right p more b c ce h = subst (λ t. ComparisonsSuit x.source x.variables t (chain_of more)) (sym ce.own) h.4
 
-pub going_first : (x : Setting) (first : Side) (p : CmpOp × TExpr) (more : Chain) (start b1 b2 : Building) (left : Side) (holds : Reg) → ComparisonsSuit x.source x.variables (kind_sort first.own) (chain_of (p ∷ more)) → HasRoom x start → HasType start first.reg.0 (rtype_of (kind_sort first.shown)) → Walks x.source start b1 → EmitsSide x (typed_expr p.1) left start b1 → Walks x.source b1 b2 → Compares p.0 first left b1 b2 holds.0 → Going x first (p ∷ more) more start b2 [] left holds
-going_first x first p more start b1 b2 left holds suits room type w1 ce w2 made = record {
-  walks = walks_trans x.source start b1 b2 w1 w2;
-  pending = extends_trans start b1 b2 w1.kept w2.kept;
-  operand = type_kept b1 b2 left.reg.0 (rtype_of (kind_sort left.shown)) w2.kept ce.emits.type;
+pub going_first : (x : Setting) (first : Side) (p : CmpOp × TExpr) (more : Chain) (start b1 b2 : Building) (left : Side) (holds : Reg) → ComparisonsSuit x.source x.variables (kind_sort first.own) (chain_of (p ∷ more)) → HasRoom x start → HasType start first.reg.0 (rtype_of (kind_sort first.shown)) → EmitsSide x (typed_expr p.1) left start b1 → Compares p.0 first left b1 b2 holds.0 → Going x first (p ∷ more) more start b2 [] left holds
+going_first x first p more start b1 b2 left holds suits room type ce made = record {
+  kept = extends_trans start b1 b2 ce.emits.extends made.extends;
+  pending = extends_trans start b1 b2 ce.emits.extends made.extends;
+  operand = type_kept b1 b2 left.reg.0 (rtype_of (kind_sort left.shown)) made.extends ce.emits.type;
   shown = ce.shown;
   flag = made.type;
   suits = rest_suits x (kind_sort first.own) left p more start b1 ce suits;
@@ -55,17 +54,17 @@ going_first x first p more start b1 b2 left holds suits room type w1 ce w2 made 
       rw (ended.0, ended.1) chain;
 }
 
-pub going_on : (x : Setting) (first : Side) (whole : Chain) (p : CmpOp × TExpr) (more : Chain) (start b b1 b2 b3 : Building) (links links' : List Link) (left : Side) (holds : Reg) (left' : Side) (holds' : Reg) → HasRoom x start → Going x first whole (p ∷ more) start b links left holds → Walks x.source b b1 → Linked b b1 links links' holds → Walks x.source b1 b2 → EmitsSide x (typed_expr p.1) left' b1 b2 → Walks x.source b2 b3 → Compares p.0 left left' b2 b3 holds'.0 → Going x first whole more start b3 links' left' holds'
-going_on x first whole p more start b b1 b2 b3 links links' left holds left' holds' room g w1 linked w2 ce w3 made =
+pub going_on : (x : Setting) (first : Side) (whole : Chain) (p : CmpOp × TExpr) (more : Chain) (start b b1 b2 b3 : Building) (links links' : List Link) (left : Side) (holds : Reg) (left' : Side) (holds' : Reg) → HasRoom x start → Going x first whole (p ∷ more) start b links left holds → Linked b b1 links links' holds → EmitsSide x (typed_expr p.1) left' b1 b2 → Compares p.0 left left' b2 b3 holds'.0 → Going x first whole more start b3 links' left' holds'
+going_on x first whole p more start b b1 b2 b3 links links' left holds left' holds' room g linked ce made =
     let l : Link = record { choice = linked.0; holds = holds } in
-    let w01 = walks_trans x.source start b b1 g.walks w1 in
-    let w13 = walks_trans x.source b1 b2 b3 w2 w3 in
+    let x01 = extends_trans start b b1 g.kept linked.2.extends in
+    let x13 = extends_trans b1 b2 b3 ce.emits.extends made.extends in
     let begins : Begins b b1 l = record { holds = g.flag; opens = linked.2 } in
     let P : List Link → Type 0 = λ z. Pending start z b3 in
     record {
-      walks = walks_trans x.source start b1 b3 w01 w13;
-      pending = subst P (sym linked.1) (pending_more start (links ++ l ∷ []) b1 b3 (pending_snoc start links l b b1 g.pending begins) w13.kept);
-      operand = type_kept b2 b3 left'.reg.0 (rtype_of (kind_sort left'.shown)) w3.kept ce.emits.type;
+      kept = extends_trans start b1 b3 x01 x13;
+      pending = subst P (sym linked.1) (pending_more start (links ++ l ∷ []) b1 b3 (pending_snoc start links l b b1 g.pending begins) x13);
+      operand = type_kept b2 b3 left'.reg.0 (rtype_of (kind_sort left'.shown)) made.extends ce.emits.type;
       shown = ce.shown;
       flag = made.type;
       suits = rest_suits x (kind_sort left.own) left' p more b1 b2 ce g.suits;
@@ -73,7 +72,7 @@ going_on x first whole p more start b b1 b2 b3 links links' left holds left' hol
           let Q : List Link → Type 0 = λ z. Ended z c q d r in
           let last = ended_last links l c q d r (subst Q linked.1 ended) in
           let met = last.1 in
-          let chain = one_more x left left' p more b1 b2 b3 c holds' q (room_on x start b1 w01.kept room) (type_kept b b1 left.reg.0 (rtype_of (kind_sort left.shown)) w1.kept g.operand) ce made rest in
+          let chain = one_more x left left' p more b1 b2 b3 c holds' q (room_on x start b1 x01 room) (type_kept b b1 left.reg.0 (rtype_of (kind_sort left.shown)) linked.2.extends g.operand) ce made rest in
           g.ends last.0 d l.choice.target.0 r
           (rest_more x (kind_sort left.own) (kind_sort left.shown) left.reg.0 holds.0 (chain_of (p ∷ more)) b b1 c met.mid last.0 l.choice.target.0 l.choice.test l.choice.first met.end q g.flag linked.2 chain met.brings met.meets)
           last.2;
@@ -82,13 +81,6 @@ going_on x first whole p more start b b1 b2 b3 links links' left holds left' hol
 -- the chain is over
 pub going_ends : (x : Setting) (first : Side) (whole : Chain) (start b d : Building) (links : List Link) (left : Side) (holds : Reg) (r : ℕ) → Going x first whole [] start b links left holds → Ended links b holds.0 d r → EmitsFrom x first whole start d r
 going_ends x first whole start b d links left holds r g ended = g.ends b d holds.0 r (rest_done x (kind_sort left.own) (kind_sort left.shown) left.reg.0 holds.0 b g.flag) ended
-
-pub going_walks : (x : Setting) (first : Side) (whole more : Chain) (start b d : Building) (links : List Link) (left : Side) (holds : Reg) → Going x first whole more start b links left holds → ((a : Building) → Pending a links b → Extends a d) → length b.blocks ≤ length d.blocks → Keeps b d → KeepsKinds b d → Walks x.source start d
-going_walks x first whole more start b d links left holds g kept grown shaped kinds = record {
-  kept = kept start g.pending;
-  shaped = keeps_both start b d g.walks.kept.regs_grow grown g.walks.shaped shaped;
-  kinds = λ z among h. kinds z (g.walks.kinds z among h);
-}
 
 -- the next comparison of the rest
 pub next_of : (cs : Chain) (i : ℕ) (p : CmpOp × TExpr) → i < length cs → p ≡ get_or cs i p → drop i cs ≡ p ∷ drop (i + 1) cs
@@ -101,13 +93,13 @@ going_at x first whole cs i p start b links left holds lt is g =
 
 -- ---- the chain as the code goes over it
 
-pub going_start : (x : Setting) (first : Side) (rest : Chain) (p q : CmpOp × TExpr) (start b1 b2 : Building) (links : List Link) (left : Side) (holds : Reg) → 1 ≤ length rest → links ≡ [] → ComparisonsSuit x.source x.variables (kind_sort first.own) (chain_of rest) → HasRoom x start → HasType start first.reg.0 (rtype_of (kind_sort first.shown)) → Walks x.source start b1 → EmitsSide x (typed_expr (get_or rest 0 q).1) left start b1 → Walks x.source b1 b2 → Compares (get_or rest 0 p).0 first left b1 b2 holds.0 → Going x first rest (take (length rest - 1) (drop 1 rest)) start b2 links left holds
-going_start x first [] p q start b1 b2 links left holds n none suits room type w1 ce w2 made = absurd (omega arith)
-going_start x first (r ∷ more) p q start b1 b2 links left holds n none suits room type w1 ce w2 made =
+pub going_start : (x : Setting) (first : Side) (rest : Chain) (p q : CmpOp × TExpr) (start b1 b2 : Building) (links : List Link) (left : Side) (holds : Reg) → 1 ≤ length rest → links ≡ [] → ComparisonsSuit x.source x.variables (kind_sort first.own) (chain_of rest) → HasRoom x start → HasType start first.reg.0 (rtype_of (kind_sort first.shown)) → EmitsSide x (typed_expr (get_or rest 0 q).1) left start b1 → Compares (get_or rest 0 p).0 first left b1 b2 holds.0 → Going x first rest (take (length rest - 1) (drop 1 rest)) start b2 links left holds
+going_start x first [] p q start b1 b2 links left holds n none suits room type ce made = absurd (omega arith)
+going_start x first (r ∷ more) p q start b1 b2 links left holds n none suits room type ce made =
     let all : take (length (r ∷ more) - 1) more ≡ more = take_all (length (r ∷ more) - 1) more (omega arith) in
     let P : Chain → Type 0 = λ z. Going x first (r ∷ more) z start b2 links left holds in
     let Q : List Link → Type 0 = λ z. Going x first (r ∷ more) more start b2 z left holds in
-    subst P (sym all) (subst Q (sym none) (going_first x first r more start b1 b2 left holds suits room type w1 ce w2 made))
+    subst P (sym all) (subst Q (sym none) (going_first x first r more start b1 b2 left holds suits room type ce made))
 
 pub going_over : (x : Setting) (first : Side) (whole cs : Chain) (i : ℕ) (start b d : Building) (links : List Link) (left : Side) (holds : Reg) (r : ℕ) → length cs ≤ i → Going x first whole (drop i cs) start b links left holds → Ended links b holds.0 d r → EmitsFrom x first whole start d r
 going_over x first whole cs i start b d links left holds r le g ended =

@@ -1,4 +1,3 @@
-pub mod WalkingLemmas
 pub mod CallLemmas
 pub mod ArgumentLemmas
 pub mod ArmLemmas
@@ -10,7 +9,6 @@ pub mod SideLemmas
 pub mod ApplyLemmas
 pub mod LinkLemmas
 pub mod ChosenLemmas
-pub mod NodeLemmas
 pub mod ReadingLemmas
 pub mod ChainLemmas
 pub mod GoingLemmas

@@ -1,11 +1,10 @@
 -- How the lines of the code of an expression come from those of its parts.
 use Rattle.std.proofs.Common.{Result, Ok, Err, IfOk, OnOk}
-use Rattle.ir_builder_expressions.proofs.Common.{◌≡◌, refl, sym, ◌∙◌, ap, subst, ℕ, ◌+◌, ◌-◌, ◌<◌, ◌≤◌, arith, take, take_all, Box, Global, Bor, arm_of, List, [], ◌∷◌, ◌++◌, length, map, drop, get_or, Option, Some, None, ℤ, drop_more, drop_all, CmpOp, TExpr, TypedExpr, TypedNode, typed, typed_expr, typed_node, typed_expr_of, type_of, exprs_of, comparisons_of, typed_comparison, Building, Extends, Program, Setting, Has, has_less, Meets, Link, Ended, Emits, EmitsSide, Side, kind_sort, literal_in, Applied, applied_in, node_in}
-use Rattle.py_typed.specs.declared.expression.TKind as kind
+use Rattle.ir_builder_expressions.proofs.Common.{◌≡◌, refl, sym, ◌∙◌, ap, subst, ℕ, ◌+◌, ◌-◌, ◌<◌, ◌≤◌, arith, take, take_all, Bor, arm_of, List, [], ◌∷◌, ◌++◌, length, map, drop, get_or, Option, Some, None, ℤ, drop_more, drop_all, CmpOp, TExpr, TypedExpr, TypedNode, typed, typed_expr, typed_node, typed_expr_of, type_of, exprs_of, comparisons_of, typed_comparison, Building, Extends, Program, Setting, Has, has_less, Meets, Link, Ended, Emits, EmitsSide, Side, kind_sort, literal_in, Applied, applied_in, node_in}
 use Rattle.py_typed.specs.Expressions as tree
 use Rattle.ir_builder_frames.specs.Lines.{OwnLines}
 use Rattle.ir_builder_expressions.specs.Lined.{listed, operands_in, parts_in_arm, parts_applied, parts_of, IsCodeOf, Around, Lined, LinedParts, lined, own, part}
-use Rattle.ir_builder_expressions.proofs.ArmLemmas.{Is, is_compare, is_call}
+use Rattle.ir_builder_expressions.proofs.ArmLemmas.{Is}
 use Rattle.ir_builder_expressions.proofs.GoingLemmas.{next_of}
 
 pub always : {A E : Type 0} (res : Result A E) (P : Type 0) → P → OnOk res P
@@ -165,18 +164,6 @@ chain_over x l whole cs i start b c links r q le g ended p =
 pub chain_none : (x : Setting) (l : ℕ) (rest : Chain) (b c : Building) → length rest < 1 → Extends b c → OwnLines l b c → LinedParts x l (operands_of_all rest) b c
 chain_none x l [] b c lt kept p = own (around_by l b c kept p)
 chain_none x l (r ∷ more) b c lt kept p = absurd (omega arith)
-
--- ---- nodes of each kind
-
-module _ (x : Setting) (e : TExpr) where
-  pub call_lined : (f : ℕ) (args : List TExpr) (a b c : Building) → e.kind ≡ kind.Call f args → LinedParts x e.span.line (listed_of args) a b → Extends b c → OwnLines e.span.line b c → Lined x (typed_expr e) a c
-  call_lined f args a b c is h kept p = lined_node x e (tree.Call f (exprs_of (map typed_expr args))) a c (is_call e f args is) (lined_then h (around_by e.span.line b c kept p))
-
-  pub compare_lined : (a : Box TExpr Global) (p : TExpr) (cs : Chain) (b0 b1 b2 : Building) (q : Side) → e.kind ≡ kind.Compare a cs → p ≡ a.value → EmitsSide x (typed_expr p) q b0 b1 → Lined x (typed_expr p) b0 b1 → LinedParts x e.span.line (operands_of_all cs) b1 b2 → Lined x (typed_expr e) b0 b2
-  compare_lined a p cs b0 b1 b2 q is same side one rest =
-      let P : TExpr → Type 0 = λ z. IsCodeOf x (typed_expr z) b0 b1 in
-      let Q : TExpr → Type 0 = λ z. Lined x (typed_expr z) b0 b1 in
-      lined_node x e (tree.Compare (typed_expr a.value) (comparisons_of (map typed_comparison cs))) b0 b2 (is_compare e a cs is) (lined_first x e.span.line (typed_expr a.value) (operands_of_all cs) b0 b1 b2 (subst P same (kind_sort q.shown, q.reg.0, side.emits)) (subst Q same one) rest)
 
 -- ---- arms of choices
 

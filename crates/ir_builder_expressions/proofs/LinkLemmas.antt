@@ -1,7 +1,6 @@
 -- The choices of a chain: what was begun, and that all are met from the last.
-use Rattle.ir_builder_expressions.proofs.Common.{◌≡◌, refl, sym, ap, subst, ℕ, zero, suc, ◌≤◌, arith, List, [], ◌∷◌, ◌++◌, length, option_map, RType, Reg, Building, Extends, HasType, AreAlike, Keeps, extends_refl, extends_trans, type_kept, type_below, Link, Begins, Pending, Met, Ended}
+use Rattle.ir_builder_expressions.proofs.Common.{refl, sym, subst, ℕ, arith, List, [], ◌∷◌, ◌++◌, Reg, Building, Extends, HasType, AreAlike, extends_refl, extends_trans, type_kept, Link, Begins, Pending, Met, Ended}
 use Rattle.ir_core.specs.declared.code.RType.TheVariants as rtype
-use Rattle.ir_builder_operations.proofs.TextLemmas.{get_there}
 
 pub pending_extends : (b : Building) (ls : List Link) (c : Building) → Pending b ls c → Extends b c
 pending_extends b [] c h = h
@@ -45,26 +44,8 @@ met_flag b ls l c d r k m = m.meets.types l.choice.target.0 rtype.Bool (type_kep
 pub begins_alike : (a d b : Building) (l : Link) (r : Reg) → Begins a d l → Extends d b → HasType b r.0 rtype.Bool → AreAlike b.regs l.choice.target r
 begins_alike a d b l r k x h = (rtype.Bool, type_kept d b l.choice.target.0 rtype.Bool x k.opens.type, h)
 
-pub begins_flag : (a d b c : Building) (l : Link) → Begins a d l → Extends d b → Extends b c → HasType c l.holds.0 rtype.Bool
-begins_flag a d b c l k x y = type_kept a c l.holds.0 rtype.Bool (extends_trans a d c k.opens.extends (extends_trans d b c x y)) k.holds
-
--- where all registers are kept, none is lost
-regs_grow : (b c : Building) (n : ℕ) → n ≡ length b.regs → ((q : ℕ) (t : RType) → HasType b q t → HasType c q t) → n ≤ length c.regs
-regs_grow b c zero e f = omega arith
-regs_grow b c (suc k) e f =
-    let d = get_there b.regs k (omega arith) in
-    type_below c k d.0.1 (f k d.0.1 (ap (option_map (λ (z : List ℕ × RType). z.1)) d.1))
-
-pub met_grows : (b d : Building) (l : Link) (r : ℕ) → Met b d l r → (length b.regs ≤ length d.regs) × (length b.blocks ≤ length d.blocks)
-met_grows b d l r m =
-    let x = m.brings.extends.regs_grow in
-    let y = regs_grow m.mid d (length m.mid.regs) refl m.meets.types in
-    let z = m.meets.blocks in
-    let w = m.brings.extends.blocks_grow in
-    (omega arith, omega arith)
-
-pub keeps_both : (a b c : Building) → length a.regs ≤ length b.regs → length b.blocks ≤ length c.blocks → Keeps a b → Keeps b c → Keeps a c
-keeps_both a b c more le k l n m low up s = l n m (omega arith) up (k n m low (omega arith) s)
+pub begins_flag : (a d b : Building) (l : Link) → Begins a d l → Extends d b → HasType b l.holds.0 rtype.Bool
+begins_flag a d b l k x = type_kept a b l.holds.0 rtype.Bool (extends_trans a d b k.opens.extends x) k.holds
 
 -- ---- the end of a chain
 

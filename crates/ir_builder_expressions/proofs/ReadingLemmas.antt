@@ -1,5 +1,5 @@
 -- Reading a variable that may be unset, of the function or of the module.
-use Rattle.ir_builder_expressions.proofs.Common.{◌≡◌, ◌⊎◌, inr, ℕ, zero, suc, ◌<◌, ◌≤◌, ◌++◌, true, false, List, [], ◌∷◌, length, Option, Some, None, refl, sym, ap, ◌∙◌, subst, arith, le_refl, slice_get, pos, nat_lt, if◌then◌else◌, codes, nat_tests, length-map, Value, BoolVal, UnboundLocalError, Span, Sort, sort, State, Gives, Raises, raise_new, Var, Variable, TypedModule, variable, typed, Local, name_at, value_in, read_global, Lit, Prim, PArg, RType, Number, Program, Held, Unset, Holds, Regs, is_error, Building, with_last, held, Extends, Waiting, Strict, away, item_at, handler_at, registers_of, step, op_step, goto_step, error_step, Vars, Adds, Pushes, Closes, Patches, Setting, rtype_of, HasType, Has, Placed, or_other, world, running, Leads, Ends, Arrives, Computes, IsAmong, KeepsKindsIf, Answers, ReadsGlobal, flag_of, flag_in, Matches, HasRoom, IsThrown, leads_step, leads_trans, ends_of, ends_lead, extends_trans, get_below, has_less, type_kept, type_has, pushes_has, adds_has, placed_part, guard_at, thrown_at, Emits, IsSimpleAt, reports_unbound, TestsSet, setting_in, HasRegisters, EmitsLocal, EmitsGlobal, means_node, looked_at, Itself}
+use Rattle.ir_builder_expressions.proofs.Common.{◌≡◌, ℕ, zero, suc, ◌<◌, ◌≤◌, ◌++◌, true, false, List, [], ◌∷◌, length, Option, Some, None, refl, sym, ap, ◌∙◌, subst, arith, le_refl, slice_get, pos, nat_lt, if◌then◌else◌, codes, nat_tests, length-map, Value, BoolVal, UnboundLocalError, Span, Sort, sort, State, Gives, Raises, raise_new, Var, Variable, variable, typed, Local, name_at, value_in, read_global, Lit, Prim, PArg, RType, Number, Program, Held, Unset, Holds, Regs, is_error, Building, with_last, held, Extends, Waiting, Strict, away, item_at, handler_at, registers_of, step, op_step, goto_step, error_step, Vars, Adds, Pushes, Closes, Patches, Setting, rtype_of, HasType, Has, Placed, or_other, world, running, Leads, Ends, Arrives, Computes, IsAmong, Surrounding, ReadsGlobal, flag_of, flag_in, Matches, HasRoom, IsThrown, leads_refl, leads_step, leads_trans, ends_of, ends_lead, extends_refl, extends_trans, get_below, has_less, type_kept, type_has, pushes_has, adds_has, placed_part, guard_at, thrown_at, Emits, IsSimpleAt, reports_unbound, TestsSet, EmitsRead, means_node, looked_at, Itself}
 use Rattle.std.proofs.lemmas.Option.{slice_get-get_or}
 use Rattle.std.specs.Prelude.{get_or, map}
 use Rattle.c_core.specs.declared.primitive.Primitive.TheVariants as prim
@@ -10,11 +10,13 @@ use Rattle.ir_core.specs.declared.code.PArg.TheVariants as arg
 use Rattle.ir_core.specs.declared.code.Last.TheVariants.{Goto, IfError, Unreachable}
 use Rattle.ir_core.specs.declared.code.RType.TheVariants as rtype
 use Rattle.ir_core.specs.Items.{Do, End}
+use Rattle.py_typed.specs.declared.checked.Checked.{Checked}
 use Rattle.ir_builder_frames.specs.declared.frame.Frame.{Frame}
+use Rattle.ir_builder_frames.specs.Settings.{setting}
+use Rattle.ir_builder_frames.specs.Sound.{MayPatch}
 use Rattle.ir_builder_frames.specs.Matching.{Keeps}
 use Rattle.ir_builder_frames.proofs.PatchLemmas.{patches}
-use Rattle.ir_builder_frames.proofs.GlobalLemmas.{get_map, global_computes, read_fits}
-use Rattle.ir_builder_expressions.proofs.NodeLemmas.{local_emits}
+use Rattle.ir_builder_frames.proofs.GlobalLemmas.{get_map, global_computes, global_there}
 
 -- ---- the test
 
@@ -32,6 +34,14 @@ module _ (b0 b1 b2 b3 b4 b5 b6 : Building) (test bad good flag r line : ℕ) (na
   hole =
       ap (held b5 test) (sym c01.ops) ∙ ap (λ k. held b5 k (length b1.ops)) test_is
       ∙ x25.items (length b1.blocks) (length b1.ops) (End Unreachable) c12.at
+
+  -- the test may be written there
+  pub may_test : MayPatch b5 test (IfError (record { 0 = flag }) bad good line)
+  may_test =
+      let a = c01.blocks in
+      let b = c12.blocks in
+      let d = x25.blocks_grow in
+      ((hole, (omega arith, omega arith), (omega arith, omega arith)), (rtype.Bool, type_kept b0 b5 flag rtype.Bool x05 type))
 
   written : Patches b5 b6 test (IfError (record { 0 = flag }) bad good line)
   written = patches b5 b6 test (IfError (record { 0 = flag }) bad good line) record { place = 0; is = hole } (λ z. cc) set
@@ -88,7 +98,7 @@ module _ (b0 b1 b2 b3 b4 b5 b6 : Building) (test bad good flag r line : ℕ) (na
         let last = leads_step p _ _ (raises ∙ ap (λ o. away o (record { fn = fn; block = bad; place = 1; regs = regs }) below (world (Some (unbound name)) s)) here) in
         leads_trans p _ _ _ to_test (leads_trans p _ _ _ first last)
 
-  pub tests_set : TestsSet b0 b6 flag name
+  pub tests_set : TestsSet b0 b6 (λ now. now flag) name
   tests_set = record {
     extends = x06;
     set = λ p fn has regs below s v is. on_set p fn has regs below s v is;
@@ -102,18 +112,21 @@ name_is [] i w e = let f : None ≡ Some w = e in absurd (cc)
 name_is (v ∷ vs) zero w e = let f : Some v ≡ Some w = e in let same : v ≡ w = cc in ap (λ (z : Variable). z.0) same
 name_is (v ∷ vs) (suc i) w e = name_is vs i w e
 
--- the flag of one that is no parameter
+-- the flag of a parameter is set, and that of another one is in a register
+set_flag : (f : Vars) (regs : Regs) (j : ℕ) → j < f.params → flag_in f regs j ≡ Holds (BoolVal true)
+set_flag f regs j lt = let e : nat_lt j f.params ≡ true = grind (arith, nat_tests) in ap (λ b. if b then Holds (BoolVal true) else regs (flag_of f j)) e
+
 other_flag : (f : Vars) (regs : Regs) (j : ℕ) → f.params ≤ j → flag_in f regs j ≡ regs (flag_of f j)
 other_flag f regs j le = let e : nat_lt j f.params ≡ false = grind (arith, nat_tests) in ap (λ b. if b then Holds (BoolVal true) else regs (flag_of f j)) e
 
-module _ (x : Setting) (i : ℕ) (w : Variable) (t : Sort) (place : Span) (b c : Building) (at : slice_get x.variables i ≡ Some w) (is : w.1 ≡ t) (tests : TestsSet b c (flag_of x.frame.locals i) w.0) (p : Program) (fn : ℕ) (h : Option ℕ) (placed : Placed p fn b c h) (n : ℕ) (regs : Regs) (below : List Waiting) (s : State) (match : Matches x regs s) where
+module _ (x : Setting) (i : ℕ) (w : Variable) (t : Sort) (place : Span) (b c : Building) (at : slice_get x.variables i ≡ Some w) (is : w.1 ≡ t) (tests : TestsSet b c (λ now. flag_in x.frame.locals now i) w.0) (p : Program) (fn : ℕ) (h : Option ℕ) (placed : Placed p fn b c h) (n : ℕ) (regs : Regs) (below : List Waiting) (s : State) (match : Matches x regs s) where
   abbrev Good : Value → State → Rattle.ir_core.specs.Meaning.Config → Type 0
   Good = Arrives Itself fn (length c.blocks) (length c.ops) below (length b.regs) regs s i
 
   abbrev Bad : Value → State → Rattle.ir_core.specs.Meaning.Config → Type 0
   Bad = IsThrown fn h below x (length b.regs) regs
 
-  reads : (o : Option Value) → slice_get s.locals i ≡ Some o → Keeps (regs i) (regs (flag_of x.frame.locals i)) o → Ends p s.turns (running fn (length b.blocks) (length b.ops) regs below (world None s)) (means_node x (Local i) t n s) Good Bad
+  reads : (o : Option Value) → slice_get s.locals i ≡ Some o → Keeps (regs i) (flag_in x.frame.locals regs i) o → Ends p s.turns (running fn (length b.blocks) (length b.ops) regs below (world None s)) (means_node x (Local i) t n s) Good Bad
   reads None e k =
       let d = tests.unset p fn h placed regs below s k in
       let name : means_node x (Local i) t n s ≡ Raises (Rattle.value_core.specs.Value.ExcVal (unbound w.0)) s =
@@ -126,42 +139,33 @@ module _ (x : Setting) (i : ℕ) (w : Variable) (t : Sort) (place : Span) (b c :
       ends_of p s.turns _ _ _ Good Bad gives
       (ends_lead p v s _ _ Good Bad (tests.set p fn placed.has regs below s (BoolVal true) k.1) record { now = regs; is = refl; shows = k.0; kept = λ j lt. refl; same = refl })
 
-variable_emits : (x : Setting) (i : ℕ) (w : Variable) (t : Sort) (place : Span) (b c : Building) → slice_get x.variables i ≡ Some w → w.1 ≡ t → x.frame.locals.params ≤ i → HasRoom x b → TestsSet b c (flag_of x.frame.locals i) w.0 → Emits x (typed (Local i) t place) b c i
-variable_emits x i w t place b c at is other room tests = looked_at x Itself (Local i) t place b c i (λ v h kind k. k) record {
+variable_emits : (x : Setting) (i : ℕ) (w : Variable) (t : Sort) (place : Span) (b c : Building) → slice_get x.variables i ≡ Some w → w.1 ≡ t → HasRoom x b → TestsSet b c (λ now. flag_in x.frame.locals now i) w.0 → Emits x (typed (Local i) t place) b c i
+variable_emits x i w t place b c at is room tests = looked_at x Itself (Local i) t place b c i (λ v h kind k. k) record {
   extends = tests.extends;
   type = type_kept b c i (rtype_of t) tests.extends (subst (λ z. HasType b i (rtype_of z)) is (room.declared i w at));
-  runs = λ p fn h placed n calls regs below s match le.
-      let m = match.each i w at in
-      let flag = other_flag x.frame.locals regs i other in
-      reads x i w t place b c at is tests p fn h placed n regs below s match m.0 m.1 (subst (λ z. Keeps (regs i) z m.0) flag m.2);
+  runs = λ p fn h placed n calls regs below s match le. let m = match.each i w at in reads x i w t place b c at is tests p fn h placed n regs below s match m.0 m.1 m.2;
 }
 
--- ---- of a declared variable, in whatever module
+-- ---- of a declared variable
 
 get_there : {A : Type 0} (xs : List A) (i : ℕ) (d x : A) → i < length xs → x ≡ get_or xs i d → slice_get xs i ≡ Some x
 get_there xs i d x lt e = slice_get-get_or xs i d lt ∙ ap Some (sym e)
 
-room_in : (m n : TypedModule) (vs : List Variable) (frame : Frame) (b : Building) → HasRoom (setting_in m vs frame) b → HasRoom (setting_in n vs frame) b
-room_in m n vs frame b room = record {
-  count = room.count;
-  flags = room.flags;
-  top = room.top;
-  declared = room.declared;
-  flagged = room.flagged;
-  back = room.back;
+-- a parameter needs no code
+pub parameter_read : (x : Setting) (i : ℕ) (b : Building) → i < x.frame.locals.params → HasRoom x b → EmitsRead x (Local i) b b i
+parameter_read x i b low room t place suits = variable_emits x i suits.1 t place b b suits.2 suits.3 room record {
+  extends = extends_refl b;
+  set = λ p fn has regs below s v is. leads_refl p _;
+  unset = λ p fn h placed regs below s is. let f : Holds (BoolVal true) ≡ Unset = sym (set_flag x.frame.locals regs i low) ∙ is in absurd (cc);
 }
 
-pub parameter_read : (vs : List Variable) (frame : Frame) (i : ℕ) (b : Building) → i < frame.locals.params → HasRegisters vs frame b → EmitsLocal vs frame i b b i
-parameter_read vs frame i b low has m t place suits =
-    local_emits (setting_in m vs frame) i suits.1 t place b suits.2 suits.3 low (room_in has.0 m vs frame b has.1)
-
-pub variable_read : (vs : List Var) (frame : Frame) (i : ℕ) (v : Var) (b c : Building) (flag : ℕ) (name : List ℕ) → i < length vs → v ≡ get_or vs i v → frame.locals.params ≤ i → flag ≡ flag_of frame.locals i → name ≡ v.name → HasRegisters (map variable vs) frame b → TestsSet b c flag name → EmitsLocal (map variable vs) frame i b c i
-variable_read vs frame i v b c flag name lt e other flag_is name_is has tests m t place suits =
+pub variable_read : (m : Checked) (vs : List Var) (frame : Frame) (i : ℕ) (v : Var) (b c : Building) (flag : ℕ) (name : List ℕ) → i < length vs → v ≡ get_or vs i v → frame.locals.params ≤ i → flag ≡ flag_of frame.locals i → name ≡ v.name → HasRoom (setting m vs frame) b → TestsSet b c (λ now. now flag) name → EmitsRead (setting m vs frame) (Local i) b c i
+variable_read m vs frame i v b c flag name lt e other flag_is name_is room tests t place suits =
     let at : slice_get (map variable vs) i ≡ Some (variable v) = get_map variable vs i v (get_there vs i v v lt e) in
     let same : suits.1 ≡ variable v = (let z : Some suits.1 ≡ Some (variable v) = sym suits.2 ∙ at in cc) in
     let name_at_is : name ≡ suits.1.0 = name_is ∙ sym (ap (λ (z : Variable). z.0) same) in
-    let tests' : TestsSet b c (flag_of frame.locals i) suits.1.0 = subst (λ z. TestsSet b c z suits.1.0) flag_is (subst (λ z. TestsSet b c flag z) name_at_is tests) in
-    variable_emits (setting_in m (map variable vs) frame) i suits.1 t place b c suits.2 suits.3 other (room_in has.0 m (map variable vs) frame b has.1) tests'
+    let flags : (λ (now : Regs). now flag) ≡ (λ now. flag_in frame.locals now i) = λ k now. (ap now flag_is ∙ sym (other_flag frame.locals now i other)) k in
+    variable_emits (setting m vs frame) i suits.1 t place b c suits.2 suits.3 room (subst (λ z. TestsSet b c z suits.1.0) flags (subst (λ z. TestsSet b c (λ now. now flag) z) name_at_is tests))
 
 -- ---- a variable of the module
 
@@ -169,26 +173,22 @@ variable_read vs frame i v b c flag name lt e other flag_is name_is has tests m 
 pub simple_below : (vs : List Var) (i : ℕ) → IsSimpleAt (map variable vs) i → i < length vs
 simple_below vs i h = let lt = get_below (map variable vs) i h.0 h.1 in omega (arith, length-map vs variable)
 
-module _ (m : TypedModule) (vs : List Var) (are : m.globals ≡ map variable vs) (i : ℕ) (v : Var) (t : RType) (name : List ℕ) (args : List PArg) (lt : i < length vs) (is : v ≡ get_or vs i v) (type : t ≡ rtype_of (sort v.ty)) (named : name ≡ v.name) (args_are : args ≡ arg.Global name ∷ []) where
-  global_at : slice_get m.globals i ≡ Some (variable v)
+module _ (x : Setting) (vs : List Var) (are : x.source.globals ≡ map variable vs) (i : ℕ) (v : Var) (t : RType) (name : List ℕ) (args : List PArg) (lt : i < length vs) (is : v ≡ get_or vs i v) (type : t ≡ rtype_of (sort v.ty)) (named : name ≡ v.name) (args_are : args ≡ arg.Global name ∷ []) where
+  global_at : slice_get x.source.globals i ≡ Some (variable v)
   global_at = ap (λ gs. slice_get gs i) are ∙ get_map variable vs i v (get_there vs i v v lt is)
 
   args_name : args ≡ arg.Global v.name ∷ []
   args_name = args_are ∙ ap (λ z. arg.Global z ∷ []) named
 
-  pub global_emits : {line : ℕ} (b c : Building) (r : ℕ) → Adds b c r t (Prim (Some record { 0 = r }) (prim.Global global.Get) args) line → EmitsGlobal m i b c r
-  global_emits {line} b c r a ws frame u place room suits =
-      let x : Setting = setting_in m ws frame in
+  pub global_emits : {line : ℕ} (b c : Building) (r : ℕ) → HasRoom x b → Adds b c r t (Prim (Some record { 0 = r }) (prim.Global global.Get) args) line → EmitsRead x (tree.Global i) b c r
+  global_emits {line} b c r room a u place suits =
       let same : variable v ≡ suits.1 = (let z : Some (variable v) ≡ Some suits.1 = sym global_at ∙ suits.2 in cc) in
       let sort_is : sort v.ty ≡ u = ap (λ (z : Variable). z.1) same ∙ suits.3 in
-      let P : Sort → Type 0 = λ z. Computes x Itself (rtype_of z) (λ n. read_global m.globals i) b c r in
+      let P : Sort → Type 0 = λ z. Computes x Itself (rtype_of z) (λ n. read_global x.source.globals i) b c r in
       let typed_add : Adds b c r (rtype_of (sort v.ty)) (Prim (Some record { 0 = r }) (prim.Global global.Get) args) line = subst (λ z. Adds b c r z (Prim (Some record { 0 = r }) (prim.Global global.Get) args) line) type a in
       let add : Adds b c r (rtype_of (sort v.ty)) (Prim (Some record { 0 = r }) (prim.Global global.Get) (arg.Global v.name ∷ [])) line = subst (λ z. Adds b c r (rtype_of (sort v.ty)) (Prim (Some record { 0 = r }) (prim.Global global.Get) z) line) args_name typed_add in
       looked_at x Itself (tree.Global i) u place b c r (λ w h kind k. k) (subst P sort_is (global_computes x i (variable v) b c r room global_at add))
 
   -- its global is there
-  pub global_kinds : (b c : Building) → KeepsKindsIf (λ g. Answers t b.regs (prim.Global global.Get) args ⊎ ReadsGlobal g t (prim.Global global.Get) args) b c → KeepsKindsIf (IsAmong m) b c
-  global_kinds b c kinds g among h =
-      let reads = read_fits m g i (variable v) among global_at in
-      let typed_read : ReadsGlobal g t (prim.Global global.Get) (arg.Global v.name ∷ []) = subst (λ z. ReadsGlobal g z (prim.Global global.Get) (arg.Global v.name ∷ [])) (sym type) reads in
-      kinds g (inr (subst (λ z. ReadsGlobal g t (prim.Global global.Get) z) (sym args_name) typed_read)) h
+  pub global_fits : (g : Surrounding) → IsAmong x.source g → ReadsGlobal g t (prim.Global global.Get) args
+  global_fits g among = record { name = name; reads = refl; named = args_are; there = rw (named, type) (global_there x.source g i (variable v) among global_at) }

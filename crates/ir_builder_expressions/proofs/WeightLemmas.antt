@@ -1,10 +1,5 @@
 -- The number of nodes that a walk over an expression goes through, which falls from each node to its parts.
-use Rattle.ir_builder_expressions.proofs.Common.{◌≡◌, ap, ℕ, ◌+◌, ◌-◌, ◌<◌, ◌≤◌, arith, List, [], ◌∷◌, length, map, take, drop, get_or, Option, Some, None, take_all, Bor, Box, Global, CmpOp, TExpr, TypedExpr, TypedNode, typed, Neg, Not, Truth, Arith, Concat, Compare, And, Or, Cond, At, Call, Len, ToStr, Coerce, TypedExprs, no_exprs, expr_then, Comparisons, no_comparisons, comparison_then, typed_expr, exprs_of, comparisons_of, typed_comparison}
-use Rattle.py_typed.specs.declared.expression.TKind as kind
-use Rattle.ir_builder_expressions.proofs.ArmLemmas.{Is, is_compare, is_and, is_or, is_cond, is_call}
-
-abbrev Part : Type 0
-Part = Box TExpr Global
+use Rattle.ir_builder_expressions.proofs.Common.{◌≡◌, ap, ℕ, ◌+◌, ◌-◌, ◌<◌, ◌≤◌, arith, List, [], ◌∷◌, length, map, take, drop, get_or, Option, Some, None, take_all, Bor, CmpOp, TExpr, TypedExpr, TypedNode, typed, Neg, Not, Truth, Arith, Concat, Compare, And, Or, Cond, At, Call, Len, ToStr, Coerce, TypedExprs, no_exprs, expr_then, Comparisons, no_comparisons, comparison_then, typed_expr, exprs_of, comparisons_of, typed_comparison}
 
 abbrev mutual
   pub weight : TypedExpr → ℕ
@@ -48,28 +43,6 @@ weight_of_chain cs = chain_weight (comparisons_of (map typed_comparison cs))
 abbrev pub weight_of_arm : Option (Bor TExpr) → ℕ
 weight_of_arm None = 0
 weight_of_arm (Some e) = weight_of e.now
-
-weight_as : (e : TExpr) (n : TypedNode) → Is e n → weight_of e ≡ node_weight n
-weight_as e n is = ap weight is
-
--- a part by another name
-pub same_weight : (a e : TExpr) → a ≡ e → weight_of a ≡ weight_of e
-same_weight a e is = ap weight_of is
-
-pub compare_weight : (e : TExpr) (a : Part) (cs : List (CmpOp × TExpr)) → e.kind ≡ kind.Compare a cs → weight_of e ≡ weight_of a.value + weight_of_chain cs + 1
-compare_weight e a cs is = weight_as e (Compare (typed_expr a.value) (comparisons_of (map typed_comparison cs))) (is_compare e a cs is)
-
-pub and_weight : (e : TExpr) (a b : Part) → e.kind ≡ kind.And a b → weight_of e ≡ weight_of a.value + weight_of b.value + 1
-and_weight e a b is = weight_as e (And (typed_expr a.value) (typed_expr b.value)) (is_and e a b is)
-
-pub or_weight : (e : TExpr) (a b : Part) → e.kind ≡ kind.Or a b → weight_of e ≡ weight_of a.value + weight_of b.value + 1
-or_weight e a b is = weight_as e (Or (typed_expr a.value) (typed_expr b.value)) (is_or e a b is)
-
-pub cond_weight : (e : TExpr) (a test b : Part) → e.kind ≡ kind.Cond a test b → weight_of e ≡ weight_of a.value + weight_of test.value + weight_of b.value + 1
-cond_weight e a test b is = weight_as e (Cond (typed_expr a.value) (typed_expr test.value) (typed_expr b.value)) (is_cond e a test b is)
-
-pub call_weight : (e : TExpr) (f : ℕ) (es : List TExpr) → e.kind ≡ kind.Call f es → weight_of e ≡ weight_of_all es + 1
-call_weight e f es is = weight_as e (Call f (exprs_of (map typed_expr es))) (is_call e f es is)
 
 -- ---- members of a row and of a chain
 

@@ -10,7 +10,7 @@ use Rattle.source_meaning.specs.State.{Does, ◌>>=◌, give, needs}
 use Rattle.source_meaning.specs.Operations.{coerced, arithmetic, negated, joined, letter, has_text, text_of, truth_of, length_of}
 use Rattle.ir_builder_operations.specs.declared.operation.Operation.{Operation}
 use Rattle.ir_builder_operations.specs.declared.operation.Operation.TheVariants.{IntArithmetic, NativeArithmetic, IntNegation, NativeNegation}
-use Rattle.ir_builder_operations.specs.Operating.{is_arithmetic, is_whole}
+use Rattle.ir_builder_operations.specs.Selecting.{is_arithmetic, is_whole}
 use Rattle.ir_builder_expressions.specs.declared.applying.Unary.{Unary}
 use Rattle.ir_builder_expressions.specs.declared.applying.Unary.TheVariants.{Negated, Inverted, Tested, Counted, Written, Coerced}
 use Rattle.ir_builder_expressions.specs.declared.applying.Binary.{Binary}

@@ -9,7 +9,7 @@ use Rattle.py_typed.specs.Sorts.{Sort}
 use Rattle.py_typed.specs.Expressions.{TypedExpr, typed_expr, type_of}
 use Rattle.py_typed.specs.Statements.{Variable, TypedModule}
 use Rattle.source_meaning.specs.State.{◌>>=◌, give}
-use Rattle.ir_core.specs.Building.{Building}
+use Rattle.ir_builder_frames.specs.Building.{Building}
 use Rattle.ir_builder_frames.specs.Settings.{Setting, rtype_of}
 use Rattle.ir_builder_frames.specs.Placing.{HasType}
 use Rattle.ir_builder_frames.specs.Computing.{means, Shows, Meaning, Computes}

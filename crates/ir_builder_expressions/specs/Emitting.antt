@@ -7,7 +7,7 @@ use Rattle.source_soundness.specs.Watched.{expressions, chain}
 use Rattle.source_meaning.specs.State.{on_to}
 use Rattle.ir_builder_frames.specs.Watching.{watch, calls_in}
 use Rattle.ir_core.specs.declared.code.Reg.{Reg}
-use Rattle.ir_core.specs.Building.{Building}
+use Rattle.ir_builder_frames.specs.Building.{Building}
 use Rattle.ir_builder_frames.specs.Settings.{Setting, rtype_of}
 use Rattle.ir_builder_expressions.specs.declared.applying.Unary.{Unary}
 use Rattle.ir_builder_expressions.specs.declared.applying.Binary.{Binary}

@@ -6,7 +6,7 @@ use Rattle.py_syntax.specs.declared.token.Span.{Span}
 use Rattle.py_typed.specs.Sorts.{Sort}
 use Rattle.py_typed.specs.Expressions.{TypedExpr, typed, TypedNode, Compare, And, Or, Cond, Call, Print, TypedExprs, no_exprs, expr_then, Comparisons, no_comparisons, comparison_then}
 use Rattle.ir_core.specs.declared.code.Program.{Program}
-use Rattle.ir_core.specs.Building.{Building}
+use Rattle.ir_builder_frames.specs.Building.{Building}
 use Rattle.ir_builder_frames.specs.Settings.{Setting, rtype_of}
 use Rattle.ir_builder_frames.specs.Computing.{means, Shows, Computes}
 use Rattle.ir_builder_frames.specs.Placing.{Has}

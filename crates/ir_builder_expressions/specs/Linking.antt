@@ -2,7 +2,7 @@
 use Rattle.std.specs.Prelude.{◌≡◌, ℕ, List, [], ◌∷◌, ◌++◌, length}
 use Rattle.ir_core.specs.declared.code.RType.TheVariants as rtype
 use Rattle.ir_core.specs.declared.code.Reg.{Reg}
-use Rattle.ir_core.specs.Building.{Building, Extends}
+use Rattle.ir_builder_frames.specs.Building.{Building, Extends}
 use Rattle.ir_builder_frames.specs.Placing.{HasType}
 use Rattle.ir_builder_choices.specs.declared.choice.Choice.{Choice}
 use Rattle.ir_builder_expressions.specs.declared.chain.Link.{Link}

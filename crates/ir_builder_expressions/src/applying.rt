@@ -4,14 +4,13 @@ ghost use Rattle.py_typed.specs.Fits.{is_number};
 ghost use Rattle.py_typed.specs.Sorts.{sort};
 ghost use Rattle.py_typed.specs.Expressions.{typed_expr};
 ghost use Rattle.source_meaning.specs.Operations.{arithmetic, coerced, negated};
-ghost use Rattle.ir_core.specs.Building.{Extends};
+ghost use Rattle.ir_builder_frames.specs.Building.{Extends};
 ghost use Rattle.ir_builder_frames.specs.Computing.{Shows, Attempts};
 ghost use Rattle.ir_builder_frames.specs.Placing.{HasType};
 ghost use Rattle.ir_builder_frames.specs.Settings.{rtype_of};
-ghost use Rattle.ir_builder_frames.specs.Shaped.{Keeps};
-ghost use Rattle.ir_builder_frames.specs.Kinds.{KeepsKinds};
 ghost use Rattle.ir_builder_frames.specs.Lines.{OwnLines};
-ghost use Rattle.ir_builder_operations.specs.Operating.{is_arithmetic, is_whole, ActsOn, ActsOnTwo};
+ghost use Rattle.ir_builder_operations.specs.Operating.{ActsOn, ActsOnTwo};
+ghost use Rattle.ir_builder_operations.specs.Selecting.{is_arithmetic, is_whole};
 ghost use Rattle.ir_builder_expressions.specs.Parts.{fitting_in, native_in, part_sort, literal_in};
 ghost use Rattle.ir_builder_expressions.specs.Applying.{unary_goes, binary_goes, UnarySuits, BinarySuits, arithmetic_of, negation_of, applied_in, node_in, seen};
 
@@ -116,8 +115,6 @@ fn emit_coerced(
     requires value { HasType b.old x.0 (rtype_of (part_sort (sort to.now) (typed_expr e.now))) }
     ensures kept { Extends b.old b.new }
     ensures made { IfOk result (λ r. Attempts (Shows (sort to.now)) b.old b.new r.0 (rtype_of (sort to.now)) (ActsOn (part_sort (sort to.now) (typed_expr e.now)) x.0 (coerced (sort to.now)))) }
-    ensures shaped { Keeps b.old b.new }
-    ensures kinds { KeepsKinds b.old b.new }
     ensures lined { OwnLines line b.old b.new }
 {
     match native_literal(e, to) {
@@ -166,8 +163,6 @@ fn emit_numbers(
     requires right_value { HasType b.old y.0 (rtype_of (part_sort (sort t.now) (typed_expr right.now))) }
     ensures kept { Extends b.old b.new }
     ensures made { IfOk result (λ r. Attempts (Shows (sort t.now)) b.old b.new r.0 (rtype_of (sort t.now)) (ActsOnTwo (part_sort (sort t.now) (typed_expr left.now)) (part_sort (sort t.now) (typed_expr right.now)) x.0 y.0 (arithmetic (sort t.now) op))) }
-    ensures shaped { Keeps b.old b.new }
-    ensures kinds { KeepsKinds b.old b.new }
     ensures lined { OwnLines line b.old b.new }
 {
     let first = emit_coerced(b, alloc, left, t, x, line)?;
@@ -190,8 +185,6 @@ fn emit_negated(
     requires value { HasType b.old x.0 (rtype_of (part_sort (sort t.now) (typed_expr e.now))) }
     ensures kept { Extends b.old b.new }
     ensures made { IfOk result (λ r. Attempts (Shows (sort t.now)) b.old b.new r.0 (rtype_of (sort t.now)) (ActsOn (part_sort (sort t.now) (typed_expr e.now)) x.0 (negated (sort t.now)))) }
-    ensures shaped { Keeps b.old b.new }
-    ensures kinds { KeepsKinds b.old b.new }
     ensures lined { OwnLines line b.old b.new }
 {
     let number = emit_coerced(b, alloc, e, t, x, line)?;
@@ -213,8 +206,6 @@ pub(crate) fn emit_unary(
     requires value { HasType b.old x.0 (rtype_of (part_sort (sort t.now) (typed_expr e.now))) }
     ensures kept { Extends b.old b.new }
     ensures made { IfOk result (λ r. Attempts (Shows (sort t.now)) b.old b.new r.0 (rtype_of (sort t.now)) (ActsOn (part_sort (sort t.now) (typed_expr e.now)) x.0 (unary_goes op (sort t.now)))) }
-    ensures shaped { Keeps b.old b.new }
-    ensures kinds { KeepsKinds b.old b.new }
     ensures lined { OwnLines line b.old b.new }
 {
     match op {
@@ -244,8 +235,6 @@ pub(crate) fn emit_binary(
     requires right_value { HasType b.old y.0 (rtype_of (part_sort (sort t.now) (typed_expr right.now))) }
     ensures kept { Extends b.old b.new }
     ensures made { IfOk result (λ r. Attempts (Shows (sort t.now)) b.old b.new r.0 (rtype_of (sort t.now)) (ActsOnTwo (part_sort (sort t.now) (typed_expr left.now)) (part_sort (sort t.now) (typed_expr right.now)) x.0 y.0 (binary_goes op (sort t.now)))) }
-    ensures shaped { Keeps b.old b.new }
-    ensures kinds { KeepsKinds b.old b.new }
     ensures lined { OwnLines line b.old b.new }
 {
     match op {

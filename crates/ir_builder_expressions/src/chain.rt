@@ -1,9 +1,7 @@
 //! The choices of a chain of comparisons, each by whether the one before holds.
-ghost use Rattle.std.specs.Prelude.{◌≡◌, ◌≤◌, length, IfOk, OnOk, OnErr, ℕ};
-ghost use Rattle.ir_core.specs.Building.{Building, Extends};
+ghost use Rattle.std.specs.Prelude.{IfOk, OnOk, OnErr, ℕ};
+ghost use Rattle.ir_builder_frames.specs.Building.{Building, Extends};
 ghost use Rattle.ir_builder_frames.specs.Placing.{HasType};
-ghost use Rattle.ir_builder_frames.specs.Shaped.{Keeps};
-ghost use Rattle.ir_builder_frames.specs.Kinds.{KeepsKinds};
 ghost use Rattle.ir_builder_frames.specs.Lines.{OwnLines};
 ghost use Rattle.ir_builder_expressions.specs.Linking.{Begins, Linked, Pending, Met, Ended};
 
@@ -24,8 +22,6 @@ pub struct Link {
 pub fn begin_link(b: &mut Emitter, links: &mut Many<Link>, holds: Reg) -> Result<(), Memory>
     ensures kept { Extends b.old b.new }
     ensures linked { OnOk result (Linked b.old b.new links.old links.new holds) }
-    ensures shaped { Keeps b.old b.new }
-    ensures kinds { KeepsKinds b.old b.new }
     ensures lined { (l : ℕ) → OwnLines l b.old b.new }
 {
     let choice = begin(b, RType::Bool)?;
@@ -38,8 +34,6 @@ fn meet_link(b: &mut Emitter, link: Link, r: Reg, line: usize) -> Result<(), Mem
     requires flag { HasType b.old r.0 RType.Bool }
     ensures kept { OnErr result (Extends b.old b.new) }
     ensures met { OnOk result (Met b.old b.new link r.0) }
-    ensures shaped { Keeps b.old b.new }
-    ensures kinds { KeepsKinds b.old b.new }
     ensures lined { OwnLines line b.old b.new }
 {
     let end = turn(b, link.choice, r, line)?;
@@ -52,10 +46,7 @@ pub fn meet_links(b: &mut Emitter, links: Many<Link>, last: Reg, line: usize) ->
     requires pending { (a : Building) × Pending a links b.old }
     requires flag { HasType b.old last.0 RType.Bool }
     ensures kept { (a : Building) → Pending a links b.old → Extends a b.new }
-    ensures grown { length b.old.blocks ≤ length b.new.blocks }
     ensures ended { IfOk result (λ q. Ended links b.old last.0 b.new q.0) }
-    ensures shaped { Keeps b.old b.new }
-    ensures kinds { KeepsKinds b.old b.new }
     ensures lined { OwnLines line b.old b.new }
 {
     let mut rest = links;

@@ -4,14 +4,13 @@ ghost use Rattle.py_typed.specs.Fits.{is_number};
 ghost use Rattle.py_typed.specs.Sorts.{sort, Bool as BoolSort};
 ghost use Rattle.py_typed.specs.Expressions.{typed_expr};
 ghost use Rattle.source_meaning.specs.Operations.{coerced, compared_as};
-ghost use Rattle.ir_core.specs.Building.{Extends};
+ghost use Rattle.ir_builder_frames.specs.Building.{Extends};
 ghost use Rattle.ir_builder_frames.specs.Computing.{Shows, Attempts};
 ghost use Rattle.ir_builder_frames.specs.Placing.{HasType};
 ghost use Rattle.ir_builder_frames.specs.Settings.{rtype_of};
-ghost use Rattle.ir_builder_frames.specs.Shaped.{Keeps};
-ghost use Rattle.ir_builder_frames.specs.Kinds.{KeepsKinds};
 ghost use Rattle.ir_builder_frames.specs.Lines.{OwnLines};
-ghost use Rattle.ir_builder_operations.specs.Operating.{is_whole, ActsOn, ActsOnTwo};
+ghost use Rattle.ir_builder_operations.specs.Operating.{ActsOn, ActsOnTwo};
+ghost use Rattle.ir_builder_operations.specs.Selecting.{is_whole};
 ghost use Rattle.ir_builder_operations.specs.Rows.{compared_sort};
 ghost use Rattle.ir_builder_comparisons.specs.Comparing.{is_ordering};
 ghost use Rattle.ir_builder_expressions.specs.Parts.{is_scalar, part_sort, is_pair};
@@ -131,8 +130,6 @@ fn emit_shown(
     requires value { HasType b.old x.0 (rtype_of (kind_sort from)) }
     ensures kept { Extends b.old b.new }
     ensures made { IfOk result (λ r. Attempts (Shows (compared_sort to)) b.old b.new r.0 (rtype_of (compared_sort to)) (ActsOn (kind_sort from) x.0 (coerced (compared_sort to)))) }
-    ensures shaped { Keeps b.old b.new }
-    ensures kinds { KeepsKinds b.old b.new }
     ensures lined { OwnLines line b.old b.new }
 {
     let from = type_of_kind(from);
@@ -153,8 +150,6 @@ fn emit_brought(
     requires value { HasType b.old x.0 (rtype_of (kind_sort from)) }
     ensures kept { Extends b.old b.new }
     ensures made { IfOk result (λ r. Attempts (Shows (compared_sort to)) b.old b.new r.0 (rtype_of (compared_sort to)) (ActsOn (kind_sort from) x.0 (coerced (compared_sort to)))) }
-    ensures shaped { Keeps b.old b.new }
-    ensures kinds { KeepsKinds b.old b.new }
     ensures lined { OwnLines line b.old b.new }
 {
     match to {
@@ -182,8 +177,6 @@ pub fn emit_pair(
     requires right { HasType b.old right.reg.0 (rtype_of (kind_sort right.shown)) }
     ensures kept { Extends b.old b.new }
     ensures made { IfOk result (λ r. Attempts (Shows BoolSort) b.old b.new r.0 RType.Bool (ActsOnTwo (kind_sort left.shown) (kind_sort right.shown) left.reg.0 right.reg.0 (holds_as op (kind_sort left.own) (kind_sort right.own)))) }
-    ensures shaped { Keeps b.old b.new }
-    ensures kinds { KeepsKinds b.old b.new }
     ensures lined { OwnLines line b.old b.new }
 {
     let to = compared_between(left.own, right.own);

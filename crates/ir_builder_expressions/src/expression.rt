@@ -1,20 +1,17 @@
 //! The code of expressions.
-ghost use Rattle.std.specs.Prelude.{◌≡◌, ℕ, ◌≤◌, true, [], ◌∷◌, ◌++◌, length, map, IfOk, OnOk, is_some};
-ghost use Rattle.py_typed.specs.Sorts.{Sort, sort};
+ghost use Rattle.std.specs.Prelude.{◌≡◌, true, [], ◌∷◌, ◌++◌, map, IfOk, OnOk, is_some};
+ghost use Rattle.py_typed.specs.Sorts.{sort};
 ghost use Rattle.py_typed.specs.Expressions.{typed_expr, exprs_of, comparisons_of, typed_comparison, type_of};
-ghost use Rattle.ir_core.specs.Building.{Extends};
+ghost use Rattle.ir_builder_frames.specs.Building.{Extends};
 ghost use Rattle.ir_builder_frames.specs.Settings.{rtype_of};
 ghost use Rattle.ir_builder_frames.specs.Matching.{HasRoom};
 ghost use Rattle.ir_builder_frames.specs.Placing.{HasType};
-ghost use Rattle.ir_builder_frames.specs.Shaped.{Keeps};
-ghost use Rattle.ir_builder_frames.specs.Kinds.{IsAmong, KeepsKindsIf};
 ghost use Rattle.ir_builder_expressions.specs.Site.{setting_of};
 ghost use Rattle.ir_builder_expressions.specs.Parts.{is_scalar};
 ghost use Rattle.ir_builder_expressions.specs.Applying.{UnarySuits, BinarySuits, applied_in, node_in};
 ghost use Rattle.ir_builder_expressions.specs.Comparing.{kind_sort, is_shown_as};
 ghost use Rattle.ir_builder_expressions.specs.Suiting.{Suits, SomeSuit, ComparisonsSuit};
 ghost use Rattle.ir_builder_expressions.specs.Arms.{arm_of, ArmSuits, ChoiceSuits, EmitsArm, EmitsChoice};
-ghost use Rattle.ir_builder_expressions.specs.Walking.{Walks};
 ghost use Rattle.ir_builder_expressions.specs.Lined.{listed, operands_in, parts_in_arm, parts_of, Lined, LinedParts};
 ghost use Rattle.ir_builder_expressions.specs.Emitting.{Emits, EmitsPart, EmitsOne, EmitsTwo, EmitsAll, EmitsSide, EmitsChain};
 
@@ -53,8 +50,6 @@ pub fn emit_expression(b: &mut Emitter, site: Site, e: &TExpr) -> Result<Reg, Me
     requires room { HasRoom (setting_of site) b.old }
     ensures kept { Extends b.old b.new }
     ensures emitted { IfOk result (λ r. Emits (setting_of site.entry) (typed_expr e.now) b.old b.new r.0) }
-    ensures shaped { Keeps b.old b.new }
-    ensures kinds { KeepsKindsIf (IsAmong (setting_of site.entry).source) b.old b.new }
     ensures lined { OnOk result (Lined (setting_of site.entry) (typed_expr e.now) b.old b.new) }
 {
     let site = Site {
@@ -99,7 +94,7 @@ fn emit_applied(b: &mut Emitter, site: Site, e: &TExpr) -> Result<Reg, Memory>
     requires applied { is_some (applied_in (node_in (typed_expr e.now))) ≡ true }
     requires suits { Suits (setting_of site).source (setting_of site).variables (typed_expr e.now) }
     requires room { HasRoom (setting_of site) b.old }
-    ensures walked { Walks (setting_of site.entry).source b.old b.new }
+    ensures kept { Extends b.old b.new }
     ensures emitted { IfOk result (λ r. Emits (setting_of site.entry) (typed_expr e.now) b.old b.new r.0) }
     ensures lined { OnOk result (LinedParts (setting_of site.entry) site.entry.line (parts_of (node_in (typed_expr e.now))) b.old b.new) }
 {
@@ -115,7 +110,7 @@ fn emit_applied(b: &mut Emitter, site: Site, e: &TExpr) -> Result<Reg, Memory>
 fn emit_part(b: &mut Emitter, site: Site, t: &Ty, e: &TExpr) -> Result<Reg, Memory>
     requires suits { Suits (setting_of site).source (setting_of site).variables (typed_expr e.now) }
     requires room { HasRoom (setting_of site) b.old }
-    ensures walked { Walks (setting_of site.entry).source b.old b.new }
+    ensures kept { Extends b.old b.new }
     ensures emitted { IfOk result (λ r. EmitsPart (setting_of site.entry) (sort t.now) (typed_expr e.now) b.old b.new r.0) }
     ensures lined { OnOk result (Lined (setting_of site.entry) (typed_expr e.now) b.old b.new) }
 {
@@ -131,7 +126,7 @@ fn emit_one_part(b: &mut Emitter, site: Site, op: Unary, t: &Ty, e: &TExpr) -> R
     requires fits { UnarySuits op (sort t.now) (sort e.now.ty) }
     requires suits { Suits (setting_of site).source (setting_of site).variables (typed_expr e.now) }
     requires room { HasRoom (setting_of site) b.old }
-    ensures walked { Walks (setting_of site.entry).source b.old b.new }
+    ensures kept { Extends b.old b.new }
     ensures emitted { IfOk result (λ r. EmitsOne (setting_of site.entry) op (sort t.now) (typed_expr e.now) b.old b.new r.0) }
     ensures lined { OnOk result (LinedParts (setting_of site.entry) site.entry.line (typed_expr e.now ∷ []) b.old b.new) }
 {
@@ -153,7 +148,7 @@ pub fn emit_two_parts(
     requires left { Suits (setting_of site).source (setting_of site).variables (typed_expr left.now) }
     requires right { Suits (setting_of site).source (setting_of site).variables (typed_expr right.now) }
     requires room { HasRoom (setting_of site) b.old }
-    ensures walked { Walks (setting_of site.entry).source b.old b.new }
+    ensures kept { Extends b.old b.new }
     ensures emitted { IfOk result (λ r. EmitsTwo (setting_of site.entry) op (sort t.now) (typed_expr left.now) (typed_expr right.now) b.old b.new r.0) }
     ensures lined { OnOk result (LinedParts (setting_of site.entry) site.entry.line (typed_expr left.now ∷ typed_expr right.now ∷ []) b.old b.new) }
 {
@@ -167,7 +162,7 @@ pub fn emit_two_parts(
 pub fn emit_arguments(b: &mut Emitter, site: Site, args: &[TExpr]) -> Result<Many<Reg>, Memory>
     requires suits { SomeSuit (setting_of site).source (setting_of site).variables (map typed_expr args.now) }
     requires room { HasRoom (setting_of site) b.old }
-    ensures walked { Walks (setting_of site.entry).source b.old b.new }
+    ensures kept { Extends b.old b.new }
     ensures emitted { IfOk result (λ rs. EmitsAll (setting_of site.entry) (map type_of (map typed_expr args.now)) (exprs_of (map typed_expr args.now)) b.old b.new rs) }
     ensures lined { OnOk result (LinedParts (setting_of site.entry) site.entry.line (listed (exprs_of (map typed_expr args.now))) b.old b.new) }
 {
@@ -191,7 +186,7 @@ fn emit_choice(
 ) -> Result<Reg, Memory>
     requires suits { ChoiceSuits (setting_of site).source (setting_of site).variables (sort t.now) (typed_expr test.now) (arm_of body) (arm_of other) }
     requires room { HasRoom (setting_of site) b.old }
-    ensures walked { Walks (setting_of site.entry).source b.old b.new }
+    ensures kept { Extends b.old b.new }
     ensures emitted { IfOk result (λ r. EmitsChoice (setting_of site.entry) (sort t.now) (typed_expr test.now) (arm_of body.entry) (arm_of other.entry) b.old b.new r.0) }
     ensures lined { OnOk result (LinedParts (setting_of site.entry) site.entry.line (typed_expr test.now ∷ (parts_in_arm (arm_of body.entry) ++ parts_in_arm (arm_of other.entry))) b.old b.new) }
 {
@@ -211,7 +206,7 @@ fn emit_choice(
 fn emit_arm(b: &mut Emitter, site: Site, arm: Option<&TExpr>, tested: Reg) -> Result<Reg, Memory>
     requires suits { ArmSuits (setting_of site).source (setting_of site).variables (arm_of arm) }
     requires room { HasRoom (setting_of site) b.old }
-    ensures walked { Walks (setting_of site.entry).source b.old b.new }
+    ensures kept { Extends b.old b.new }
     ensures emitted { IfOk result (λ r. EmitsArm (setting_of site.entry) tested.0 (arm_of arm.entry) b.old b.new r.0) }
     ensures lined { OnOk result (LinedParts (setting_of site.entry) site.entry.line (parts_in_arm (arm_of arm.entry)) b.old b.new) }
 {
@@ -227,7 +222,7 @@ fn emit_side(b: &mut Emitter, site: Site, other: Kind, e: &TExpr) -> Result<Side
     requires simple { is_scalar (sort e.now.ty) ≡ true }
     requires suits { Suits (setting_of site).source (setting_of site).variables (typed_expr e.now) }
     requires room { HasRoom (setting_of site) b.old }
-    ensures walked { Walks (setting_of site.entry).source b.old b.new }
+    ensures kept { Extends b.old b.new }
     ensures emitted { IfOk result (λ q. EmitsSide (setting_of site.entry) (typed_expr e.now) q b.old b.new) }
     ensures lined { OnOk result (Lined (setting_of site.entry) (typed_expr e.now) b.old b.new) }
 {
@@ -250,7 +245,7 @@ fn emit_chain(
     requires shown { is_shown_as (kind_sort first.own) (kind_sort first.shown) ≡ true }
     requires room { HasRoom (setting_of site) b.old }
     requires first { HasType b.old first.reg.0 (rtype_of (kind_sort first.shown)) }
-    ensures walked { Walks (setting_of site.entry).source b.old b.new }
+    ensures kept { Extends b.old b.new }
     ensures emitted { IfOk result (λ r. EmitsChain (setting_of site.entry) (kind_sort first.own) (kind_sort first.shown) first.reg.0 (comparisons_of (map typed_comparison rest.now)) b.old b.new r.0) }
     ensures lined { OnOk result (LinedParts (setting_of site.entry) site.entry.line (operands_in (comparisons_of (map typed_comparison rest.now))) b.old b.new) }
 {

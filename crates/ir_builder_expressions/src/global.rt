@@ -1,12 +1,12 @@
 //! Variables of the module that are read.
-ghost use Rattle.std.specs.Prelude.{◌≡◌, IfOk};
-ghost use Rattle.ir_core.specs.Building.{Extends};
-ghost use Rattle.ir_builder_frames.specs.Shaped.{Keeps};
-ghost use Rattle.ir_builder_frames.specs.Kinds.{IsAmong, KeepsKindsIf};
+ghost use Rattle.std.specs.Prelude.{IfOk};
+ghost use Rattle.py_typed.specs.Expressions.{Global};
+ghost use Rattle.ir_builder_frames.specs.Building.{Extends};
 ghost use Rattle.ir_builder_frames.specs.Lines.{OwnLines};
+ghost use Rattle.ir_builder_frames.specs.Matching.{HasRoom};
 ghost use Rattle.ir_builder_expressions.specs.Site.{setting_of};
 ghost use Rattle.ir_builder_expressions.specs.Suiting.{IsSimpleAt};
-ghost use Rattle.ir_builder_expressions.specs.Reading.{EmitsGlobal};
+ghost use Rattle.ir_builder_expressions.specs.Reading.{EmitsRead};
 
 use crate::site::Site;
 use crate::types::register_type;
@@ -19,10 +19,9 @@ use value_core::{Many, Memory};
 /// variable is unset the read fails.
 pub(crate) fn emit_global_value(b: &mut Emitter, site: Site, i: usize) -> Result<Reg, Memory>
     requires simple { IsSimpleAt (setting_of site).source.globals i }
+    requires room { HasRoom (setting_of site) b.old }
     ensures kept { Extends b.old b.new }
-    ensures emitted { IfOk result (λ r. EmitsGlobal (setting_of site.entry).source i b.old b.new r.0) }
-    ensures shaped { Keeps b.old b.new }
-    ensures kinds { KeepsKindsIf (IsAmong (setting_of site.entry).source) b.old b.new }
+    ensures emitted { IfOk result (λ r. EmitsRead (setting_of site.entry) (Global i) b.old b.new r.0) }
     ensures lined { OwnLines site.entry.line b.old b.new }
 {
     let variable = &site.checked.globals.as_slice()[i];

@@ -1,14 +1,14 @@
 //! Variables that are read.
-ghost use Rattle.std.specs.Prelude.{◌≡◌, ◌<◌, ◌+◌, length, true, IfOk, OnOk, ℕ};
+ghost use Rattle.std.specs.Prelude.{◌≡◌, ◌<◌, length, true, IfOk, OnOk, ℕ};
 ghost use Rattle.std.specs.Str.{is_utf8};
-ghost use Rattle.ir_core.specs.Building.{Extends};
+ghost use Rattle.py_typed.specs.Expressions.{Local};
+ghost use Rattle.ir_builder_frames.specs.Building.{Extends};
 ghost use Rattle.ir_builder_frames.specs.Calling.{Pushes};
+ghost use Rattle.ir_builder_frames.specs.Matching.{HasRoom};
 ghost use Rattle.ir_builder_frames.specs.Placing.{HasType};
-ghost use Rattle.ir_builder_frames.specs.Shaped.{Keeps};
-ghost use Rattle.ir_builder_frames.specs.Kinds.{KeepsKinds};
 ghost use Rattle.ir_builder_frames.specs.Lines.{OwnLines};
 ghost use Rattle.ir_builder_expressions.specs.Site.{setting_of};
-ghost use Rattle.ir_builder_expressions.specs.Reading.{reports_unbound, TestsSet, HasRegisters, EmitsLocal};
+ghost use Rattle.ir_builder_expressions.specs.Reading.{reports_unbound, TestsSet, EmitsRead};
 
 use crate::site::Site;
 use c_core::{ErrPrim, Prim};
@@ -29,8 +29,6 @@ fn text_of(alloc: Global, text: &str) -> Result<Text, Memory>
 fn emit_unbound(b: &mut Emitter, alloc: Global, name: &str, line: usize) -> Result<(), Memory>
     ensures kept { Extends b.old b.new }
     ensures pushed { OnOk result (Pushes b.old b.new (reports_unbound name.now) line) }
-    ensures shaped { Keeps b.old b.new }
-    ensures kinds { KeepsKinds b.old b.new }
     ensures lined { OwnLines line b.old b.new }
 {
     let name = text_of(alloc, name)?;
@@ -45,8 +43,6 @@ fn step_past(b: &mut Emitter) -> Result<usize, Memory>
     ensures kept { Extends b.old b.new }
     ensures number { IfOk result (λ k. k ≡ length b.new.blocks) }
     ensures empty { OnOk result (length b.new.ops ≡ 0) }
-    ensures shaped { Keeps b.old b.new }
-    ensures kinds { KeepsKinds b.old b.new }
     ensures lined { (l : ℕ) → OwnLines l b.old b.new }
 {
     b.step_on()?;
@@ -65,9 +61,7 @@ fn emit_flag_test(
 ) -> Result<(), Memory>
     requires { HasType b.old flag.0 RType.Bool }
     ensures kept { Extends b.old b.new }
-    ensures tests { OnOk result (TestsSet b.old b.new flag.0 name.now) }
-    ensures shaped { Keeps b.old b.new }
-    ensures kinds { KeepsKinds b.old b.new }
+    ensures tests { OnOk result (TestsSet b.old b.new (λ regs. regs flag.0) name.now) }
     ensures lined { OwnLines line b.old b.new }
 {
     let test = b.step_on()?;
@@ -84,12 +78,10 @@ fn emit_flag_test(
 /// unset, and its flag is tested first.
 pub(crate) fn emit_local(b: &mut Emitter, site: Site, i: usize) -> Result<Reg, Memory>
     requires there { i < length site.locals.now }
-    requires room { HasRegisters (setting_of site).variables site.frame b.old }
+    requires room { HasRoom (setting_of site) b.old }
     ensures kept { Extends b.old b.new }
     ensures is { IfOk result (λ r. r.0 ≡ i) }
-    ensures emitted { OnOk result (EmitsLocal (setting_of site.entry).variables site.entry.frame i b.old b.new i) }
-    ensures shaped { Keeps b.old b.new }
-    ensures kinds { KeepsKinds b.old b.new }
+    ensures emitted { IfOk result (λ r. EmitsRead (setting_of site.entry) (Local i) b.old b.new r.0) }
     ensures lined { OwnLines site.entry.line b.old b.new }
 {
     if i < site.frame.locals.params {

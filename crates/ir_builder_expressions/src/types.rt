@@ -1,6 +1,7 @@
 //! Types of values and of registers, and the literal of a bool.
 ghost use Rattle.std.specs.Prelude.{◌≡◌};
 ghost use Rattle.py_typed.specs.Sorts.{sort};
+ghost use Rattle.ir_builder_frames.specs.Kinds.{LiteralFits};
 ghost use Rattle.ir_builder_frames.specs.Settings.{rtype_of};
 ghost use Rattle.ir_builder_expressions.specs.Parts.{is_i64};
 ghost use Rattle.ir_builder_expressions.specs.Literals.{literal_of_truth};
@@ -20,7 +21,8 @@ pub(crate) fn is_native(t: &Ty) -> bool
 
 /// The literal of a bool.
 pub(crate) fn truth(value: bool) -> Lit
-    ensures { result ≡ literal_of_truth value }
+    ensures is { result ≡ literal_of_truth value }
+    ensures fits { LiteralFits RType.Bool result }
 {
     if value {
         Lit::Number(1)

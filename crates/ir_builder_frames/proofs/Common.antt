@@ -6,15 +6,17 @@ pub use Rattle.c_core.specs.declared.primitive.Primitive.{Primitive}
 pub use Rattle.ir_builder_frames.specs.Calling.{Adds, Closes, Declares, Open, Patches, Pushes}
 pub use Rattle.ir_builder_frames.specs.Coming.{Ends, Leads, running, world}
 pub use Rattle.ir_builder_frames.specs.Computing.{Arrives, ArrivesAll, Attempts, Computes, ComputesAll, Makes, Itself, Meaning, ShowAll, Showing, Shows}
-pub use Rattle.ir_builder_frames.specs.Kinds.{Answers, AreArguments, BlocksKinds, Calls, HasKinds, IsAmong, IsGlobal, IsOf, KeepsKinds, KeepsKindsIf, LastKinds, LiteralFits, OpKinds, OpsKinds, ReadsGlobal, Reports, Surrounding, Take, WritesGlobal, temporary_name}
+pub use Rattle.ir_builder_frames.specs.Kinds.{Answers, AreArguments, BlocksKinds, Calls, HasKinds, IsGlobal, IsOf, LastKinds, LiteralFits, OpKinds, OpsKinds, ReadsGlobal, Reports, Take, WritesGlobal, temporary_name}
+pub use Rattle.ir_builder_frames.specs.Among.{IsAmong, Surrounding}
 pub use Rattle.ir_builder_frames.specs.Matching.{BackBelow, CallsWork, HasGlobals, HasKind, HasRoom, HaveKinds, IsThrown, Keeps, Matches, SameIn, Stands, flag_in, flag_of}
 pub use Rattle.ir_builder_frames.specs.Placing.{Has, HasType, Placed, Within, or_other, where_it_may}
 pub use Rattle.ir_builder_frames.specs.Settings.{Setting, register_of, rtype_of, variable_registers}
 pub use Rattle.ir_core.proofs.StepLemmas.{lit_step, op_step, put_other, put_same}
-pub use Rattle.ir_core.specs.Building.{Building, Extends, ended_block, handled, held, held_in, in_open, with_last}
+pub use Rattle.ir_builder_frames.specs.Building.{Building, Extends, handled, held}
+pub use Rattle.ir_core.specs.Building.{ended_block, held_in, in_open, with_last}
 pub use Rattle.ir_core.specs.Effects.{Acts, Argument, Effect, Fails, Given, World, Written, effect, global_at, got, number_of_global, stored}
 pub use Rattle.ir_core.specs.Items.{Do, End, Item, handler_in, in_block}
-pub use Rattle.ir_core.specs.Laws.{added, closed, pushed}
+pub use Rattle.ir_builder_frames.specs.Building.{added, closed, pushed}
 pub use Rattle.ir_core.specs.Meaning.{Config, Ended, Frame, Runs, Strict, Stuck, Waiting, applied, arguments, away, failed, handler_at, is_asked, is_clear, is_tested, item_at, read, registers_of, step, steps, typed, value_of}
 pub use Rattle.ir_core.specs.Registers.{Held, Holds, Regs, error_of, literal_of, look, put}
 pub use Rattle.ir_core.specs.Rows.{AlwaysFails, Declared, Failing, MayFail, NeverFails, edge_of_kind, edge_of_prim, failing, kind_by_result, type_given, type_of_reg}

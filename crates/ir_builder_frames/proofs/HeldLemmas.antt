@@ -1,24 +1,22 @@
 -- What stands in the function of what a builder holds.
 use Rattle.ir_builder_frames.proofs.Common.{◌≡◌, ℕ, zero, suc, ◌<◌, ◌≤◌, List, [], ◌∷◌, ◌++◌, length, Option, Some, None, refl, sym, ap, ◌∙◌, subst, arith, length-append, le_refl, Result, Ok, Err, OnOk, OnErr, IfOk, slice_get, option_map, Block, Last, Op, Program, RType, Do, handler_in, type_of_reg, Building, ended_block, held, handled, Extends, added, pushed, closed, item_at, handler_at, registers_of, HasType, or_other, Has, Within, Placed, Declares, Adds, Pushes, Closes}
-use Rattle.ir_core.proofs.BuildingLemmas.{calls_extend}
+use Rattle.ir_builder_frames.proofs.BuildingLemmas.{add_extends, push_extends, close_extends, push_last, close_last}
+pub use Rattle.ir_builder_frames.proofs.BuildingLemmas.{extends_trans}
 
 pub extends_refl : (b : Building) → Extends b b
-extends_refl b = record { items = λ k i x e. e; regs = λ r d e. e; handlers = λ k l. refl; regs_grow = omega arith; blocks_grow = omega arith }
-
-pub extends_trans : (a b c : Building) → Extends a b → Extends b c → Extends a c
-extends_trans a b c x y = calls_extend.composes a b c x y
+extends_refl b = record { among = refl; items = λ k i x e. e; regs = λ r d e. e; handlers = λ k l. refl; regs_grow = omega arith; blocks_grow = omega arith }
 
 pub same_extends : (b c : Building) → c ≡ b → Extends b c
 same_extends b c e = let P : Building → Type 0 = λ v. Extends b v in subst P (sym e) (extends_refl b)
 
 pub added_extends : (b c : Building) (name : List ℕ) (t : RType) → c ≡ added b name t → Extends b c
-added_extends b c name t e = let P : Building → Type 0 = λ v. Extends b v in subst P (sym e) (calls_extend.adding b name t)
+added_extends b c name t e = let P : Building → Type 0 = λ v. Extends b v in subst P (sym e) (add_extends b name t)
 
 pub pushed_extends : (b c : Building) (o : Op × ℕ) → c ≡ pushed b o → Extends b c
-pushed_extends b c o e = let P : Building → Type 0 = λ v. Extends b v in subst P (sym e) (calls_extend.pushing b o)
+pushed_extends b c o e = let P : Building → Type 0 = λ v. Extends b v in subst P (sym e) (push_extends b o)
 
 pub closed_extends : (b c : Building) (l : Last) → c ≡ closed b l → Extends b c
-closed_extends b c l e = let P : Building → Type 0 = λ v. Extends b v in subst P (sym e) (calls_extend.closing b l)
+closed_extends b c l e = let P : Building → Type 0 = λ v. Extends b v in subst P (sym e) (close_extends b l)
 
 -- ---- registers and their types
 
@@ -41,8 +39,11 @@ declared_as (Some d) t e = (d, refl, let f : Some d.1 ≡ Some t = e in cc)
 pub declared_at : (b : Building) (r : ℕ) (t : RType) → HasType b r t → (d : List ℕ × RType) × (slice_get b.regs r ≡ Some d) × (d.1 ≡ t)
 declared_at b r t e = declared_as (slice_get b.regs r) t e
 
+pub declared_below : (regs : List (List ℕ × RType)) (r : ℕ) (t : RType) → type_of_reg regs (record { 0 = r }) ≡ Some t → r < length regs
+declared_below regs r t e = let d = declared_as (slice_get regs r) t e in get_below regs r d.0 d.1
+
 pub type_below : (b : Building) (r : ℕ) (t : RType) → HasType b r t → r < length b.regs
-type_below b r t e = let d = declared_at b r t e in get_below b.regs r d.0 d.1
+type_below b r t e = declared_below b.regs r t e
 
 type_by : (regs : List (List ℕ × RType)) (r : ℕ) (d : List ℕ × RType) (t : RType) → slice_get regs r ≡ Some d → d.1 ≡ t → type_of_reg regs (record { 0 = r }) ≡ Some t
 type_by regs r d t e is = ap (option_map second) e ∙ ap Some is
@@ -74,7 +75,7 @@ pushes b c o e = record {
   regs = ap (λ (v : Building). length v.regs) e;
   blocks = ap (λ (v : Building). length v.blocks) e;
   ops = ap (λ (v : Building). length v.ops) e ∙ length-append b.ops (o ∷ []);
-  at = ap (λ (v : Building). held v (length b.blocks) (length b.ops)) e ∙ calls_extend.operation b o;
+  at = ap (λ (v : Building). held v (length b.blocks) (length b.ops)) e ∙ push_last b o;
 }
 
 pub closes : (b c : Building) (l : Last) → c ≡ closed b l → Closes b c l
@@ -83,7 +84,7 @@ closes b c l e = record {
   regs = ap (λ (v : Building). length v.regs) e;
   blocks = ap (λ (v : Building). length v.blocks) e ∙ length-append b.blocks (ended_block b.ops l ∷ []);
   ops = ap (λ (v : Building). length v.ops) e;
-  at = ap (λ (v : Building). held v (length b.blocks) (length b.ops)) e ∙ calls_extend.end b l;
+  at = ap (λ (v : Building). held v (length b.blocks) (length b.ops)) e ∙ close_last b l;
 }
 
 -- a register, and an operation

@@ -1,9 +1,9 @@
--- What keeps that operations and ends fit their registers: more registers, and each call of a builder.
-use Rattle.ir_builder_frames.proofs.Common.{◌≡◌, ℕ, zero, suc, List, [], ◌∷◌, ◌++◌, Some, None, refl, sym, ap, ◌∙◌, subst, arith, Result, Ok, Err, OnOk, OnErr, ◌⊎◌, inl, inr, ⊎_elim, slice_get, Primitive, Is, Parameter, Borrows, TakesText, TakesDecimal, RType, Reg, PArg, Op, Move, Lit, Prim, Call, Virtual, TraitCall, Turn, Inc, Dec, XDec, Last, Goto, If, IfError, Return, Unreachable, Block, Declared, Building, ended_block, with_last, Extends, added, pushed, closed, Declares, temporary_name, Surrounding, IsOf, AreArguments, Take, Answers, Reports, ReadsGlobal, WritesGlobal, Calls, LiteralFits, OpKinds, OpsKinds, LastKinds, BlocksKinds, HasKinds, KeepsKinds, KeepsKindsIf}
+-- Operations and ends fit their registers where there are more of them, and behind others.
+use Rattle.ir_builder_frames.proofs.Common.{◌≡◌, ℕ, zero, suc, List, [], ◌∷◌, ◌++◌, Some, None, ◌⊎◌, inl, inr, slice_get, Primitive, Is, Parameter, Borrows, TakesText, TakesDecimal, RType, Reg, PArg, Op, Move, Lit, Prim, Call, Virtual, TraitCall, Turn, Inc, Dec, XDec, Last, Goto, If, IfError, Return, Unreachable, Block, Declared, Building, with_last, Extends, Declares, Surrounding, IsOf, AreArguments, Take, Answers, Reports, ReadsGlobal, WritesGlobal, Calls, LiteralFits, OpKinds, OpsKinds, LastKinds, BlocksKinds}
 use Rattle.ir_core.specs.declared.code.RType.TheVariants as rtype
 use Rattle.ir_core.specs.declared.code.Lit.{Lit as Literal}
 use Rattle.ir_core.specs.declared.code.PArg.TheVariants as arg
-use Rattle.ir_builder_frames.proofs.HeldLemmas.{type_kept, added_extends}
+use Rattle.ir_builder_frames.proofs.HeldLemmas.{type_kept}
 
 -- ---- more registers
 
@@ -90,52 +90,11 @@ module _ (g : Surrounding) (regs : Declared) where
   blocks_last (b ∷ bs) zero l f h = (h.0, f, h.2)
   blocks_last (b ∷ bs) (suc k) l f h = (h.0, h.1, blocks_last bs k l f h.2)
 
--- ---- each call of a builder
-
 pub get_behind : {A : Type 0} (xs : List A) (x d : A) (i : ℕ) → slice_get (xs ++ x ∷ []) i ≡ Some d → (slice_get xs i ≡ Some d) ⊎ (d ≡ x)
 get_behind [] x d zero e = let f : Some x ≡ Some d = e in inr (cc)
 get_behind [] x d (suc i) e = let f : None ≡ Some d = e in absurd (cc)
 get_behind (y ∷ xs) x d zero e = inl e
 get_behind (y ∷ xs) x d (suc i) e = get_behind xs x d i e
-
-pub kinds_same : (g : Surrounding) (b c : Building) → c ≡ b → HasKinds g b → HasKinds g c
-kinds_same g b c e h = let P : Building → Type 0 = λ v. HasKinds g v in subst P (sym e) h
-
-module _ (g : Surrounding) (b : Building) (h : HasKinds g b) where
-  add_here : (name : List ℕ) (t : RType) (k : ℕ) → name ≡ temporary_name k → HasKinds g (added b name t)
-  add_here name t k is =
-      let c = added b name t in
-      let x = added_extends b c name t refl in
-      let up = extends_more b c x in
-      let old = h.variables in
-      let grow = x.regs_grow in
-      record {
-        variables = omega arith;
-        named = λ i d le e. ⊎_elim (λ there. h.named i d le there) (λ new. (k, ap (λ (v : List ℕ × RType). v.0) new ∙ is)) (get_behind b.regs (name, t) d i e);
-        blocks = blocks_more b.regs c.regs up g b.blocks h.blocks;
-        ops = ops_more b.regs c.regs up g b.ops h.ops;
-      }
-
-  push_here : (o : Op × ℕ) → OpKinds g b.regs o.0 → HasKinds g (pushed b o)
-  push_here o k = record { variables = h.variables; named = h.named; blocks = h.blocks; ops = ops_behind g b.regs b.ops o k h.ops }
-
-  close_here : (l : Last) → LastKinds g b.regs l → HasKinds g (closed b l)
-  close_here l k = record { variables = h.variables; named = h.named; blocks = blocks_behind g b.regs b.blocks (ended_block b.ops l) h.ops k h.blocks; ops = tt }
-
-  last_here : (n : ℕ) (l : Last) → LastKinds g b.regs l → HasKinds g (record b { blocks = with_last b.blocks n l })
-  last_here n l k = record { variables = h.variables; named = h.named; blocks = blocks_last g b.regs b.blocks n l k h.blocks; ops = h.ops }
-
-pub add_kinds : (b c : Building) (name : List ℕ) (t : RType) (k : ℕ) → c ≡ added b name t → name ≡ temporary_name k → KeepsKinds b c
-add_kinds b c name t k e is g h = kinds_same g (added b name t) c e (add_here g b h name t k is)
-
-pub push_kinds : (g : Surrounding) (b c : Building) (o : Op × ℕ) → c ≡ pushed b o → OpKinds g b.regs o.0 → HasKinds g b → HasKinds g c
-push_kinds g b c o e k h = kinds_same g (pushed b o) c e (push_here g b h o k)
-
-pub close_kinds : (g : Surrounding) (b c : Building) (l : Last) → c ≡ closed b l → LastKinds g b.regs l → HasKinds g b → HasKinds g c
-close_kinds g b c l e k h = kinds_same g (closed b l) c e (close_here g b h l k)
-
-pub patch_kinds : (g : Surrounding) (b c : Building) (n : ℕ) (l : Last) → c ≡ record b { blocks = with_last b.blocks n l } → LastKinds g b.regs l → HasKinds g b → HasKinds g c
-patch_kinds g b c n l e k h = kinds_same g (record b { blocks = with_last b.blocks n l }) c e (last_here g b h n l k)
 
 -- ---- operations with a register of their own
 
@@ -147,17 +106,3 @@ primitive_kinds g b c r t q args d k = (t, d.type, reads_more b.regs c.regs (ext
 
 pub call_kinds : (g : Surrounding) (b c : Building) (r : Reg) (t : RType) (n : ℕ) (args : List Reg) → Declares b c r.0 t → Calls g t b.regs n args → OpKinds g c.regs (Call r n args)
 call_kinds g b c r t n args d k = (t, d.type, calls_more b.regs c.regs (extends_more b c d.extends) g t n args k)
-
--- ---- both outcomes of a call
-
-pub add_kinds_either : {A E : Type 0} (res : Result A E) (b c : Building) (name : List ℕ) (t : RType) (k : ℕ) → name ≡ temporary_name k → OnOk res (c ≡ added b name t) → OnErr res (c ≡ b) → KeepsKinds b c
-add_kinds_either (Ok a) b c name t k is e f g h = add_kinds b c name t k e is g h
-add_kinds_either (Err x) b c name t k is e f g h = kinds_same g b c f h
-
-pub push_kinds_either : {A E : Type 0} (res : Result A E) (b c : Building) (o : Op × ℕ) → OnOk res (c ≡ pushed b o) → OnErr res (c ≡ b) → KeepsKindsIf (λ g. OpKinds g b.regs o.0) b c
-push_kinds_either (Ok a) b c o e f g k h = push_kinds g b c o e k h
-push_kinds_either (Err x) b c o e f g k h = kinds_same g b c f h
-
-pub close_kinds_either : {A E : Type 0} (res : Result A E) (b c : Building) (l : Last) → OnOk res (c ≡ closed b l) → OnErr res (c ≡ b) → KeepsKindsIf (λ g. LastKinds g b.regs l) b c
-close_kinds_either (Ok a) b c l e f g k h = close_kinds g b c l e k h
-close_kinds_either (Err x) b c l e f g k h = kinds_same g b c f h

@@ -11,3 +11,5 @@ pub mod NameLemmas
 pub mod GlobalLemmas
 pub mod Common
 pub mod LineLemmas
+pub mod BuildingLemmas
+pub mod SoundLemmas

@@ -1,6 +1,7 @@
 -- What stays of a frame while a part runs, and what comes behind the code of a value.
-use Rattle.ir_builder_frames.proofs.Common.{ShowAll, ◌≡◌, ℕ, ◌<◌, ◌≤◌, Bool, true, false, List, length, Option, Some, None, refl, sym, ap, ◌∙◌, subst, arith, le_refl, nat_lt, if◌then◌else◌, slice_get, Thrown, Value, BoolVal, ExcVal, Sort, State, Outcome, Gives, Does, on_to, Program, RType, Reg, Held, Holds, Regs, Building, Extends, Waiting, Config, handler_at, away, Setting, rtype_of, Has, Placed, world, running, Ends, Keeps, flag_of, flag_in, Matches, BackBelow, HasRoom, SameIn, Stands, IsThrown, CallsWork, Showing, Meaning, Arrives, Computes, ArrivesAll, ComputesAll, Makes}
+use Rattle.ir_builder_frames.proofs.Common.{ShowAll, ◌≡◌, ℕ, ◌<◌, ◌≤◌, Bool, true, false, List, length, Option, Some, None, refl, sym, ap, ◌∙◌, subst, arith, le_refl, nat_lt, if◌then◌else◌, slice_get, Thrown, Value, BoolVal, ExcVal, Sort, State, Outcome, Gives, Does, on_to, Program, RType, Reg, Held, Holds, Regs, Building, Extends, Waiting, Config, handler_at, away, Setting, rtype_of, Has, Placed, world, running, Ends, Keeps, flag_of, flag_in, Matches, BackBelow, HasRoom, IsAmong, Surrounding, SameIn, Stands, IsThrown, CallsWork, Showing, Meaning, Arrives, Computes, ArrivesAll, ComputesAll, Makes}
 use Rattle.std.proofs.lemmas.Bool.Decides.{nat_tests}
+use Rattle.py_typed.specs.Statements.{TypedModule}
 use Rattle.ir_core.specs.declared.code.RType.TheVariants as rtype
 use Rattle.ir_builder_frames.proofs.HeldLemmas.{type_kept, get_below}
 use Rattle.ir_builder_frames.proofs.ComingLemmas.{ends_on, ends_at, ends_of, ends_lead}
@@ -11,11 +12,15 @@ back_on : (o : Option Reg) (top n m : ℕ) → n ≤ m → BackBelow o top n →
 back_on None top n m le h = tt
 back_on (Some r) top n m le h = (h.0, let q = h.1 in omega arith)
 
+among_on : (m : TypedModule) (g h : Surrounding) → h ≡ g → IsAmong m g → IsAmong m h
+among_on m g h e among = subst (IsAmong m) (sym e) among
+
 pub room_on : (x : Setting) (b c : Building) → Extends b c → HasRoom x b → HasRoom x c
 room_on x b c e room =
     let more = e.regs_grow in
     let top = room.top in
     record {
+      among = among_on x.source b.among c.among e.among room.among;
       count = room.count;
       flags = room.flags;
       top = omega arith;

@@ -1,5 +1,5 @@
 -- A temporary name is one that no register has.
-use Rattle.ir_builder_frames.proofs.Common.{◌≡◌, ℕ, zero, suc, ◌+◌, ◌^◌, ◌<◌, ◌≤◌, Bool, true, false, not, List, [], ◌∷◌, ◌++◌, take, Some, refl, sym, ap, ◌∙◌, subst, arith, length-append, Result, Ok, Err, OnOk, OnErr, slice_get, ◌&&◌, ◌||◌, codes, decimal, list_any, bytes_eq, ⊎_elim, append_cancel_left, bytes_eq-Decides, names_differ, bytes_eq-sym, RType, Declared, Building, added, temporary_name}
+use Rattle.ir_builder_frames.proofs.Common.{◌≡◌, ℕ, zero, suc, ◌+◌, ◌^◌, ◌<◌, ◌≤◌, Bool, true, false, not, List, [], ◌∷◌, ◌++◌, take, Some, refl, sym, ap, ◌∙◌, arith, length-append, slice_get, ◌&&◌, ◌||◌, codes, decimal, list_any, bytes_eq, ⊎_elim, append_cancel_left, bytes_eq-Decides, names_differ, bytes_eq-sym, RType, Declared, temporary_name}
 use Rattle.std.proofs.lemmas.Fmt.{decimal_injective}
 use Rattle.std.proofs.lemmas.List.Folds.{list_any-append}
 use Rattle.c_core.proofs.WellFormedLemmas.{any_name}
@@ -95,9 +95,3 @@ named_later count next later regs le a = record {
   differ = a.differ;
   numbered = λ i d from e. let n = a.numbered i d from e in let below = n.1 in (n.0, (let lt : n.0 < later = omega arith in lt), n.2);
 }
-
-pub named_either : {A E : Type 0} (res : Result A E) (b c : Building) (count next k : ℕ) (name : List ℕ) (t : RType) → AreNamed count next b.regs → name ≡ temporary_name k → next ≤ k → k < 2 ^ 64 → is_name_in name (take count b.regs) ≡ false → OnOk res (c ≡ added b name t) → OnErr res (c ≡ b) → AreNamed count (k + 1) c.regs
-named_either (Ok r) b c count next k name t a is le small fresh e f =
-    subst (AreNamed count (k + 1)) (sym (ap (λ (v : Building). v.regs) e)) (named_more count next k b.regs name t a is le small fresh)
-named_either (Err x) b c count next k name t a is le small fresh e f =
-    subst (AreNamed count (k + 1)) (sym (ap (λ (v : Building). v.regs) f)) (named_later count next (k + 1) b.regs (omega arith) a)

@@ -1,6 +1,5 @@
 -- The end of an open block is written.
-use Rattle.ir_builder_frames.proofs.Common.{◌≡◌, ◌≢◌, ℕ, zero, suc, ◌<◌, ◌≤◌, List, [], ◌∷◌, length, Some, None, refl, sym, ap, ◌∙◌, subst, arith, ⊎_elim, ◌⊎◌, inl, inr, Block, Last, Unreachable, Op, Program, Item, Do, End, in_block, handler_in, Building, with_last, in_open, held_in, held, Extends, closed, item_at, Has, Open, Closes, Patches}
-use Rattle.ir_builder_frames.proofs.HeldLemmas.{closes}
+use Rattle.ir_builder_frames.proofs.Common.{◌≡◌, ◌≢◌, ℕ, zero, suc, ◌<◌, ◌≤◌, List, [], ◌∷◌, length, Some, None, refl, sym, ap, ◌∙◌, subst, arith, ⊎_elim, ◌⊎◌, inl, inr, Block, Last, Unreachable, Op, Program, Item, Do, End, in_block, handler_in, Building, with_last, in_open, held_in, held, Extends, item_at, Has, Open, Patches}
 
 open_no_end : (os : List (Op × ℕ)) (i : ℕ) (l : Last) → in_open os i ≡ Some (End l) → ⊥
 open_no_end [] i l e = let f : None ≡ Some (End l) = e in cc
@@ -104,6 +103,7 @@ module _ (b : Building) (k : ℕ) (l : Last) (o : Open b k) (ne : l ≢ Unreacha
     has = has_before;
     code = λ p fn i h e. h.items k i (End l) (λ s. ne (cc s)) (with_end b.blocks b.ops k i l Unreachable e);
     extends = λ a p le. record {
+      among = p.among;
       items = λ j i x e. ⊎_elim
           (λ s. let P : ℕ → Type 0 = λ m. held patched m i ≡ Some x in subst P (sym s) (extends_at a p le i x (ap (λ m. held a m i) (sym s) ∙ e)))
           (λ d. with_other b.blocks b.ops k j i l d ∙ p.items j i x e)
@@ -122,18 +122,3 @@ module _ (b : Building) (k : ℕ) (l : Last) (o : Open b k) (ne : l ≢ Unreacha
 
 pub patches : (b c : Building) (k : ℕ) (l : Last) → Open b k → l ≢ Unreachable → c ≡ record b { blocks = with_last b.blocks k l } → Patches b c k l
 patches b c k l o ne e = let P : Building → Type 0 = λ v. Patches b v k l in subst P (sym e) (here_patches b k l o ne)
-
--- a block that was ended and then given another end is one that was ended with that
-pub closes_later : (b c d : Building) (k : ℕ) (l : Last) → l ≢ Unreachable → k ≡ length b.blocks → c ≡ closed b Unreachable → d ≡ record c { blocks = with_last c.blocks k l } → Closes b d l
-closes_later b c d k l ne number e f =
-    let q = closes b c Unreachable e in
-    let at : held c k (length b.ops) ≡ Some (End Unreachable) = ap (λ m. held c m (length b.ops)) number ∙ q.at in
-    let p = patches c d k l record { place = length b.ops; is = at } ne f in
-    let le : length b.blocks ≤ k = omega (arith, number) in
-    record {
-      extends = p.extends b q.extends le;
-      regs = ap length p.same_regs ∙ q.regs;
-      blocks = p.blocks ∙ q.blocks;
-      ops = p.ops ∙ q.ops;
-      at = ap (λ m. held d m (length b.ops)) (sym number) ∙ ap (λ (v : Building). held v k (length b.ops)) f ∙ with_end c.blocks c.ops k (length b.ops) l Unreachable at;
-    }

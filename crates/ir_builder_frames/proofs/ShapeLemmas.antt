@@ -1,102 +1,95 @@
--- Each call of a builder keeps the shape.
-use Rattle.ir_builder_frames.proofs.Common.{◌≡◌, ℕ, zero, suc, ◌+◌, ◌<◌, ◌≤◌, List, [], ◌∷◌, ◌++◌, length, Some, refl, sym, ap, ◌∙◌, subst, arith, Result, Ok, Err, OnOk, OnErr, inl, Block, Op, Last, Goto, If, IfError, Return, Unreachable, Reg, PArg, Var, Number, Text, Global, Class, Prim, Call, Primitive, Is, OfGlobal, OfSlot, Nothing, Owned, Lent, row_of, Bool, true, false, nat_eq, ne_eqb, IsTrue, ◌&&◌, ◌||◌, list_any, Failing, NeverFails, MayFail, AlwaysFails, failing, Do, End, in_block, Building, ended_block, held_in, held, with_last, pushed, closed, where_it_may}
+-- Where ends go, while code is added and ends are written.
+use Rattle.ir_builder_frames.proofs.Common.{◌≡◌, ℕ, zero, suc, ◌+◌, ◌≤◌, List, [], ◌∷◌, ◌++◌, length, Some, Option, None, refl, sym, subst, arith, Block, Op, Last, Goto, If, IfError, Return, Unreachable, Reg, PArg, Var, Text, Prim, Primitive, Parameter, Is, Borrows, TakesText, TakesDecimal, RType, Declared, Surrounding, row_of, Bool, true, false, ne_eqb, IsTrue, ◌&&◌, ◌||◌, not, list_any, ap, ◌∙◌, ◌⊎◌, inl, inr, Do, End, in_block, ended_block, held_in, with_last, IsOf, AreArguments, Take, Answers, ReadsGlobal}
 use Rattle.c_core.specs.Primitives.{Outcome}
-use Rattle.std.specs.Prelude.{not}
-use Rattle.ir_core.specs.Shape.{is_target_of, is_register, is_argument}
-use Rattle.ir_builder_frames.specs.Shaped.{Above, AreBelow, AllBelow, OpFits, OpsFit, GoesOn, EndFits, AllFit, Shaped, KeepsIf}
+use Rattle.c_core.specs.declared.primitive.Primitive.TheVariants as prim
+use Rattle.c_core.specs.declared.primitive.GlobalPrim.TheVariants as global
+use Rattle.ir_core.specs.Items.{handler_of}
+use Rattle.ir_core.specs.Shape.{is_target_of, is_register, is_argument, op_fits, OpsFit}
+use Rattle.ir_builder_frames.specs.Shaped.{EndFits, PatchFits, HandlerFits, AllFit}
+use Rattle.ir_builder_frames.proofs.HeldLemmas.{declared_below}
 
-on_fits : (n m k : ℕ) (ops : List (Op × ℕ)) (l : Last) → GoesOn n m k l → EndFits n m k ops l
-on_fits n m k ops (Goto t) g = (inl g.0, g.1)
-on_fits n m k ops (If r a b) g = g
-on_fits n m k ops (IfError r a b line) g = (inl g.0, g.1, g.2)
-on_fits n m k ops (Return r) g = tt
-on_fits n m k ops Unreachable g = tt
+-- ---- blocks up to a higher one may be named
 
-ops_more : (n : ℕ) (os : List (Op × ℕ)) (o : Op × ℕ) → OpFits n o.0 → OpsFit n os → OpsFit n (os ++ o ∷ [])
-ops_more n [] o a f = (a, tt)
-ops_more n (q ∷ os) o a f = (f.0, ops_more n os o a f.1)
+end_higher : (m n k : ℕ) (ops : List (Op × ℕ)) (l : Last) → m ≤ n → EndFits m k ops l → EndFits n k ops l
+end_higher m n k ops (Goto t) le e = let z = e.1 in (e.0, omega arith)
+end_higher m n k ops (If r a b) le e =
+    let y = e.0.1 in
+    let z = e.1.1 in
+    ((e.0.0, omega arith), (e.1.0, omega arith))
+end_higher m n k ops (IfError r a b line) le e =
+    let y = e.1.1 in
+    let z = e.2.1 in
+    (e.0, (e.1.0, omega arith), (e.2.0, omega arith))
+end_higher m n k ops (Return r) le e = tt
+end_higher m n k ops Unreachable le e = tt
 
-fit_more : (n m k : ℕ) (bs : List Block) (ops : List (Op × ℕ)) (l : Last) → EndFits n m (k + length bs) ops l → OpsFit n ops → AllFit n m k bs → AllFit n m k (bs ++ ended_block ops l ∷ [])
-fit_more n m k [] ops l e o a = (subst (λ j. EndFits n m j ops l) (let q : k + 0 ≡ k = omega arith in q) e, o, tt, tt)
-fit_more n m k (b ∷ bs) ops l e o a = (a.0, a.1, a.2, fit_more n m (suc k) bs ops l (subst (λ j. EndFits n m j ops l) (let q : k + suc (length bs) ≡ suc k + length bs = omega arith in q) e) o a.3)
+handler_higher : (m n k : ℕ) (h : Option ℕ) → m ≤ n → HandlerFits m k h → HandlerFits n k h
+handler_higher m n k None le e = tt
+handler_higher m n k (Some h) le e = let z = e.1 in (e.0, omega arith)
 
-fit_last : (n m i : ℕ) (bs : List Block) (k : ℕ) (l : Last) → GoesOn n m (i + k) l → AllFit n m i bs → AllFit n m i (with_last bs k l)
-fit_last n m i [] k l g a = tt
-fit_last n m i (b ∷ bs) zero l g a = (on_fits n m i b.ops l (subst (λ j. GoesOn n m j l) (let q : i + 0 ≡ i = omega arith in q) g), a.1, a.2, a.3)
-fit_last n m i (b ∷ bs) (suc k) l g a = (a.0, a.1, a.2, fit_last n m (suc i) bs k l (subst (λ j. GoesOn n m j l) (let q : i + suc k ≡ suc i + k = omega arith in q) g) a.3)
+pub all_higher : (m n k : ℕ) (bs : List Block) → m ≤ n → AllFit m k bs → AllFit n k bs
+all_higher m n k [] le a = tt
+all_higher m n k (b ∷ bs) le a = (end_higher m n k b.ops b.last le a.0, a.1, handler_higher m n k (handler_of b) le a.2, all_higher m n (suc k) bs le a.3)
+
+-- ---- code that is added
+
+pub ops_fit_behind : (os : List (Op × ℕ)) (o : Op × ℕ) → IsTrue (op_fits o.0) → OpsFit os → OpsFit (os ++ o ∷ [])
+ops_fit_behind [] o a f = (a, tt)
+ops_fit_behind (q ∷ os) o a f = (f.0, ops_fit_behind os o a f.1)
+
+fit_more : (m k : ℕ) (bs : List Block) (ops : List (Op × ℕ)) (l : Last) → EndFits m (k + length bs) ops l → OpsFit ops → AllFit m k bs → AllFit m k (bs ++ ended_block ops l ∷ [])
+fit_more m k [] ops l e o a = (subst (λ j. EndFits m j ops l) (let q : k + 0 ≡ k = omega arith in q) e, o, tt, tt)
+fit_more m k (b ∷ bs) ops l e o a = (a.0, a.1, a.2, fit_more m (suc k) bs ops l (subst (λ j. EndFits m j ops l) (let q : k + suc (length bs) ≡ suc k + length bs = omega arith in q) e) o a.3)
+
+pub closed_fits : (m : ℕ) (bs : List Block) (ops : List (Op × ℕ)) (l : Last) → EndFits m (length bs) ops l → OpsFit ops → AllFit m 0 bs → AllFit m 0 (bs ++ ended_block ops l ∷ [])
+closed_fits m bs ops l e o a = fit_more m 0 bs ops l (subst (λ k. EndFits m k ops l) (let q : length bs ≡ 0 + length bs = omega arith in q) e) o a
+
+-- ---- an end that is written
 
 nothing_before : (os : List (Op × ℕ)) (a x : Last) → in_block os a 0 ≡ Some (End x) → os ≡ []
 nothing_before [] a x e = refl
 nothing_before (o ∷ os) a x e = let f : Some (Do o.0 o.1) ≡ Some (End x) = e in absurd (cc)
 
-alone_last : (n m i : ℕ) (bs : List Block) (os : List (Op × ℕ)) (k : ℕ) (l x : Last) → held_in bs os k 0 ≡ Some (End x) → EndFits n m (i + k) [] l → AllFit n m i bs → AllFit n m i (with_last bs k l)
-alone_last n m i [] os k l x e g a = tt
-alone_last n m i (b ∷ bs) os zero l x e g a = (subst (λ z. EndFits n m i z l) (sym (nothing_before b.ops b.last x e)) (subst (λ j. EndFits n m j [] l) (let q : i + 0 ≡ i = omega arith in q) g), a.1, a.2, a.3)
-alone_last n m i (b ∷ bs) os (suc k) l x e g a = (a.0, a.1, a.2, alone_last n m (suc i) bs os k l x e (subst (λ j. EndFits n m j [] l) (let q : i + suc k ≡ suc i + k = omega arith in q) g) a.3)
+end_patched : (m k : ℕ) (os : List (Op × ℕ)) (a l : Last) → PatchFits m k (in_block os a 0) l → EndFits m k os l
+end_patched m k os a (Goto t) g = (inl g.0, g.1)
+end_patched m k os a (If r x y) g = g
+end_patched m k os a (IfError r x y line) g = (nothing_before os a Unreachable g.0, g.1, g.2)
+end_patched m k os a (Return r) g = tt
+end_patched m k os a Unreachable g = tt
 
-pub close_shaped : (n m : ℕ) (b c : Building) (l : Last) → c ≡ closed b l → EndFits n m (length b.blocks) b.ops l → Shaped n m b → Shaped n m c
-close_shaped n m b c l e fit s = let P : Building → Type 0 = λ v. Shaped n m v in subst P (sym e) (fit_more n m 0 b.blocks b.ops l (subst (λ k. EndFits n m k b.ops l) (let q : length b.blocks ≡ 0 + length b.blocks = omega arith in q) fit) s.1 s.0, tt)
+fit_patched : (m i : ℕ) (bs : List Block) (os : List (Op × ℕ)) (k : ℕ) (l : Last) → PatchFits m (i + k) (held_in bs os k 0) l → AllFit m i bs → AllFit m i (with_last bs k l)
+fit_patched m i [] os k l g a = tt
+fit_patched m i (b ∷ bs) os zero l g a = (end_patched m i b.ops b.last l (subst (λ j. PatchFits m j (in_block b.ops b.last 0) l) (let q : i + 0 ≡ i = omega arith in q) g), a.1, a.2, a.3)
+fit_patched m i (b ∷ bs) os (suc k) l g a = (a.0, a.1, a.2, fit_patched m (suc i) bs os k l (subst (λ j. PatchFits m j (held_in bs os k 0) l) (let q : i + suc k ≡ suc i + k = omega arith in q) g) a.3)
 
-pub patch_shaped : (n m : ℕ) (b c : Building) (k : ℕ) (l : Last) → c ≡ record b { blocks = with_last b.blocks k l } → GoesOn n m k l → Shaped n m b → Shaped n m c
-patch_shaped n m b c k l e g s = let P : Building → Type 0 = λ v. Shaped n m v in subst P (sym e) (fit_last n m 0 b.blocks k l (subst (λ z. GoesOn n m z l) (let q : k ≡ 0 + k = omega arith in q) g) s.0, s.1)
+pub patched_fits : (m : ℕ) (bs : List Block) (os : List (Op × ℕ)) (k : ℕ) (l : Last) → PatchFits m k (held_in bs os k 0) l → AllFit m 0 bs → AllFit m 0 (with_last bs k l)
+patched_fits m bs os k l g a = fit_patched m 0 bs os k l (subst (λ j. PatchFits m j (held_in bs os k 0) l) (let q : k ≡ 0 + k = omega arith in q) g) a
 
--- where the block has nothing else
-pub patch_alone : (n m : ℕ) (b c : Building) (k : ℕ) (l x : Last) → c ≡ record b { blocks = with_last b.blocks k l } → held b k 0 ≡ Some (End x) → EndFits n m k [] l → Shaped n m b → Shaped n m c
-patch_alone n m b c k l x e at g s = let P : Building → Type 0 = λ v. Shaped n m v in subst P (sym e) (alone_last n m 0 b.blocks b.ops k l x at (subst (λ z. EndFits n m z [] l) (let q : k ≡ 0 + k = omega arith in q) g) s.0, s.1)
-
-pub push_shaped : (n m : ℕ) (b c : Building) (o : Op × ℕ) → c ≡ pushed b o → OpFits n o.0 → Shaped n m b → Shaped n m c
-push_shaped n m b c o e a s = let P : Building → Type 0 = λ v. Shaped n m v in subst P (sym e) (s.0, ops_more n b.ops o a s.1)
-
-pub same_shaped : (n m : ℕ) (b c : Building) → c.blocks ≡ b.blocks → c.ops ≡ b.ops → Shaped n m b → Shaped n m c
-same_shaped n m b c e f s = (subst (AllFit n m 0) (sym e) s.0, subst (OpsFit n) (sym f) s.1)
-
-pub kept_shaped : (n m : ℕ) (b c : Building) → c ≡ b → Shaped n m b → Shaped n m c
-kept_shaped n m b c e s = same_shaped n m b c (ap (λ (v : Building). v.blocks) e) (ap (λ (v : Building). v.ops) e) s
-
-pub push_either : {A E : Type 0} (res : Result A E) (b c : Building) (o : Op × ℕ) → OnOk res (c ≡ pushed b o) → OnErr res (c ≡ b) → KeepsIf (λ n m. OpFits n o.0) b c
-push_either (Ok a) b c o e f n m fit s = push_shaped n m b c o e fit s
-push_either (Err x) b c o e f n m fit s = kept_shaped n m b c f s
-
-pub close_either : {A E : Type 0} (res : Result A E) (b c : Building) (l : Last) → OnOk res (c ≡ closed b l) → OnErr res (c ≡ b) → KeepsIf (λ n m. EndFits n m (length b.blocks) b.ops l) b c
-close_either (Ok k) b c l e f n m fit s = close_shaped n m b c l e fit s
-close_either (Err x) b c l e f n m fit s = kept_shaped n m b c f s
-
--- ---- operations with a register of their own
-
-target_any : (o : Outcome) (r s : Reg) → IsTrue (is_target_of o (Some r)) → IsTrue (is_target_of o (Some s))
-target_any Nothing r s h = h
-target_any (Owned (Is k)) r s h = h
-target_any (Owned OfGlobal) r s h = h
-target_any (Owned OfSlot) r s h = h
-target_any (Lent k) r s h = h
-
-other_than : (r n : ℕ) → n < r → nat_eq r n ≡ false
-other_than r n lt = ne_eqb r n (λ e. omega arith)
-
-none_is : (r : Reg) (args : List PArg) → AreBelow r.0 args → list_any (is_argument r) args ≡ false
-none_is r [] h = refl
-none_is r (Var x ∷ args) h = ap (λ b. b || list_any (is_argument r) args) (other_than r.0 x.0 h.0) ∙ none_is r args h.1
-none_is r (Number n ∷ args) h = absurd h
-none_is r (Text t ∷ args) h = absurd h
-none_is r (Global g ∷ args) h = none_is r args h
-none_is r (Class c ∷ args) h = absurd h
-
-none_is_reg : (r : Reg) (args : List Reg) → AllBelow r.0 args → list_any (is_register r) args ≡ false
-none_is_reg r [] h = refl
-none_is_reg r (x ∷ args) h = ap (λ b. b || list_any (is_register r) args) (other_than r.0 x.0 h.0) ∙ none_is_reg r args h.1
-
-above_where : (f : Failing) (n r : ℕ) → n ≤ r → Above n (where_it_may f r)
-above_where NeverFails n r le = tt
-above_where MayFail n r le = le
-above_where AlwaysFails n r le = tt
+-- ---- operations whose result is a new register
 
 both_true : (a b : Bool) → IsTrue a → b ≡ true → IsTrue (a && b)
 both_true true b h e = e
 both_true false b h e = h
 
-pub primitive_fits : (n m : ℕ) (r : Reg) (q : Primitive) (args : List PArg) → n ≤ m → r.0 ≡ m → IsTrue (is_target_of (row_of q).outcome (Some record { 0 = 0 })) → AreBelow m args → OpFits n (Prim (Some r) q args)
-primitive_fits n m r q args le is target below =
-    (above_where (failing q) n r.0 (omega arith), both_true (is_target_of (row_of q).outcome (Some r)) (not (list_any (is_argument r) args)) (target_any (row_of q).outcome (record { 0 = 0 }) r target) (ap not (none_is r args (subst (λ k. AreBelow k args) (sym is) below))))
+module _ (regs : Declared) (r : Reg) (new : r.0 ≡ length regs) where
+  other_than : (x : Reg) (t : RType) → IsOf regs x t → is_register r x ≡ false
+  other_than x t e = let lt = declared_below regs x.0 t e in ne_eqb r.0 x.0 (λ same. omega (arith, new))
 
-pub call_fits : (n m g : ℕ) (r : Reg) (args : List Reg) → n ≤ m → r.0 ≡ m → AllBelow m args → OpFits n (Call r g args)
-call_fits n m g r args le is below = ((omega arith), ap not (none_is_reg r args (subst (λ k. AllBelow k args) (sym is) below)))
+  none_is : (ps : List Parameter) (args : List PArg) → AreArguments regs ps args → list_any (is_argument r) args ≡ false
+  none_is [] [] h = refl
+  none_is (Borrows (Is k) holding ∷ ps) (Var x ∷ args) h = ap (λ b. b || list_any (is_argument r) args) (other_than x h.0 h.1) ∙ none_is ps args h.3
+  none_is (TakesText ∷ ps) (Text text ∷ args) h = none_is ps args h.1
+  none_is (TakesDecimal ∷ ps) (Text text ∷ args) h = none_is ps args h.2
+  none_is ps args h = absurd h
+
+  pub none_taken : (ts : List RType) (rs : List Reg) → Take regs ts rs → list_any (is_register r) rs ≡ false
+  none_taken [] [] h = refl
+  none_taken (t ∷ ts) (x ∷ rs) h = ap (λ b. b || list_any (is_register r) rs) (other_than x t h.0) ∙ none_taken ts rs h.1
+  none_taken [] (x ∷ rs) h = absurd h
+  none_taken (t ∷ ts) [] h = absurd h
+
+  pub primitive_fits : (g : Surrounding) (t : RType) (q : Primitive) (args : List PArg) → (Answers t regs q args ⊎ ReadsGlobal g t q args) → IsTrue (op_fits (Prim (Some r) q args))
+  primitive_fits g t q args (inl a) =
+      both_true (is_target_of (row_of q).outcome (Some r)) (not (list_any (is_argument r) args)) (subst (λ (o : Outcome). IsTrue (is_target_of o (Some r))) (sym a.0) refl) (ap not (none_is _ args a.1))
+  primitive_fits g t q args (inr w) =
+      subst (λ (z : Primitive). IsTrue (op_fits (Prim (Some r) z args))) (sym w.reads) (subst (λ (zs : List PArg). IsTrue (op_fits (Prim (Some r) (prim.Global global.Get) zs))) (sym w.named) refl)

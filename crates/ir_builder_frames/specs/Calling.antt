@@ -7,7 +7,7 @@ use Rattle.ir_core.specs.declared.code.Program.{Program}
 use Rattle.ir_core.specs.declared.code.RType.{RType}
 use Rattle.ir_core.specs.Items.{Item, Do, End}
 use Rattle.ir_core.specs.Meaning.{item_at}
-use Rattle.ir_core.specs.Building.{Building, held, handled, Extends}
+use Rattle.ir_builder_frames.specs.Building.{Building, held, handled, Extends}
 use Rattle.ir_builder_frames.specs.Placing.{HasType, Has}
 
 -- a register

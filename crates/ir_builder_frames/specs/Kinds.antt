@@ -1,6 +1,6 @@
 -- When what a builder holds fits the registers of its function: each operation and each end has registers of the types that it asks
 -- for. None of them counts references.
-use Rattle.std.specs.Prelude.{◌≡◌, ◌≤◌, ◌⊎◌, ℕ, true, List, [], ◌∷◌, ◌++◌, length, map, Some, None, is_some, slice_get, codes, decimal}
+use Rattle.std.specs.Prelude.{◌≡◌, ◌≤◌, ◌⊎◌, ℕ, true, List, [], ◌∷◌, ◌++◌, length, Some, None, is_some, slice_get, codes, decimal}
 use Rattle.std.specs.Str.{is_utf8}
 use Rattle.value_core.specs.Arithmetic.{lies_within}
 use Rattle.c_core.specs.declared.primitive.Primitive.{Primitive}
@@ -8,7 +8,6 @@ use Rattle.c_core.specs.declared.primitive.Primitive.TheVariants as prim
 use Rattle.c_core.specs.declared.primitive.GlobalPrim.TheVariants as global
 use Rattle.c_core.specs.Primitives.{Is, Parameter, Borrows, TakesText, TakesDecimal, Nothing, Owned, row_of}
 use Rattle.c_core.specs.Strings.{is_long_decimal}
-use Rattle.py_typed.specs.Statements.{TypedFunc, TypedModule}
 use Rattle.ir_core.specs.declared.code.RType.{RType}
 use Rattle.ir_core.specs.declared.code.RType.TheVariants as rtype
 use Rattle.ir_core.specs.declared.code.Lit.{Lit as Literal}
@@ -24,26 +23,12 @@ use Rattle.ir_core.specs.declared.code.Block.{Block}
 use Rattle.ir_core.specs.Lower.{kind_of_type}
 use Rattle.ir_core.specs.Registers.{literal_of}
 use Rattle.ir_core.specs.Rows.{Declared, type_of_reg}
-use Rattle.ir_core.specs.Building.{Building}
-use Rattle.ir_builder_frames.specs.Settings.{rtype_of, variable_registers}
-use Rattle.ir_builder_frames.specs.Matching.{parameter_sorts}
+use Rattle.ir_builder_frames.specs.Building.{Building}
+use Rattle.ir_builder_frames.specs.Among.{FunctionType, Surrounding}
 
 -- the name of a register that no variable has, by its number among these
 abbrev pub temporary_name : ℕ → List ℕ
 temporary_name k = codes "r" ++ decimal k
-
--- what a function takes and gives
-pub record FunctionType : Type 0 where
-  pub params : List RType
-  pub ret : RType
-
--- what a function is built among: the functions that it may call, by their numbers; the program's globals; how many of its registers
--- are variables; and the type of its result
-pub record Surrounding : Type 0 where
-  pub heads : List FunctionType
-  pub globals : Declared
-  pub variables : ℕ
-  pub ret : RType
 
 -- ---- operations
 
@@ -146,21 +131,3 @@ pub record HasKinds (g : Surrounding) (b : Building) : Type 0 where
   pub named : (i : ℕ) (d : List ℕ × RType) → g.variables ≤ i → slice_get b.regs i ≡ Some d → (k : ℕ) × (d.0 ≡ temporary_name k)
   pub blocks : BlocksKinds g b.regs b.blocks
   pub ops : OpsKinds g b.regs b.ops
-
--- ---- what keeps it
-
-abbrev pub KeepsKinds : Building → Building → Type 0
-KeepsKinds b c = (g : Surrounding) → HasKinds g b → HasKinds g c
-
--- where this holds of what the function is built among
-abbrev pub KeepsKindsIf : (Surrounding → Type 0) → Building → Building → Type 0
-KeepsKindsIf P b c = (g : Surrounding) → P g → HasKinds g b → HasKinds g c
-
--- the head of a function
-abbrev pub head_of : TypedFunc → FunctionType
-head_of f = record { params = map rtype_of (parameter_sorts f); ret = rtype_of f.ret }
-
--- the functions of a module have their heads; the globals are the module's variables
-pub record IsAmong (m : TypedModule) (g : Surrounding) : Type 0 where
-  pub globals : g.globals ≡ variable_registers m.globals
-  pub heads : (n : ℕ) (f : TypedFunc) → slice_get m.funcs n ≡ Some f → slice_get g.heads n ≡ Some (head_of f)

@@ -1,4 +1,6 @@
 pub mod Settings
+pub mod Among
+pub mod Building
 pub mod Watching
 pub mod Placing
 pub mod Calling
@@ -9,4 +11,5 @@ pub mod Operands
 pub mod Shaped
 pub mod Kinds
 pub mod Naming
+pub mod Sound
 pub mod Lines

@@ -2,7 +2,7 @@
 use Rattle.std.specs.Prelude.{◌≡◌, ◌≢◌, ℕ, Some}
 use Rattle.ir_core.specs.declared.code.Last.{Last}
 use Rattle.ir_core.specs.declared.code.Last.TheVariants.{IfError}
-use Rattle.ir_core.specs.Building.{Building, held}
+use Rattle.ir_builder_frames.specs.Building.{Building, held}
 use Rattle.ir_core.specs.Items.{Item, Do, End}
 
 -- an operation, or a test for errors, that has another line than this one

@@ -1,5 +1,5 @@
 -- How registers stand for the source's variables, and what calls do.
-use Rattle.std.specs.Prelude.{◌≡◌, ◌≢◌, ℕ, ◌+◌, ◌-◌, ◌<◌, ◌≤◌, nat_lt, Bool, true, if◌then◌else◌, ℤ, List, [], ◌∷◌, length, map, take, Option, Some, None, slice_get}
+use Rattle.std.specs.Prelude.{◌≡◌, ◌≢◌, ℕ, ◌+◌, ◌-◌, ◌<◌, ◌≤◌, nat_lt, Bool, true, if◌then◌else◌, ℤ, List, [], ◌∷◌, length, map, Option, Some, None, slice_get}
 use Rattle.value_core.specs.Arithmetic.{lies_within}
 use Rattle.value_core.specs.Exceptions.{Thrown}
 use Rattle.value_core.specs.Value.{Value, IntVal, BoolVal, NoneVal, StrVal, ExcVal}
@@ -14,16 +14,17 @@ use Rattle.ir_core.specs.declared.code.RType.{RType}
 use Rattle.ir_core.specs.declared.code.RType.TheVariants as rtype
 use Rattle.ir_core.specs.declared.code.Reg.{Reg}
 use Rattle.ir_core.specs.Registers.{Held, Unset, Holds, Regs, first_regs}
-use Rattle.ir_core.specs.Building.{Building}
+use Rattle.ir_builder_frames.specs.Building.{Building}
+use Rattle.ir_builder_frames.specs.Among.{IsAmong}
 use Rattle.ir_core.specs.Meaning.{Waiting, Config}
 use Rattle.ir_builder_frames.specs.declared.frame.Frame.{Frame}
 use Rattle.ir_builder_frames.specs.declared.frame.Vars.{Vars}
-use Rattle.ir_builder_frames.specs.Settings.{Setting, rtype_of, variable_registers}
+use Rattle.ir_builder_frames.specs.Settings.{Setting, rtype_of, variable_registers, parameter_sorts}
 use Rattle.ir_builder_frames.specs.Watching.{calls_in}
 use Rattle.ir_builder_frames.specs.Placing.{HasType}
 use Rattle.ir_builder_frames.specs.Coming.{world, running, Escapes, returning, Ends}
 
--- what the shape of a type says of a value, whatever objects there are: it is a number of the type, a text, a bool or None
+-- what the shape of a type says of a number, a text, a bool or None; of an object it says nothing here
 abbrev pub HasKind : Sort → Value → Type 0
 HasKind sort.I64 v = (n : ℤ) × (v ≡ IntVal n) × (lies_within 63 n ≡ true)
 HasKind sort.Int v = (n : ℤ) × (v ≡ IntVal n)
@@ -69,8 +70,9 @@ abbrev pub BackBelow : Option Reg → ℕ → ℕ → Type 0
 BackBelow None top n = Unit {0}
 BackBelow (Some r) top n = (top ≤ r.0) × (r.0 < n)
 
--- the builder has the registers of a frame
+-- the builder is among the functions and variables of a module, and has the registers of a frame
 pub record HasRoom (x : Setting) (b : Building) : Type 0 where
+  pub among : IsAmong x.source b.among
   pub count : x.frame.locals.count ≡ length x.variables
   pub flags : x.frame.locals.count + (x.frame.locals.count - x.frame.locals.params) ≤ x.frame.locals.top
   pub top : x.frame.locals.top ≤ length b.regs
@@ -102,10 +104,6 @@ IsThrown fn None below x keep regs v s d = Escapes fn below v s d
 IsThrown fn (Some h) below x keep regs v s d = (e : Thrown) × (v ≡ ExcVal e) × Stands fn h 0 below (Some e) x keep regs s d
 
 -- ---- calls
-
--- the types of a function's parameters
-abbrev pub parameter_sorts : TypedFunc → List Sort
-parameter_sorts f = map (λ (v : Variable). v.1) (take f.params f.locals)
 
 abbrev pub BeginWith : List (List ℕ × RType) → List Sort → Type 0
 BeginWith ds [] = Unit {0}

@@ -9,7 +9,7 @@ use Rattle.ir_core.specs.declared.code.RType.{RType}
 use Rattle.ir_core.specs.Items.{Item, Do, End}
 use Rattle.ir_core.specs.Rows.{Failing, NeverFails, MayFail, AlwaysFails, failing, type_of_reg}
 use Rattle.ir_core.specs.Meaning.{item_at, handler_at, registers_of, is_tested}
-use Rattle.ir_core.specs.Building.{Building, held, handled}
+use Rattle.ir_builder_frames.specs.Building.{Building, held, handled}
 
 -- a register of this number and type is there
 abbrev pub HasType : Building → ℕ → RType → Type 0

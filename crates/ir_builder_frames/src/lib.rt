@@ -4,10 +4,11 @@
 //! `Emitter` takes operations and ends one by one, and names the registers that it adds. `specs/Calling.antt` says what
 //! each of its calls adds, `specs/Placing.antt` how that stands in the whole function, `specs/Coming.antt` and
 //! `specs/Matching.antt` where a run comes to and how registers stand for variables, `specs/Computing.antt` what code for a
-//! value does, `specs/Shaped.antt` where its ends may go, `specs/Kinds.antt` when its operations fit their registers, and
-//! `specs/Naming.antt` how registers are named.
+//! value does, `specs/Shaped.antt` where its ends may go, `specs/Kinds.antt` when its operations fit their registers,
+//! `specs/Naming.antt` how registers are named, and `specs/Sound.antt` that at every moment all of this holds.
 #![tactic(auto)]
 
+mod code;
 mod emitter;
 mod frame;
 

@@ -9,7 +9,7 @@ pub use Rattle.ir_builder_frames.specs.Computing.{ArrivesAll, Attempts, Computes
 pub use Rattle.ir_builder_frames.specs.Matching.{CallsWork, HasKind, HasRoom, IsThrown, Matches, SameIn, Stands, flag_in, flag_of}
 pub use Rattle.ir_builder_frames.specs.Placing.{Has, HasType, Placed, Within, or_other}
 pub use Rattle.ir_builder_frames.specs.Settings.{Setting, rtype_of}
-pub use Rattle.ir_builder_frames.specs.Shaped.{Higher, Keeps}
+pub use Rattle.ir_builder_frames.specs.Shaped.{Higher}
 pub use Rattle.ir_builder_loops_and_jumps.specs.Around.{Begins, EndsArm, EndsLoop, Joins, Splits, SplitsBy, joining, looping_to}
 pub use Rattle.ir_builder_loops_and_jumps.specs.Loops.{Always, Asked, Asks, Steps, WorksAt}
 pub use Rattle.ir_builder_loops_and_jumps.specs.Runs.{Back, Brings, Emitted, Flows, Joining, JumpTo, LeavesNoLoop, OpenIn, Works, all_jumping, jumping}
@@ -20,7 +20,8 @@ pub use Rattle.ir_builder_loops_and_jumps.specs.declared.ways.Test.{Test}
 pub use Rattle.ir_builder_loops_and_jumps.specs.declared.ways.Way.{Way}
 pub use Rattle.ir_builder_loops_and_jumps.specs.declared.ways.Way.TheVariants.{Break, Continue, Join, Return}
 pub use Rattle.ir_core.proofs.StepLemmas.{goto_step, if_step, lit_step, move_step, op_step, put_other, put_same, return_step, turn_step}
-pub use Rattle.ir_core.specs.Building.{Building, Extends, handled, held, with_last}
+pub use Rattle.ir_builder_frames.specs.Building.{Building, Extends, handled, held}
+pub use Rattle.ir_core.specs.Building.{with_last}
 pub use Rattle.ir_core.specs.Effects.{World}
 pub use Rattle.ir_core.specs.Items.{Do, End, Item, blocks_of, item_in}
 pub use Rattle.ir_core.specs.Meaning.{Config, Strict, Waiting, declared_of, do_op, is_refused, item_at, registers_of}
@@ -34,7 +35,7 @@ pub use Rattle.ir_core.specs.declared.code.RType.TheVariants.{I64, Int, Ref}
 pub use Rattle.ir_core.specs.declared.code.Reg.{Reg}
 pub use Rattle.py_typed.specs.Expressions.{TypedExpr, type_of, typed_expr}
 pub use Rattle.py_typed.specs.Sorts.{Sort, sort}
-pub use Rattle.py_typed.specs.Statements.{GlobalTarget, LocalTarget, TypedAct, TypedStmt, TypedTarget, Variable, arms_of, maybe_typed, on_line, suite_of, typed_arm, typed_stmt, typed_suite, typed_target}
+pub use Rattle.py_typed.specs.Statements.{GlobalTarget, LocalTarget, TypedAct, TypedTarget, Variable, maybe_typed, on_line, typed_stmt, typed_suite, typed_target}
 pub use Rattle.py_typed.specs.declared.expression.TExpr.{TExpr}
 pub use Rattle.source_meaning.specs.Operations.{has_text, line_of, text_of, truth_of}
 pub use Rattle.source_meaning.specs.State.{Does, Gives, Outcome, Raises, State, Stops, give, needs, on_to, spend, spend_from, write}

@@ -1,11 +1,17 @@
 -- The code of `print` writes what it is to.
-use Rattle.ir_builder_loops_and_jumps.proofs.Common.{◌≡◌, ℕ, zero, suc, ◌+◌, ◌<◌, ◌≤◌, true, false, List, [], ◌∷◌, ◌++◌, length, map, get_or, take, Option, Some, None, refl, sym, ap, ◌∙◌, subst, arith, append_assoc, append-nil, le_refl, add-one, ◌≢◌, Bool, ◌&&◌, take_all, Value, StrVal, TExpr, Sort, typed_expr, type_of, State, Gives, Does, on_to, give, needs, write, text_of, line_of, has_text, Goes, Op, Reg, Ref, Program, Building, held, Extends, Do, Holds, Regs, Declared, type_of_reg, World, Waiting, Strict, do_op, registers_of, op_step, Setting, rtype_of, HasType, Has, Pushes, world, running, Leads, Ends, Matches, HasRoom, IsThrown, Shows, Meaning, Makes, Attempts, ShowAll, HaveTypes, ArrivesAll, ComputesAll, Keeps, leads_trans, leads_step, leads_refl, ends_on, ends_now, ends_at, extends_refl, extends_trans, has_less, type_has, type_below, placed_part, room_on, match_kept, Flows, Works, Config, Stands}
+use Rattle.ir_builder_loops_and_jumps.proofs.Common.{◌≡◌, ℕ, zero, suc, ◌+◌, ◌<◌, ◌≤◌, true, false, List, [], ◌∷◌, ◌++◌, length, map, get_or, take, Option, Some, None, refl, sym, ap, ◌∙◌, subst, arith, append_assoc, append-nil, le_refl, add-one, ◌≢◌, Bool, ◌&&◌, take_all, Value, StrVal, TExpr, Sort, typed_expr, type_of, State, Gives, Does, on_to, give, needs, write, text_of, line_of, has_text, Goes, Op, Reg, Ref, Program, Building, held, Extends, Do, Holds, Regs, Declared, type_of_reg, World, Waiting, Strict, do_op, registers_of, op_step, Setting, rtype_of, HasType, Has, Pushes, world, running, Leads, Ends, Matches, HasRoom, IsThrown, Shows, Meaning, Makes, Attempts, ShowAll, HaveTypes, ArrivesAll, ComputesAll, leads_trans, leads_step, leads_refl, ends_on, ends_now, ends_at, extends_refl, extends_trans, has_less, type_has, type_below, placed_part, room_on, match_kept, Flows, Works, Config, Stands}
+use Rattle.std.proofs.Common.{inl}
 use Rattle.std.specs.List.{list_all}
+use Rattle.c_core.specs.declared.primitive.Primitive.TheVariants as prim
+use Rattle.c_core.specs.declared.primitive.IoPrim.TheVariants as io
+use Rattle.ir_core.specs.declared.code.PArg.{PArg}
+use Rattle.ir_core.specs.declared.code.PArg.TheVariants.{Var}
+use Rattle.ir_core.specs.declared.code.Op.TheVariants.{Prim}
+use Rattle.ir_builder_frames.specs.Sound.{MayCome}
 use Rattle.value_core.specs.Items.{line_feed}
 use Rattle.py_typed.specs.Sorts as sort
 use Rattle.py_typed.specs.Sorts.{sort as sort_of}
 use Rattle.py_typed.proofs.ExpressionLemmas.{type_at}
-use Rattle.ir_builder_frames.specs.Kinds.{KeepsKinds}
 use Rattle.ir_builder_operations.specs.Operating.{is_written, ActsOn}
 use Rattle.ir_builder_loops_and_jumps.specs.Printing.{written, writes_of, item_text, row_text, first_texts, Prints, WritesText, WritesOne, Writes, printed}
 use Rattle.ir_builder_operations.proofs.PartLemmas.{show_kept}
@@ -29,6 +35,9 @@ module _ (p : Program) (fn : ℕ) (below : List Waiting) where
   write_leads b c r text regs s q type has is =
       let t = type_has p fn b r Ref (has_less p fn b c q.extends has) type in
       step_leads b c (writes_of (record { 0 = r })) regs regs (world None s) (world None (written s text)) q.at q.blocks q.ops has (write_does _ _ r text regs s t is)
+
+pub write_may_come : (b : Building) (r : Reg) (args : List PArg) → args ≡ Var r ∷ [] → HasType b r.0 Ref → MayCome b (Prim None (prim.Io io.Write) args)
+write_may_come b r args is type = subst (λ (z : List PArg). MayCome b (Prim None (prim.Io io.Write) z)) (sym is) (refl, inl (refl, (Ref, type, refl, tt)))
 
 -- ---- single texts
 
@@ -196,30 +205,6 @@ pub item_own : {A : Type 0} (xs : List A) (i : ℕ) (x : A) → i < length xs �
 item_own [] i x lt = absurd (omega arith)
 item_own (y ∷ xs) zero x lt = refl
 item_own (y ∷ xs) (suc i) x lt = item_own xs i x (omega arith)
-
--- so many values were written
-pub record Printing (es : List TExpr) (rs : List Reg) (i : ℕ) (start b : Building) : Type 0 where
-  pub kept : Extends start b
-  pub writes : Writes (sorts es) rs start b (first_texts i)
-  pub shaped : Keeps start b
-  pub kinds : KeepsKinds start b
-
-pub printing_none : (es : List TExpr) (rs : List Reg) (b : Building) → Printing es rs 0 b b
-printing_none es rs b = record { kept = extends_refl b; writes = none_written es rs b; shaped = λ n k low up s. s; kinds = λ g h. h }
-
-pub shaped_on : (b c d : Building) → Extends b c → Extends c d → Keeps b c → Keeps c d → Keeps b d
-shaped_on b c d x y k l = λ n m low up s.
-    let more = x.regs_grow in
-    let grown = y.blocks_grow in
-    l n m (omega arith) up (k n m low (omega arith) s)
-
-pub printing_on : (es : List TExpr) (rs : List Reg) (i : ℕ) (e : TExpr) (r : Reg) (start b c : Building) → HaveTypes start.regs (sorts es) rs → i < length rs → e ≡ get_or es i e → r ≡ get_or rs i r → Printing es rs i start b → Extends b c → WritesOne (sort_of e.ty) r.0 b c (item_text i) → Keeps b c → KeepsKinds b c → Printing es rs (i + 1) start c
-printing_on es rs i e r start b c types lt is same q x w shaped kinds = record {
-  kept = extends_trans start b c q.kept x;
-  writes = next_written es rs i e r start b c types lt is same q.writes w;
-  shaped = shaped_on start b c q.kept x q.shaped shaped;
-  kinds = λ g h. kinds g (q.kinds g h);
-}
 
 -- and the line feed behind all
 pub line_written : (es : List TExpr) (rs : List Reg) (i : ℕ) (b c d : Building) → length rs ≤ i → Writes (sorts es) rs b c (first_texts i) → WritesText c d (line_feed ∷ []) → Writes (sorts es) rs b d line_of

@@ -6,7 +6,8 @@ use Rattle.py_typed.specs.Expressions.{TypedExpr, type_of}
 use Rattle.ir_core.specs.declared.code.Last.TheVariants.{Goto, If, Unreachable}
 use Rattle.ir_core.specs.declared.code.Op.TheVariants.{Turn}
 use Rattle.ir_core.specs.declared.code.RType.TheVariants.{Bool}
-use Rattle.ir_core.specs.Building.{Building, with_last}
+use Rattle.ir_builder_frames.specs.Building.{Building}
+use Rattle.ir_core.specs.Building.{with_last}
 use Rattle.ir_builder_frames.specs.Settings.{Setting, rtype_of}
 use Rattle.ir_builder_frames.specs.Placing.{HasType}
 use Rattle.ir_builder_frames.specs.Calling.{Open, Pushes, Closes}

@@ -7,7 +7,7 @@ use Rattle.source_meaning.specs.State.{State}
 use Rattle.source_meaning.specs.WaysOut.{Flow}
 use Rattle.ir_core.specs.declared.code.Program.{Program}
 use Rattle.ir_core.specs.declared.code.RType.TheVariants.{Bool as BoolType}
-use Rattle.ir_core.specs.Building.{Building, Extends}
+use Rattle.ir_builder_frames.specs.Building.{Building, Extends}
 use Rattle.ir_core.specs.Registers.{Holds, Regs}
 use Rattle.ir_core.specs.Meaning.{Config, Waiting}
 use Rattle.ir_builder_frames.specs.Settings.{Setting}

@@ -13,7 +13,7 @@ use Rattle.ir_core.specs.declared.code.Op.TheVariants.{Prim}
 use Rattle.ir_core.specs.declared.code.PArg.TheVariants.{Var}
 use Rattle.ir_core.specs.declared.code.Reg.{Reg}
 use Rattle.ir_core.specs.declared.code.Program.{Program}
-use Rattle.ir_core.specs.Building.{Building, Extends}
+use Rattle.ir_builder_frames.specs.Building.{Building, Extends}
 use Rattle.ir_core.specs.Registers.{Regs}
 use Rattle.ir_core.specs.Meaning.{Waiting}
 use Rattle.py_typed.specs.Statements.{TypedModule}

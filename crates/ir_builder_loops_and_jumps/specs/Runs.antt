@@ -7,7 +7,8 @@ use Rattle.py_typed.specs.Sorts.{Sort}
 use Rattle.ir_core.specs.declared.code.Reg.{Reg}
 use Rattle.ir_core.specs.declared.code.Last.TheVariants.{Unreachable, Goto}
 use Rattle.ir_core.specs.declared.code.Program.{Program}
-use Rattle.ir_core.specs.Building.{Building, with_last, held, Extends}
+use Rattle.ir_builder_frames.specs.Building.{Building, held, Extends}
+use Rattle.ir_core.specs.Building.{with_last}
 use Rattle.ir_core.specs.Items.{End}
 use Rattle.ir_core.specs.Registers.{Holds, Regs}
 use Rattle.ir_core.specs.Meaning.{Config, Waiting, item_at}

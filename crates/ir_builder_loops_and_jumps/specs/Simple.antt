@@ -6,7 +6,7 @@ use Rattle.source_meaning.specs.State.{State, Does, Gives, needs}
 use Rattle.py_typed.specs.Statements.{TypedTarget, LocalTarget, GlobalTarget}
 use Rattle.source_meaning.specs.WaysOut.{Returns}
 use Rattle.ir_core.specs.declared.code.Program.{Program}
-use Rattle.ir_core.specs.Building.{Building, Extends}
+use Rattle.ir_builder_frames.specs.Building.{Building, Extends}
 use Rattle.ir_core.specs.Registers.{Holds, Regs}
 use Rattle.ir_core.specs.Meaning.{Config, Waiting}
 use Rattle.ir_builder_frames.specs.Settings.{Setting}

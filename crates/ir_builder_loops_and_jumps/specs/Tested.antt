@@ -6,7 +6,7 @@ use Rattle.py_typed.specs.Sorts.{Sort}
 use Rattle.py_typed.specs.Statements.{typed_arm, arms_of}
 use Rattle.source_soundness.specs.Watched.{first_arm}
 use Rattle.source_meaning.specs.WaysOut.{Flow}
-use Rattle.ir_core.specs.Building.{Building, Extends}
+use Rattle.ir_builder_frames.specs.Building.{Building, Extends}
 use Rattle.ir_builder_frames.specs.Settings.{Setting}
 use Rattle.ir_builder_frames.specs.Watching.{watch, calls_in}
 use Rattle.ir_builder_frames.specs.Computing.{Meaning}

@@ -1,7 +1,7 @@
 //! What is printed.
 ghost use Rattle.std.specs.Prelude.{◌≡◌, ◌<◌, true, map, length, OnOk};
 ghost use Rattle.std.specs.List.{list_all};
-ghost use Rattle.ir_core.specs.Building.{Extends};
+ghost use Rattle.ir_builder_frames.specs.Building.{Extends};
 ghost use Rattle.py_typed.specs.Sorts.{sort};
 ghost use Rattle.py_typed.specs.Expressions.{typed_expr, type_of};
 ghost use Rattle.source_meaning.specs.Operations.{line_of, text_of};
@@ -9,8 +9,6 @@ ghost use Rattle.ir_builder_frames.specs.Calling.{Pushes};
 ghost use Rattle.ir_builder_frames.specs.Computing.{HaveTypes};
 ghost use Rattle.ir_builder_frames.specs.Placing.{HasType};
 ghost use Rattle.ir_builder_frames.specs.Settings.{rtype_of};
-ghost use Rattle.ir_builder_frames.specs.Shaped.{Keeps};
-ghost use Rattle.ir_builder_frames.specs.Kinds.{KeepsKinds};
 ghost use Rattle.ir_builder_frames.specs.Lines.{OwnLines};
 ghost use Rattle.ir_builder_operations.specs.Operating.{is_written};
 ghost use Rattle.ir_builder_loops_and_jumps.specs.Printing.{writes_of, item_text, WritesText, WritesOne, Writes};
@@ -28,8 +26,6 @@ fn emit_write(b: &mut Emitter, alloc: Global, r: Reg, line: usize) -> Result<(),
     requires { HasType b.old r.0 RType.Ref }
     ensures kept { Extends b.old b.new }
     ensures pushed { OnOk result (Pushes b.old b.new (writes_of r) line) }
-    ensures shaped { Keeps b.old b.new }
-    ensures kinds { KeepsKinds b.old b.new }
     ensures lined { OwnLines line b.old b.new }
 {
     let mut written = Many::new(alloc);
@@ -41,8 +37,6 @@ fn emit_write(b: &mut Emitter, alloc: Global, r: Reg, line: usize) -> Result<(),
 fn emit_literal(b: &mut Emitter, alloc: Global, text: &str, line: usize) -> Result<(), Memory>
     ensures kept { Extends b.old b.new }
     ensures writes { OnOk result (WritesText b.old b.new text.now) }
-    ensures shaped { Keeps b.old b.new }
-    ensures kinds { KeepsKinds b.old b.new }
     ensures lined { OwnLines line b.old b.new }
 {
     let r = emit_text(b, alloc, text, line)?;
@@ -55,8 +49,6 @@ fn emit_value(b: &mut Emitter, alloc: Global, t: &Ty, x: Reg, line: usize) -> Re
     requires value { HasType b.old x.0 (rtype_of (sort t.now)) }
     ensures kept { Extends b.old b.new }
     ensures writes { OnOk result (WritesOne (sort t.now) x.0 b.old b.new text_of) }
-    ensures shaped { Keeps b.old b.new }
-    ensures kinds { KeepsKinds b.old b.new }
     ensures lined { OwnLines line b.old b.new }
 {
     let r = emit_text_of(b, alloc, t, x, line)?;
@@ -76,8 +68,6 @@ fn emit_item(
     requires value { HasType b.old x.0 (rtype_of (sort t.now)) }
     ensures kept { Extends b.old b.new }
     ensures writes { OnOk result (WritesOne (sort t.now) x.0 b.old b.new (item_text i)) }
-    ensures shaped { Keeps b.old b.new }
-    ensures kinds { KeepsKinds b.old b.new }
     ensures lined { OwnLines line b.old b.new }
 {
     if i == 0 {
@@ -100,8 +90,6 @@ pub fn emit_print(
     requires types { HaveTypes b.old.regs (map type_of (map typed_expr values.now)) regs.now }
     ensures kept { Extends b.old b.new }
     ensures writes { OnOk result (Writes (map type_of (map typed_expr values.now)) regs.now b.old b.new line_of) }
-    ensures shaped { Keeps b.old b.new }
-    ensures kinds { KeepsKinds b.old b.new }
     ensures lined { OwnLines line b.old b.new }
 {
     for i in 0..regs.len() {

@@ -15,16 +15,15 @@ pub use Rattle.ir_builder_frames.specs.Matching.{HasKind, HasRoom, HaveKinds, Is
 pub use Rattle.ir_builder_frames.specs.Operands.{ActsOnAll}
 pub use Rattle.ir_builder_frames.specs.Placing.{HasType, Placed}
 pub use Rattle.ir_builder_frames.specs.Settings.{Setting, rtype_of}
-pub use Rattle.ir_builder_frames.specs.Shaped.{AreBelow}
 pub use Rattle.ir_builder_operations.specs.Converting.{coercion, text_operation}
-pub use Rattle.ir_builder_operations.specs.Operating.{Acts, ActsOn, ActsOnTwo, is_arithmetic, is_whole, is_written}
+pub use Rattle.ir_builder_operations.specs.Operating.{Acts, ActsOn, ActsOnTwo, is_written}
 pub use Rattle.ir_builder_operations.specs.Rows.{compares, goes, inverts, is_known, of_none, of_one, of_two, operands_of, primitive_of, result_of, tested, written}
-pub use Rattle.ir_builder_operations.specs.Selecting.{int_primitive, native_primitive, test_primitive}
+pub use Rattle.ir_builder_operations.specs.Selecting.{int_primitive, is_arithmetic, is_whole, native_primitive, test_primitive}
 pub use Rattle.ir_builder_operations.specs.declared.operation.Compared.TheVariants.{Ints, Natives, Texts}
 pub use Rattle.ir_builder_operations.specs.declared.operation.Operation.{Operation}
 pub use Rattle.ir_builder_operations.specs.declared.operation.Operation.TheVariants.{BoolText, BoolToInt, BoolToNative, Comparison, Concatenation, IntArithmetic, IntNegation, IntText, IntToNative, Inversion, Length, Letter, Line, NativeArithmetic, NativeNegation, NativeText, NativeToInt}
 pub use Rattle.ir_builder_operations.specs.declared.operation.Test.TheVariants.{AtMost, Equal, Less}
-pub use Rattle.ir_core.specs.Building.{Building}
+pub use Rattle.ir_builder_frames.specs.Building.{Building}
 pub use Rattle.ir_core.specs.Effects.{Given, World, Written, Wrong, effect, fitted, int_or, item_or, line_read, native_or, truth_number, truth_text, written_int}
 pub use Rattle.ir_core.specs.Registers.{Holds, Regs, halved, put}
 pub use Rattle.ir_core.specs.Rows.{Declared, NeverFails, failing, type_of_reg}
@@ -47,7 +46,7 @@ pub use Rattle.std.specs.Fmt.{signed_decimal}
 pub use Rattle.std.specs.Int.{w128, w64}
 pub use Rattle.std.specs.Option.{option_and_then, option_map}
 pub use Rattle.std.specs.Ordering.{int_eq, is_lt, nat_cmp, ordering_then}
-pub use Rattle.std.specs.Prelude.{codes, if◌then◌else◌, int_lt, is_some, map, nat_lt, neg_ℤ, negsuc, not, pos, slice_get, ℤ, ◌&&◌, ◌*ℤ◌, ◌+ℤ◌, ◌-ℤ◌, ◌==◌, ◌||◌}
+pub use Rattle.std.specs.Prelude.{codes, if◌then◌else◌, int_lt, is_some, map, nat_lt, neg_ℤ, negsuc, not, pos, slice_get, ℤ, ◌&&◌, ◌*ℤ◌, ◌==◌, ◌||◌}
 pub use Rattle.std.specs.Str.{IsUtf8, bytes_eq, chars, encode_utf8_all}
 pub use Rattle.value_core.specs.Arithmetic.{i64_add, i64_floor_div, i64_modulo, i64_mul, i64_neg, i64_shl, i64_shr, i64_sub, int_add, int_floor_div, int_modulo, int_mul, int_neg, int_shl, int_shr, int_sub, int_to_i64, is_short, lies_within}
 pub use Rattle.value_core.specs.Characters.{char_len, place_of}

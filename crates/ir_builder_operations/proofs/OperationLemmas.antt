@@ -1,5 +1,5 @@
 -- Each operation does with its operands' values what the source does, and its primitive takes registers of their types.
-use Rattle.ir_builder_operations.proofs.Common.{◌≡◌, refl, sym, subst, ℕ, length, true, List, [], ◌∷◌, Some, map, Value, Primitive, Sort, Reg, RType, PArg, Var, Prim, Declared, Building, Adds, Shows, HaveTypes, Attempts, ActsOnAll, AreArguments, HaveKinds, rtype_of, AreBelow, type_below, all_given, Performs, all_perform, Operation, IntArithmetic, NativeArithmetic, IntNegation, NativeNegation, Comparison, Inversion, Concatenation, Length, Letter, IntText, NativeText, BoolText, BoolToInt, BoolToNative, NativeToInt, IntToNative, Line, Ints, Natives, Texts, Equal, Less, AtMost, is_known, operands_of, result_of, primitive_of, goes}
+use Rattle.ir_builder_operations.proofs.Common.{◌≡◌, refl, sym, subst, ℕ, true, List, [], ◌∷◌, Some, map, Value, Primitive, Sort, Reg, RType, PArg, Var, Prim, Declared, Building, Adds, Shows, HaveTypes, Attempts, ActsOnAll, AreArguments, HaveKinds, rtype_of, all_given, Performs, all_perform, Operation, IntArithmetic, NativeArithmetic, IntNegation, NativeNegation, Comparison, Inversion, Concatenation, Length, Letter, IntText, NativeText, BoolText, BoolToInt, BoolToNative, NativeToInt, IntToNative, Line, Ints, Natives, Texts, Equal, Less, AtMost, is_known, operands_of, result_of, primitive_of, goes}
 use Rattle.c_core.specs.Primitives.{Is, Parameter, Borrows, Owned, row_of}
 use Rattle.py_syntax.specs.declared.expression.BinOp.TheVariants as bin
 use Rattle.ir_core.specs.Lower.{kind_of_type}
@@ -112,9 +112,3 @@ operation_answers op rs t q args type does given regs h =
     let Q : Primitive → Type 0 = λ z. Answers (rtype_of (result_of op)) regs z args in
     let R : List PArg → Type 0 = λ z. Answers (rtype_of (result_of op)) regs (primitive_of op) z in
     subst P (sym type) (subst Q (sym does) (subst R (sym given) ((row op).0, taken regs (row_of (primitive_of op)).parameters (operands_of op) rs (row op).1 h)))
-
-pub operands_below : (b : Building) (ts : List Sort) (rs : List Reg) → HaveTypes b.regs ts rs → AreBelow (length b.regs) (map Var rs)
-operands_below b [] [] h = tt
-operands_below b [] (r ∷ rs) h = absurd h
-operands_below b (t ∷ ts) [] h = absurd h
-operands_below b (t ∷ ts) (r ∷ rs) h = (type_below b r.0 (rtype_of t) h.0, operands_below b ts rs h.1)

@@ -18,8 +18,7 @@ use Rattle.ir_builder_operations.specs.declared.operation.Compared.{Compared}
 use Rattle.ir_builder_operations.specs.declared.operation.Compared.TheVariants.{Ints, Natives, Texts}
 use Rattle.ir_builder_operations.specs.declared.operation.Test.{Test}
 use Rattle.ir_builder_operations.specs.declared.operation.Test.TheVariants.{Equal, Less, AtMost}
-use Rattle.ir_builder_operations.specs.Operating.{is_arithmetic}
-use Rattle.ir_builder_operations.specs.Selecting.{int_primitive, native_primitive, test_primitive}
+use Rattle.ir_builder_operations.specs.Selecting.{is_arithmetic, int_primitive, native_primitive, test_primitive}
 
 -- an operator of arithmetic, where there is one
 abbrev pub is_known : Operation → Bool

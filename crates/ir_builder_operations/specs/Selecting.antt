@@ -1,4 +1,5 @@
--- Which primitive an operator or a test is made of.
+-- Which operators and types there are operations for, and which primitive an operator or a test is made of.
+use Rattle.std.specs.Prelude.{Bool, true, false}
 use Rattle.c_core.specs.declared.primitive.Primitive.{Primitive}
 use Rattle.c_core.specs.declared.primitive.Primitive.TheVariants as prim
 use Rattle.c_core.specs.declared.primitive.Int64Prim.{Int64Prim}
@@ -7,11 +8,30 @@ use Rattle.c_core.specs.declared.primitive.TaggedPrim.{TaggedPrim}
 use Rattle.c_core.specs.declared.primitive.TaggedPrim.TheVariants as tagged
 use Rattle.c_core.specs.declared.primitive.StrPrim.TheVariants as str
 use Rattle.py_syntax.specs.declared.expression.BinOp.{BinOp}
-use Rattle.py_syntax.specs.declared.expression.BinOp.TheVariants.{Add, Sub, FloorDiv, Mod, Shl, Shr}
+use Rattle.py_syntax.specs.declared.expression.BinOp.TheVariants.{Add, Sub, Mul, FloorDiv, Mod, Shl, Shr}
+use Rattle.py_typed.specs.Sorts as sort
+use Rattle.py_typed.specs.Sorts.{Sort}
 use Rattle.ir_builder_operations.specs.declared.operation.Compared.{Compared}
 use Rattle.ir_builder_operations.specs.declared.operation.Compared.TheVariants.{Ints, Natives, Texts}
 use Rattle.ir_builder_operations.specs.declared.operation.Test.{Test}
 use Rattle.ir_builder_operations.specs.declared.operation.Test.TheVariants.{Equal, Less, AtMost}
+
+-- the operators of arithmetic
+abbrev pub is_arithmetic : BinOp → Bool
+is_arithmetic Add = true
+is_arithmetic Sub = true
+is_arithmetic Mul = true
+is_arithmetic FloorDiv = true
+is_arithmetic Mod = true
+is_arithmetic Shl = true
+is_arithmetic Shr = true
+is_arithmetic _ = false
+
+-- `int` and `i64`
+abbrev pub is_whole : Sort → Bool
+is_whole sort.Int = true
+is_whole sort.I64 = true
+is_whole _ = false
 
 -- the primitive of an operator on two values of `int`; an operator that is none of arithmetic stands with `*`, and has no operation
 abbrev pub int_primitive : BinOp → TaggedPrim

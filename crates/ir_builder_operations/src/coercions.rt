@@ -3,14 +3,13 @@ ghost use Rattle.std.specs.Prelude.{◌≡◌, IfOk, true};
 ghost use Rattle.py_typed.specs.Fits.{is_number};
 ghost use Rattle.py_typed.specs.Sorts.{sort};
 ghost use Rattle.source_meaning.specs.Operations.{coerced};
-ghost use Rattle.ir_core.specs.Building.{Extends};
+ghost use Rattle.ir_builder_frames.specs.Building.{Extends};
 ghost use Rattle.ir_builder_frames.specs.Computing.{Shows, Attempts};
 ghost use Rattle.ir_builder_frames.specs.Placing.{HasType};
 ghost use Rattle.ir_builder_frames.specs.Settings.{rtype_of};
-ghost use Rattle.ir_builder_frames.specs.Shaped.{Keeps};
-ghost use Rattle.ir_builder_frames.specs.Kinds.{KeepsKinds};
 ghost use Rattle.ir_builder_frames.specs.Lines.{OwnLines};
-ghost use Rattle.ir_builder_operations.specs.Operating.{is_whole, ActsOn};
+ghost use Rattle.ir_builder_operations.specs.Operating.{ActsOn};
+ghost use Rattle.ir_builder_operations.specs.Selecting.{is_whole};
 ghost use Rattle.ir_builder_operations.specs.Converting.{coercion};
 
 use crate::operation::{Operation, emit_operation};
@@ -49,8 +48,6 @@ pub fn emit_coercion(
     requires value { HasType b.old x.0 (rtype_of (sort from.now)) }
     ensures kept { Extends b.old b.new }
     ensures made { IfOk result (λ r. Attempts (Shows (sort to.now)) b.old b.new r.0 (rtype_of (sort to.now)) (ActsOn (sort from.now) x.0 (coerced (sort to.now)))) }
-    ensures shaped { Keeps b.old b.new }
-    ensures kinds { KeepsKinds b.old b.new }
     ensures lined { OwnLines line b.old b.new }
 {
     match operation_between(from, to) {

@@ -3,10 +3,8 @@ ghost use Rattle.std.specs.Prelude.{IfOk};
 ghost use Rattle.py_typed.specs.Sorts.{Str};
 ghost use Rattle.source_meaning.specs.State.{look};
 ghost use Rattle.source_meaning.specs.Operations.{next_line};
-ghost use Rattle.ir_core.specs.Building.{Extends};
+ghost use Rattle.ir_builder_frames.specs.Building.{Extends};
 ghost use Rattle.ir_builder_frames.specs.Computing.{Shows, Attempts};
-ghost use Rattle.ir_builder_frames.specs.Shaped.{Keeps};
-ghost use Rattle.ir_builder_frames.specs.Kinds.{KeepsKinds};
 ghost use Rattle.ir_builder_frames.specs.Lines.{OwnLines};
 ghost use Rattle.ir_builder_operations.specs.Operating.{Acts};
 
@@ -22,8 +20,6 @@ use value_core::Memory;
 pub fn emit_input(b: &mut Emitter, alloc: Global, line: usize) -> Result<Reg, Memory>
     ensures kept { Extends b.old b.new }
     ensures made { IfOk result (λ r. Attempts (Shows Str) b.old b.new r.0 RType.Ref (Acts (look (λ s. s.items) next_line))) }
-    ensures shaped { Keeps b.old b.new }
-    ensures kinds { KeepsKinds b.old b.new }
     ensures lined { OwnLines line b.old b.new }
 {
     emit_operation(b, alloc, Operation::Line, &[], line)

@@ -3,10 +3,8 @@ ghost use Rattle.std.specs.Prelude.{◌≡◌, IfOk, true, pos, ◌*ℤ◌};
 ghost use Rattle.value_core.specs.Arithmetic as spec;
 ghost use Rattle.value_core.specs.Value.{IntVal};
 ghost use Rattle.ir_core.specs.Registers.{Holds};
-ghost use Rattle.ir_core.specs.Building.{Extends};
+ghost use Rattle.ir_builder_frames.specs.Building.{Extends};
 ghost use Rattle.ir_builder_frames.specs.Computing.{Makes};
-ghost use Rattle.ir_builder_frames.specs.Shaped.{Keeps};
-ghost use Rattle.ir_builder_frames.specs.Kinds.{KeepsKinds};
 ghost use Rattle.ir_builder_frames.specs.Lines.{OwnLines};
 
 use crate::parts::emit_written;
@@ -29,8 +27,6 @@ fn doubled(n: i128) -> i64
 pub fn emit_int(b: &mut Emitter, alloc: Global, n: i128, line: usize) -> Result<Reg, Memory>
     ensures kept { Extends b.old b.new }
     ensures made { IfOk result (λ r. Makes b.old b.new r.0 RType.Int (λ regs h. h ≡ Holds (IntVal n))) }
-    ensures shaped { Keeps b.old b.new }
-    ensures kinds { KeepsKinds b.old b.new }
     ensures lined { OwnLines line b.old b.new }
 {
     if is_short(n) {
@@ -46,8 +42,6 @@ pub fn emit_int(b: &mut Emitter, alloc: Global, n: i128, line: usize) -> Result<
 pub fn emit_native(b: &mut Emitter, n: i64, line: usize) -> Result<Reg, Memory>
     ensures kept { Extends b.old b.new }
     ensures made { IfOk result (λ r. Makes b.old b.new r.0 RType.I64 (λ regs h. h ≡ Holds (IntVal n))) }
-    ensures shaped { Keeps b.old b.new }
-    ensures kinds { KeepsKinds b.old b.new }
     ensures lined { OwnLines line b.old b.new }
 {
     b.literal(RType::I64, Lit::Number(n), line)

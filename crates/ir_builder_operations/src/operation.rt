@@ -1,11 +1,9 @@
 //! Operations that one primitive does, each on operands of types of its own.
 ghost use Rattle.std.specs.Prelude.{◌≡◌, IfOk, true, map};
-ghost use Rattle.ir_core.specs.Building.{Extends};
+ghost use Rattle.ir_builder_frames.specs.Building.{Extends};
 ghost use Rattle.ir_builder_frames.specs.Computing.{Shows, HaveTypes, Attempts};
 ghost use Rattle.ir_builder_frames.specs.Operands.{ActsOnAll};
 ghost use Rattle.ir_builder_frames.specs.Settings.{rtype_of};
-ghost use Rattle.ir_builder_frames.specs.Shaped.{Keeps};
-ghost use Rattle.ir_builder_frames.specs.Kinds.{KeepsKinds};
 ghost use Rattle.ir_builder_frames.specs.Lines.{OwnLines};
 ghost use Rattle.ir_builder_operations.specs.Rows.{is_known, operands_of, result_of, primitive_of, goes};
 ghost use Rattle.ir_builder_operations.specs.Selecting.{int_primitive, native_primitive, test_primitive};
@@ -187,8 +185,6 @@ pub fn emit_operation(
     requires operands { HaveTypes b.old.regs (operands_of op) operands.now }
     ensures kept { Extends b.old b.new }
     ensures made { IfOk result (λ r. Attempts (Shows (result_of op)) b.old b.new r.0 (rtype_of (result_of op)) (ActsOnAll (operands_of op) operands.now (goes op))) }
-    ensures shaped { Keeps b.old b.new }
-    ensures kinds { KeepsKinds b.old b.new }
     ensures lined { OwnLines line b.old b.new }
 {
     let args = arguments(alloc, operands)?;

@@ -1,17 +1,14 @@
 //! A primitive on a written text, with a register of its own for its result.
-ghost use Rattle.std.specs.Prelude.{[], ◌∷◌, IfOk, Some, IsTrue};
-ghost use Rattle.c_core.specs.Primitives.{row_of};
+ghost use Rattle.std.specs.Prelude.{[], ◌∷◌, IfOk, Some};
 ghost use Rattle.ir_core.specs.declared.code.Op.{Op};
-ghost use Rattle.ir_core.specs.Building.{Extends};
-ghost use Rattle.ir_core.specs.Shape.{is_target_of};
+ghost use Rattle.ir_builder_frames.specs.Building.{Extends};
 ghost use Rattle.ir_builder_frames.specs.Calling.{Adds};
-ghost use Rattle.ir_builder_frames.specs.Shaped.{Keeps};
-ghost use Rattle.ir_builder_frames.specs.Kinds.{Answers, KeepsKindsIf};
+ghost use Rattle.ir_builder_frames.specs.Kinds.{Answers};
 ghost use Rattle.ir_builder_frames.specs.Lines.{OwnLines};
 
 use c_core::Prim;
 use ir_builder_frames::Emitter;
-use ir_core::{Op, PArg, RType, Reg};
+use ir_core::{PArg, RType, Reg};
 use std::alloc::Global;
 use value_core::{Many, Memory, Text};
 
@@ -24,16 +21,12 @@ pub fn emit_written(
     text: &str,
     line: usize,
 ) -> Result<Reg, Memory>
-    requires result { IsTrue (is_target_of (row_of primitive).outcome (Some record { 0 = 0 })) }
+    requires fits { Answers t b.old.regs primitive (PArg.Text text.now ∷ []) }
     ensures kept { Extends b.old b.new }
     ensures added { IfOk result (λ r. Adds b.old b.new r.0 t (Op.Prim (Some r) primitive (PArg.Text text.now ∷ [])) line) }
-    ensures shaped { Keeps b.old b.new }
-    ensures kinds { KeepsKindsIf (λ g. Answers t b.old.regs primitive (PArg.Text text.now ∷ [])) b.old b.new }
     ensures lined { OwnLines line b.old b.new }
 {
     let mut args = Many::new(alloc);
     args.push(PArg::Text(Text::from_str(alloc, text)?))?;
-    let r = b.temporary(t)?;
-    b.push(Op::Prim(Some(r), primitive, args), line)?;
-    Ok(r)
+    b.primitive(t, primitive, args, line)
 }

@@ -5,12 +5,10 @@ ghost use Rattle.py_typed.specs.Sorts.{sort, Str};
 ghost use Rattle.source_meaning.specs.State.{give};
 ghost use Rattle.source_meaning.specs.Operations.{text_of};
 ghost use Rattle.ir_core.specs.Registers.{Holds};
-ghost use Rattle.ir_core.specs.Building.{Extends};
+ghost use Rattle.ir_builder_frames.specs.Building.{Extends};
 ghost use Rattle.ir_builder_frames.specs.Computing.{Shows, Makes, Attempts};
 ghost use Rattle.ir_builder_frames.specs.Placing.{HasType};
 ghost use Rattle.ir_builder_frames.specs.Settings.{rtype_of};
-ghost use Rattle.ir_builder_frames.specs.Shaped.{Keeps};
-ghost use Rattle.ir_builder_frames.specs.Kinds.{KeepsKinds};
 ghost use Rattle.ir_builder_frames.specs.Lines.{OwnLines};
 ghost use Rattle.ir_builder_operations.specs.Operating.{is_written, ActsOn};
 ghost use Rattle.ir_builder_operations.specs.Converting.{text_operation};
@@ -28,8 +26,6 @@ use value_core::Memory;
 pub fn emit_text(b: &mut Emitter, alloc: Global, text: &str, line: usize) -> Result<Reg, Memory>
     ensures kept { Extends b.old b.new }
     ensures made { IfOk result (λ r. Makes b.old b.new r.0 RType.Ref (λ regs h. h ≡ Holds (StrVal text.now))) }
-    ensures shaped { Keeps b.old b.new }
-    ensures kinds { KeepsKinds b.old b.new }
     ensures lined { OwnLines line b.old b.new }
 {
     let primitive = Prim::Str(StrPrim::Literal);
@@ -61,8 +57,6 @@ pub fn emit_text_of(
     requires value { HasType b.old x.0 (rtype_of (sort t.now)) }
     ensures kept { Extends b.old b.new }
     ensures made { IfOk result (λ r. Attempts (Shows Str) b.old b.new r.0 RType.Ref (ActsOn (sort t.now) x.0 (λ v. give (StrVal (text_of v))))) }
-    ensures shaped { Keeps b.old b.new }
-    ensures kinds { KeepsKinds b.old b.new }
     ensures lined { OwnLines line b.old b.new }
 {
     match operation_of_text(t) {

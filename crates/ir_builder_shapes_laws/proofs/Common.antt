@@ -8,14 +8,15 @@ pub use Rattle.c_core.specs.declared.code.CFunc.{CFunc}
 pub use Rattle.c_core.specs.declared.code.Kind.{Kind}
 pub use Rattle.c_core.specs.declared.code.Line.{Line}
 pub use Rattle.c_core.specs.declared.primitive.Primitive.{Primitive}
-pub use Rattle.ir_builder_frames.specs.Kinds.{Answers, AreArguments, BlocksKinds, FunctionType, HasKinds, IsOf, LastKinds, LiteralFits, OpKinds, OpsKinds, ReadsGlobal, Reports, Surrounding, Take, WritesGlobal, temporary_name}
-pub use Rattle.ir_builder_shapes_laws.specs.Built.{IsBuilt, IsFunction, IsProgram, building_of, head_of_code}
-pub use Rattle.ir_core.specs.Building.{Building, is_open_at, is_unwritten}
+pub use Rattle.ir_builder_frames.specs.Kinds.{Answers, AreArguments, BlocksKinds, IsOf, LastKinds, LiteralFits, OpKinds, OpsKinds, ReadsGlobal, Reports, Take, WritesGlobal, temporary_name}
+pub use Rattle.ir_builder_frames.specs.Among.{FunctionType, Surrounding}
+pub use Rattle.ir_builder_shapes_laws.specs.Built.{IsBuilt, IsFunction, IsProgram, head_of_code}
+pub use Rattle.ir_core.specs.Building.{is_open_at, is_unwritten}
 pub use Rattle.ir_core.specs.Items.{Do, End, handler_of, in_block, item_in}
 pub use Rattle.ir_core.specs.Lower.{argument_in, block_lines, call_name, called_as, end_lines, global_of, kind_of_type, label_before, label_of, line_of, lines_from, literal_in, lower, lowered_as, lowered_from, name_in, op_lines, register_in, variable_of}
 pub use Rattle.ir_core.specs.Names.{function_id, is_dot, method_id, variable_id}
 pub use Rattle.ir_core.specs.Rows.{Declared}
-pub use Rattle.ir_core.specs.Shape.{BeginsInTurn, BlockFits, BlocksFit, FuncFits, FuncsFit, IsHigher, LastFits, Shape}
+pub use Rattle.ir_core.specs.Shape.{BeginsInTurn, BlocksFit, FuncFits, FuncsFit, IsHigher, LastFits, Shape}
 pub use Rattle.ir_core.specs.declared.code.Block.{Block}
 pub use Rattle.ir_core.specs.declared.code.Func.{Func}
 pub use Rattle.ir_core.specs.declared.code.Last.{Last}

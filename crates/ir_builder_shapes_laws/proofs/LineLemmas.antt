@@ -8,7 +8,7 @@ use Rattle.c_core.specs.Machine.{ShortInt, TaggedError}
 use Rattle.c_core.specs.Strings.{is_long_decimal}
 use Rattle.ir_core.specs.declared.code.RType.TheVariants.{Int, I64, Bool as BoolType, Ref}
 use Rattle.ir_core.specs.declared.code.Lit.{Lit as Literal}
-use Rattle.ir_core.specs.declared.code.Lit.TheVariants.{Number, Null, PyNone, PyTrue, PyFalse}
+use Rattle.ir_core.specs.declared.code.Lit.TheVariants.{Number, Null}
 use Rattle.ir_core.specs.declared.code.Reg.{Reg}
 use Rattle.ir_core.specs.declared.code.PArg.{PArg}
 use Rattle.ir_core.specs.declared.code.PArg.TheVariants as arg
@@ -40,29 +40,13 @@ number_fits Ref n e = absurd (cc)
 
 object_fits : (t : RType) (l : Literal) → is_some (literal_of t l) ≡ true → literal_fits (literal_in l) (Some (kind_of_type t)) ≡ true
 object_fits t (Number n) e = number_fits t n e
-object_fits Ref Null e = refl
-object_fits Ref PyNone e = refl
-object_fits Ref PyTrue e = refl
-object_fits Ref PyFalse e = refl
-object_fits Int Null e = absurd (cc)
-object_fits Int PyNone e = absurd (cc)
-object_fits Int PyTrue e = absurd (cc)
-object_fits Int PyFalse e = absurd (cc)
-object_fits I64 Null e = absurd (cc)
-object_fits I64 PyNone e = absurd (cc)
-object_fits I64 PyTrue e = absurd (cc)
-object_fits I64 PyFalse e = absurd (cc)
-object_fits BoolType Null e = absurd (cc)
-object_fits BoolType PyNone e = absurd (cc)
-object_fits BoolType PyTrue e = absurd (cc)
-object_fits BoolType PyFalse e = absurd (cc)
+object_fits Ref l e = refl
+object_fits t l e = absurd (cc)
 
 literal_is : (t : RType) (l : Literal) → LiteralFits t l → (literal_fits (literal_in l) (Some (kind_of_type t)) ≡ true) × (spelled_literal (literal_in l) ≡ true)
 literal_is t (Number n) h = (number_fits t n h.0, h.1)
 literal_is t Null h = (object_fits t Null h, refl)
-literal_is t PyNone h = (object_fits t PyNone h, refl)
-literal_is t PyTrue h = (object_fits t PyTrue h, refl)
-literal_is t PyFalse h = (object_fits t PyFalse h, refl)
+literal_is t l h = (object_fits t l h, refl)
 
 module _ (regs : Declared) where
   abbrev vars : List (List ℕ × Kind)

@@ -1,5 +1,5 @@
 -- The names of what is built differ in C text, and are identifiers there.
-use Rattle.ir_builder_shapes_laws.proofs.Common.{◌≡◌, ◌≢◌, refl, ◌∙◌, ap, subst, ℕ, zero, suc, ◌+◌, ◌<◌, arith, true, false, cond, List, [], ◌∷◌, ◌++◌, length, Some, None, take, inl, inr, slice_get, map, find, ◌||◌, not, option_map, list_all, list_any, bytes_eq, and_from, and_parts, or_from, or_parts, not-true, cases_lt, eq-eqb, ne_eqb, slice_get-map, bytes_eq-Decides, Kind, CFunc, kind_of_global, is_identifier, names_differ, spelled_globals, bytes_eq-sym, RType, Func, Program, function_id, variable_id, Declared, Building, kind_of_type, variable_of, global_of, name_in, lowered_from, lower, Surrounding, HasKinds}
+use Rattle.ir_builder_shapes_laws.proofs.Common.{◌≡◌, ◌≢◌, refl, ◌∙◌, ap, subst, ℕ, zero, suc, ◌+◌, ◌<◌, ◌≤◌, arith, true, false, cond, List, [], ◌∷◌, ◌++◌, length, Some, None, take, inl, inr, slice_get, map, find, ◌||◌, not, option_map, list_all, list_any, bytes_eq, and_from, and_parts, or_from, or_parts, not-true, cases_lt, eq-eqb, ne_eqb, slice_get-map, bytes_eq-Decides, Kind, CFunc, kind_of_global, is_identifier, names_differ, spelled_globals, bytes_eq-sym, RType, Func, Program, function_id, variable_id, Declared, kind_of_type, variable_of, global_of, name_in, lowered_from, lower, temporary_name}
 use Rattle.std.proofs.lemmas.List.Folds.{list_any-append}
 use Rattle.c_core.proofs.Lines.{all_at}
 use Rattle.ir_builder_frames.specs.Naming.{names_of}
@@ -34,11 +34,11 @@ each_spelled (d ∷ ds) h =
     and_from (is_identifier (variable_id d.0)) (list_all (λ (v : List ℕ × Kind). is_identifier v.0) (map variable_of ds))
     (variable_identifier d.0 (h 0 d refl)) (each_spelled ds (λ i x e. h (suc i) x e))
 
-pub variables_spelled : (g : Surrounding) (b : Building) → HasKinds g b → list_all is_identifier (names_of (take g.variables b.regs)) ≡ true → list_all (λ (v : List ℕ × Kind). is_identifier v.0) (map variable_of b.regs) ≡ true
-variables_spelled g b kinds all =
-    each_spelled b.regs (λ i d e. elim (cases_lt i g.variables) [
-      | inl lt ↦ first_spelled g.variables b.regs all i d lt e
-      | inr le ↦ (let n = kinds.named i d le e in ap is_identifier n.1 ∙ temporary_identifier n.0)
+pub variables_spelled : (count : ℕ) (ds : Declared) → ((i : ℕ) (d : List ℕ × RType) → count ≤ i → slice_get ds i ≡ Some d → (k : ℕ) × (d.0 ≡ temporary_name k)) → list_all is_identifier (names_of (take count ds)) ≡ true → list_all (λ (v : List ℕ × Kind). is_identifier v.0) (map variable_of ds) ≡ true
+variables_spelled count ds named all =
+    each_spelled ds (λ i d e. elim (cases_lt i count) [
+      | inl lt ↦ first_spelled count ds all i d lt e
+      | inr le ↦ (let n = named i d le e in ap is_identifier n.1 ∙ temporary_identifier n.0)
     ])
 
 -- ---- globals

@@ -1,5 +1,5 @@
 -- A program that is built has its shape.
-use Rattle.ir_builder_shapes_laws.proofs.Common.{◌≡◌, ◌≢◌, refl, sym, ◌∙◌, ap, subst, ℕ, zero, suc, ◌+◌, ◌-◌, ◌<◌, arith, Bool, true, false, cond, List, [], ◌∷◌, ◌++◌, length, length-append, Option, Some, None, slice_get, map, nat_le, ◌&&◌, ◌==◌, codes, list_all, position, option_map, option_map_or, bytes_eq, and_from, or_left, or_right, le-leb, eq-eqb, ne_eqb, length-map, slice_get_within, slice_get-map, Kind, Line, CFunc, label_places, is_identifier, is_char, is_leaving, is_turn_at, begins_right, jumps_fit, lines_lead_on, line_fits, function_fits, names_differ, class_fits, classes_fit, functions_fit, spelled_line, spelled_body, spelled_top, spelled_function, spelled_functions, spelled_globals, spelled_class, is_spelled, well_formed, RType, Op, Turn, Last, Block, Func, Program, Do, End, in_block, item_in, kind_of_type, variable_of, call_name, line_of, op_lines, end_lines, label_of, lines_from, name_in, lowered_as, lowered_from, lower, FuncsFit, BeginsInTurn, Shape, FunctionType, head_of_code, building_of, IsBuilt, IsFunction, IsProgram}
+use Rattle.ir_builder_shapes_laws.proofs.Common.{◌≡◌, ◌≢◌, refl, sym, ◌∙◌, ap, subst, ℕ, zero, suc, ◌+◌, ◌-◌, ◌<◌, arith, Bool, true, false, cond, List, [], ◌∷◌, ◌++◌, length, length-append, Option, Some, None, slice_get, map, nat_le, ◌&&◌, ◌==◌, codes, list_all, position, option_map, option_map_or, bytes_eq, and_from, or_left, or_right, le-leb, eq-eqb, ne_eqb, length-map, slice_get_within, slice_get-map, Kind, Line, CFunc, label_places, is_identifier, is_char, is_leaving, is_turn_at, begins_right, jumps_fit, lines_lead_on, line_fits, function_fits, names_differ, class_fits, classes_fit, functions_fit, spelled_line, spelled_body, spelled_top, spelled_function, spelled_functions, spelled_globals, spelled_class, is_spelled, well_formed, RType, Op, Turn, Last, Block, Func, Program, Do, End, in_block, item_in, kind_of_type, variable_of, call_name, line_of, op_lines, end_lines, label_of, lines_from, name_in, lowered_as, lowered_from, lower, FuncsFit, BeginsInTurn, Shape, FunctionType, head_of_code, IsBuilt, IsFunction, IsProgram}
 use Rattle.c_core.specs.declared.code.Line.TheVariants as line
 use Rattle.c_core.specs.declared.code.CClass.{CClass}
 use Rattle.c_core.specs.declared.code.Code.{Code}
@@ -86,20 +86,18 @@ module _ (p : Program) where
     module _ (f : Func) (b : IsBuilt heads p.globals f) where
       lines_are : LinesAre f.regs p (kind_of_type f.ret) (lines_from p 0 f.blocks)
       lines_are =
-          subst (λ t. LinesAre f.regs p (kind_of_type t) (lines_from p 0 f.blocks)) (sym b.ret)
-          (blocks_are f.regs p b.among
-          (λ n h e. callee f.regs n h (subst (λ hs. slice_get hs n ≡ Some h) b.heads_are e))
-          (λ n name t e. global_known p is.globals is.globals_differ n name t (subst (λ gs. slice_get gs n ≡ Some (name, t)) b.globals_are e))
-          (length f.blocks) b.few 0 f.blocks (omega arith) (built_fits heads p.globals f b) b.kinds.blocks)
+          blocks_are f.regs p (record { heads = heads; globals = p.globals; variables = b.variables; ret = f.ret }) (callee f.regs)
+          (λ n name t e. global_known p is.globals is.globals_differ n name t e)
+          (length f.blocks) b.few 0 f.blocks (omega arith) (built_fits heads p.globals f b) b.kinds
 
       body_spelled : (name : List ℕ) → spelled_body (lowered_as p name f) ≡ true
       body_spelled name =
           and_from (list_all (λ (v : List ℕ × Kind). is_identifier v.0) (map variable_of f.regs)) (list_all (spelled_line (map variable_of f.regs)) (lines_from p 0 f.blocks))
-          (variables_spelled b.among (building_of f) b.kinds b.identifiers)
+          (variables_spelled b.variables f.regs b.named b.identifiers)
           (lines_spelled f.regs p (kind_of_type f.ret) (lines_from p 0 f.blocks) lines_are)
 
       params_there : nat_le f.params (length (map variable_of f.regs)) ≡ true
-      params_there = le-leb f.params (length (map variable_of f.regs)) (omega (arith, length-map f.regs variable_of, b.params, b.kinds.variables))
+      params_there = le-leb f.params (length (map variable_of f.regs)) (omega (arith, length-map f.regs variable_of, b.params, b.within))
 
       lead_on : lines_lead_on (lines_from p 0 f.blocks) ≡ true
       lead_on =

@@ -2,43 +2,40 @@
 use Rattle.std.specs.Prelude.{◌≡◌, ℕ, suc, ◌^◌, ◌<◌, ◌≤◌, true, false, List, [], ◌∷◌, ◌++◌, length, map, take, Some, slice_get}
 use Rattle.std.specs.List.{list_all}
 use Rattle.c_core.specs.WellFormed.{is_identifier, names_differ}
+use Rattle.ir_core.specs.declared.code.RType.{RType}
 use Rattle.ir_core.specs.declared.code.RType.TheVariants.{Bool}
 use Rattle.ir_core.specs.declared.code.Op.TheVariants.{Turn}
 use Rattle.ir_core.specs.declared.code.Func.{Func}
 use Rattle.ir_core.specs.declared.code.Program.{Program}
 use Rattle.ir_core.specs.Items.{Do, item_in}
 use Rattle.ir_core.specs.Rows.{Declared}
-use Rattle.ir_core.specs.Building.{Building, is_open_at}
+use Rattle.ir_core.specs.Building.{is_open_at}
 use Rattle.ir_builder_frames.specs.Shaped.{AllFit}
-use Rattle.ir_builder_frames.specs.Kinds.{FunctionType, Surrounding, HasKinds}
+use Rattle.ir_builder_frames.specs.Kinds.{temporary_name, BlocksKinds}
+use Rattle.ir_builder_frames.specs.Among.{FunctionType}
 use Rattle.ir_builder_frames.specs.Naming.{names_of}
 
 -- what a function takes and gives
 abbrev pub head_of_code : Func → FunctionType
 head_of_code f = record { params = map (λ d. d.1) (take f.params f.regs); ret = f.ret }
 
--- the function as its builder left it
-abbrev pub building_of : Func → Building
-building_of f = record { name = f.name; regs = f.regs; blocks = f.blocks; ops = [] }
-
 -- a function as its builder left it, among these functions and variables of the module: each operation suits the registers and
 -- functions it names, all ends are written and lead to blocks of the function, and the names of its registers differ
 pub record IsBuilt (heads : List FunctionType) (globals : Declared) (f : Func) : Type 0 where
-  pub among : Surrounding
-  pub heads_are : among.heads ≡ heads
-  pub globals_are : among.globals ≡ globals
-  pub ret : f.ret ≡ among.ret
-  pub params : f.params ≤ among.variables
-  pub kinds : HasKinds among (building_of f)
-  -- the highest block; the registers below `low` are variables and flags
-  pub low : ℕ
+  -- so many of its registers are variables; the others are temporary ones
+  pub variables : ℕ
+  pub params : f.params ≤ variables
+  pub within : variables ≤ length f.regs
+  pub named : (i : ℕ) (d : List ℕ × RType) → variables ≤ i → slice_get f.regs i ≡ Some d → (k : ℕ) × (d.0 ≡ temporary_name k)
+  pub kinds : BlocksKinds (record { heads = heads; globals = globals; variables = variables; ret = f.ret }) f.regs f.blocks
+  -- the highest block
   pub highest : ℕ
   pub blocks : length f.blocks ≡ suc highest
-  pub fits : AllFit low highest 0 f.blocks
+  pub fits : AllFit highest 0 f.blocks
   pub written : (k : ℕ) → is_open_at f.blocks k ≡ false
   pub few : length f.blocks < 2 ^ 64
   pub differ : names_differ (names_of f.regs) ≡ true
-  pub identifiers : list_all is_identifier (names_of (take among.variables f.regs)) ≡ true
+  pub identifiers : list_all is_identifier (names_of (take variables f.regs)) ≡ true
 
 -- a function of the module begins with a turn
 pub record IsFunction (heads : List FunctionType) (globals : Declared) (f : Func) : Type 0 where

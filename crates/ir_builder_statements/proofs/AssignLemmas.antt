@@ -1,8 +1,5 @@
 -- Assignments to a variable, and updates of one, do in their code what they mean.
-use Rattle.ir_builder_statements.proofs.Common.{◌≡◌, ℕ, true, List, [], ◌∷◌, map, get_or, Option, Some, None, refl, sym, ap, ◌∙◌, subst, inl, inr, slice_get, if◌then◌else◌, Value, Target, Sort, sort_step, TypedExpr, type_of, Variable, TypedModule, TypedTarget, LocalTarget, GlobalTarget, AttrTarget, ItemTarget, typed_target, State, Outcome, Gives, Raises, Stops, Does, Calls, on_to, give, coerced, combined, Reg, Building, Extends, Setting, rtype_of, HasType, HasKind, HasRoom, means, Shows, Meaning, Computes, Attempts, room_on, computes_of, is_whole, ActsOn, Binary, is_scalar, binary_goes, BinarySuits, Suits, Emits, EmitsTwo, means_assignment, means_update, Works, set_works, works_of, IsVariable, IsOnly, UpdateSuits, VariableUpdates, TakesRegister, SetsVariable, reading_of, update_binary, TurnsInto, ComputesAs}
-use Rattle.py_syntax.specs.declared.token.Span.{Span}
-use Rattle.py_syntax.specs.declared.expression.BinOp.{BinOp}
-use Rattle.py_typed.specs.declared.types.Ty.{Ty, fold-roll-Ty}
+use Rattle.ir_builder_statements.proofs.Common.{◌≡◌, ℕ, true, List, [], ◌∷◌, map, get_or, Option, Some, None, refl, sym, ap, ◌∙◌, subst, inl, inr, slice_get, if◌then◌else◌, Value, Target, Sort, sort_step, TypedExpr, type_of, Variable, TypedModule, TypedTarget, LocalTarget, GlobalTarget, AttrTarget, ItemTarget, typed_target, State, Outcome, Gives, Raises, Stops, Does, Calls, on_to, give, coerced, combined, Reg, Building, Extends, Setting, rtype_of, HasType, HasKind, HasRoom, means, Shows, Meaning, Computes, Attempts, room_on, computes_of, is_whole, ActsOn, is_scalar, binary_goes, BinarySuits, Suits, Emits, EmitsTwo, means_assignment, means_update, Works, set_works, works_of, IsVariable, IsOnly, UpdateSuits, VariableUpdates, TakesRegister, SetsVariable, reading_of, update_binary, TurnsInto, Span, BinOp, Ty, fold-roll-Ty}
 use Rattle.py_typed.specs.declared.types.Ty.TheVariants as declared
 use Rattle.py_typed.specs.declared.types.Ty.TheOpen.{Ty-F}
 use Rattle.py_typed.specs.Sorts as sort
@@ -138,19 +135,16 @@ whole_simple sort.Int k = refl
 whole_simple sort.I64 k = refl
 whole_simple _ k = absurd (cc)
 
-declared_text : (ty : Ty) → ty ≡ declared.Str → sort_of ty ≡ sort.Str
+pub declared_text : (ty : Ty) → ty ≡ declared.Str → sort_of ty ≡ sort.Str
 declared_text ty is = ap sort_of is ∙ ap sort_of (sym declared.rolls-Str) ∙ fold-roll-Ty Sort sort_step Ty-F.Str
 
 -- a text is in its register already
-stays_text : (b : Building) (r : ℕ) (t u : Sort) → u ≡ sort.Str → TurnsInto t u → HasType b r (rtype_of t) → Attempts (Shows u) b b r (rtype_of u) (ActsOn t r (coerced u))
-stays_text b r t u text (inl h) type = absurd (let f : is_whole sort.Str ≡ true = subst (λ z. is_whole z ≡ true) text h.1 in cc)
-stays_text b r t u text (inr h) type =
+pub text_stays : (b : Building) (r : ℕ) (t u : Sort) → u ≡ sort.Str → TurnsInto t u → HasType b r (rtype_of t) → Attempts (Shows u) b b r (rtype_of u) (ActsOn t r (coerced u))
+text_stays b r t u text (inl h) type = absurd (let f : is_whole sort.Str ≡ true = subst (λ z. is_whole z ≡ true) text h.1 in cc)
+text_stays b r t u text (inr h) type =
     let P : Sort → Type 0 = λ z. Attempts (Shows z) b b r (rtype_of z) (ActsOn t r (coerced z)) in
     let Q : Sort → Type 0 = λ z. HasType b r (rtype_of z) → Attempts (Shows sort.Str) b b r (rtype_of sort.Str) (ActsOn z r (coerced sort.Str)) in
     subst P (sym h.1) (subst Q (sym h.0) (λ has. stays sort.Str (coerced sort.Str) b r (rtype_of sort.Str) has (λ v s kind. refl)) type)
-
-pub text_stays : (b : Building) (r : ℕ) (t : Sort) (own : Ty) → own ≡ declared.Str → TurnsInto t (sort_of own) → HasType b r (rtype_of t) → Attempts (Shows (sort_of own)) b b r (rtype_of (sort_of own)) (ActsOn t r (coerced (sort_of own)))
-text_stays b r t own is = stays_text b r t (sort_of own) (declared_text own is)
 
 module _ (m : TypedModule) (vs : List Variable) where
   -- a variable has one type
@@ -208,12 +202,6 @@ module _ (m : TypedModule) (vs : List Variable) where
   reading_suits (AttrTarget a name) t place simple v = absurd v
   reading_suits (ItemTarget a i) t place simple v = absurd v
 
--- the result of an operation is turned into a value of another type
-pub result_turned : (x : Setting) (op : Binary) (t u : Sort) (a e : TypedExpr) (b0 b1 b2 : Building) (q r : ℕ) → HasRoom x b0 → EmitsTwo x op t a e b0 b1 q → Attempts (Shows u) b1 b2 r (rtype_of u) (ActsOn t q (coerced u)) → ComputesAs x op t u a e b0 b2 r
-result_turned x op t u a e b0 b1 b2 q r room two turned =
-    part_attempts x (Shows t) (Shows u) (rtype_of t) (rtype_of u) _ (coerced u) (ActsOn t q (coerced u)) b0 b1 b2 q r room two turned
-    (λ v s regs k. record { v = v; shows = k; does = refl })
-
 -- a variable of a type is read, the operation is done in a second one, and its result put into the variable
 module _ (x : Setting) (target : TypedTarget) (op : BinOp) (own t : Sort) (before e : TypedExpr) (place : Span) (is : before ≡ reading_of target own place) (variable : IsVariable x.source x.variables None target own) (suits : UpdateSuits x.source x.variables None op own t (type_of e)) where
   -- the result of the operation
@@ -224,10 +212,11 @@ module _ (x : Setting) (target : TypedTarget) (op : BinOp) (own t : Sort) (befor
   abbrev value : Meaning Value
   value n s = on_to (result n s) (coerced own)
 
-  value_made : (b0 b1 : Building) (r : ℕ) → ComputesAs x (update_binary op t) t own before e b0 b1 r → Computes x (Shows own) (rtype_of own) value b0 b1 r
-  value_made b0 b1 r made =
+  value_made : (b0 b1 b2 : Building) (q r : ℕ) → HasRoom x b0 → EmitsTwo x (update_binary op t) t before e b0 b1 q → Attempts (Shows own) b1 b2 r (rtype_of own) (ActsOn t q (coerced own)) → Computes x (Shows own) (rtype_of own) value b0 b2 r
+  value_made b0 b1 b2 q r room two turned =
       let goes : (v w : Value) → combined t op v w ≡ binary_goes (update_binary op t) t v w = update_goes x.source x.variables op own t (type_of e) suits in
-      computes_of x (Shows own) (rtype_of own) _ value b0 b1 r (λ n s i. on_to (on_to (means x before n s) (λ v s1. on_to (means x e n s1) (λ w. goes v w i))) (coerced own)) made
+      computes_of x (Shows own) (rtype_of own) _ value b0 b2 r (λ n s i. on_to (on_to (means x before n s) (λ v s1. on_to (means x e n s1) (λ w. goes v w i))) (coerced own))
+      (part_attempts x (Shows t) (Shows own) (rtype_of t) (rtype_of own) _ (coerced own) (ActsOn t q (coerced own)) b0 b1 b2 q r room two turned (λ v s regs k. record { v = v; shows = k; does = refl }))
 
   reads : Reads x target before
   reads = let P : TypedExpr → Type 0 = λ z. Reads x target z in subst P (sym is) (reads_so x target own place (updated_simple x.source x.variables op own t (type_of e) suits) variable)
@@ -241,11 +230,12 @@ module _ (x : Setting) (target : TypedTarget) (op : BinOp) (own t : Sort) (befor
       ∙ from_read (means x before n s) (means x e n) (combined t op) (coerced (target_type x n target)) (putting x n target) (λ u. give Goes)
       ∙ ap (λ z. on_to (on_to (result n s) (coerced z)) (go n)) (type_is x n target own variable)
 
-  pub update_code : (b0 b1 b2 : Building) (r : Reg) → HasRoom x b0 → ComputesAs x (update_binary op t) t own before e b0 b1 r.0 → SetsVariable x.source x.frame target r.0 b1 b2 → (gives : Option Sort) → Works x gives (means_update x target op e t) b0 b2 []
-  update_code b0 b1 b2 r room made put_in gives =
-      let sets = put_in x.variables own (room_on x b0 b1 made.extends room) variable made.type in
-      works_of x gives (means_update x target op e t) (λ n s. on_to (value n s) (go n)) b0 b2 [] means_so
-      (set_works x gives value own target r.0 (λ n. putting x n target) b0 b1 b2 room (value_made b0 b1 r.0 made) sets
+  pub update_code : (b0 b1 b2 b3 : Building) (q : ℕ) (r : Reg) → HasRoom x b0 → EmitsTwo x (update_binary op t) t before e b0 b1 q → Attempts (Shows own) b1 b2 r.0 (rtype_of own) (ActsOn t q (coerced own)) → SetsVariable x.source x.frame target r.0 b2 b3 → (gives : Option Sort) → Works x gives (means_update x target op e t) b0 b3 []
+  update_code b0 b1 b2 b3 q r room two turned put_in gives =
+      let made = value_made b0 b1 b2 q r.0 room two turned in
+      let sets = put_in x.variables own (room_on x b0 b2 made.extends room) variable made.type in
+      works_of x gives (means_update x target op e t) (λ n s. on_to (value n s) (go n)) b0 b3 [] means_so
+      (set_works x gives value own target r.0 (λ n. putting x n target) b0 b2 b3 room made sets
       (λ n w s kind. assigned x n target own s w variable))
 
 -- the register of the value has the variable's type

@@ -1,17 +1,28 @@
 -- What the parts of statements do makes what they do.
-use Rattle.ir_builder_statements.proofs.Common.{◌≡◌, ℕ, ◌≤◌, List, [], length, Option, Some, None, sym, ap, ◌∙◌, subst, arith, Result, Ok, Err, OnOk, TExpr, TStmt, Sort, TypedExpr, typed_expr, type_of, Variable, TypedModule, TypedStmt, typed_stmt, typed_suite, maybe_typed, typed_stmt-While, Goto, Reg, Building, Extends, Setting, rtype_of, HasType, Closes, HasRoom, Keeps, IsAmong, IsOf, KeepsKinds, KeepsKindsIf, type_kept, with_last_length, Exit, means_loop, means_statement, means_return, returned_type, LoopStart, Works, Emitted, planned, jumping_blocks, return_emitted, while_begins, TestSuits, ReturnSuits, IsAround, keeps_both}
-use Rattle.std.proofs.Common.{Bool}
+use Rattle.ir_builder_statements.proofs.Common.{◌≡◌, List, [], length, Option, Some, None, sym, subst, Result, Ok, Err, OnOk, TExpr, TStmt, Sort, TypedExpr, typed_expr, type_of, Variable, TypedModule, TypedStmt, typed_stmt, typed_suite, maybe_typed, typed_stmt-While, Goto, Building, Extends, Setting, rtype_of, HasType, Closes, HasRoom, Surrounding, IsOf, type_kept, Exit, means_loop, means_statement, means_return, returned_type, LoopStart, Works, Emitted, return_emitted, while_begins, TestSuits, ReturnSuits, GivesResult, Bool, BoolType, Test, SplitsBy, Begins, ◌<◌, ◌≤◌, ℕ, arith, le_refl, If, Reg, with_last, Open, patches, OpenIn, stays_by, stays_patch_below, open_on, refl, NoneVal, Ref, Return, PyNone, Lit, Holds, Adds, Shows, made_computes, Emits, means_returned, leaves_none, return_works, ComputesReturned}
 use Rattle.py_typed.specs.declared.statement.TStmtKind as kind
 use Rattle.py_typed.specs.Sorts as sort
-use Rattle.ir_core.specs.declared.code.RType.TheVariants as rtype
-use Rattle.ir_builder_loops_and_jumps.specs.declared.ways.Test.{Test}
-use Rattle.ir_builder_loops_and_jumps.specs.Around.{SplitsBy, EndsArm, joining, Joins, looping_to, EndsLoop, Begins}
+use Rattle.ir_builder_frames.proofs.StepLemmas.{literal_makes}
 
 pub on_ok_both : {A E : Type 0} (res : Result A E) (P Q R : Type 0) → (P → Q → R) → OnOk res P → OnOk res Q → OnOk res R
 on_ok_both (Ok a) P Q R f p q = f p q
 on_ok_both (Err e) P Q R f p q = tt
 
 -- ---- simple statements
+
+pub none_returned : {line : ℕ} (x : Setting) (o : Option TExpr) (b c : Building) (r : Reg) → o ≡ None → Adds b c r.0 Ref (Lit r PyNone) line → ComputesReturned x (maybe_typed o) b c r.0
+none_returned x o b c r is a =
+    let P : Option TExpr → Type 0 = λ z. ComputesReturned x (maybe_typed z) b c r.0 in
+    subst P (sym is)
+    (made_computes x (Shows sort.Nothing) Ref (means_returned x None) _ b c r.0 (literal_makes b c r.0 Ref PyNone (Holds NoneVal) a refl) (λ n s regs. (NoneVal, Holds NoneVal, refl, refl, (refl, refl))))
+
+pub value_returned : (x : Setting) (o : Option TExpr) (e : TExpr) (b c : Building) (r : Reg) → o ≡ Some e → Emits x (typed_expr e) b c r.0 → ComputesReturned x (maybe_typed o) b c r.0
+value_returned x o e b c r is q =
+    let P : Option TExpr → Type 0 = λ z. ComputesReturned x (maybe_typed z) b c r.0 in subst P (sym is) q
+
+pub return_code : (x : Setting) (o : Option TypedExpr) (b0 b1 b2 : Building) (r : Reg) → x.frame.ret ≡ None → HasRoom x b0 → ComputesReturned x o b0 b1 r.0 → Closes b1 b2 (Return r) → Works x (Some (returned_type o)) (means_return x o) b0 b2 []
+return_code x o b0 b1 b2 r alone room cx q =
+    return_works x (returned_type o) (means_returned x o) b0 b1 b2 r.0 [] room cx (leaves_none x r.0 (rtype_of (returned_type o)) b1 b2 alone cx.type q)
 
 -- what a return asks of the function's result
 given_as : (m : TypedModule) (vs : List Variable) (gives : Option Sort) (o : Option TypedExpr) → ReturnSuits m vs gives o → gives ≡ Some (returned_type o)
@@ -23,12 +34,20 @@ return_made x gives looping s o b0 b1 xs is suits w =
     let P : Option Sort → Type 0 = λ g. Works x g (means_return x (maybe_typed o)) b0 b1 [] in
     return_emitted x gives looping s o b0 b1 xs is (subst P (sym (given_as x.source x.variables gives (maybe_typed o) suits)) w)
 
+-- so the result is of the type of what is returned
+pub returns_given : (m : TypedModule) (vs : List Variable) (gives : Option Sort) (o : Option TypedExpr) (g : Surrounding) → ReturnSuits m vs gives o → GivesResult gives g → GivesResult (Some (returned_type o)) g
+returns_given m vs gives o g suits h = let P : Option Sort → Type 0 = λ z. GivesResult z g in subst P (given_as m vs gives o suits) h
+
+-- the result stays what it is
+pub gives_on : (gives : Option Sort) (b c : Building) → Extends b c → GivesResult gives b.among → GivesResult gives c.among
+gives_on gives b c more h = subst (GivesResult gives) (sym more.among) h
+
 -- ---- tests
 
-pub condition_type : (x : Setting) (gives : Option Sort) (e : TypedExpr) (b1 b2 b3 : Building) (t : Test) → TestSuits x.source x.variables gives e → SplitsBy x e b1 b2 t → Extends b2 b3 → IsOf b3.regs t.condition rtype.Bool
+pub condition_type : (x : Setting) (gives : Option Sort) (e : TypedExpr) (b1 b2 b3 : Building) (t : Test) → TestSuits x.source x.variables gives e → SplitsBy x e b1 b2 t → Extends b2 b3 → IsOf b3.regs t.condition BoolType
 condition_type x gives e b1 b2 b3 t suits sp more =
     let P : Sort → Type 0 = λ z. HasType sp.middle t.condition.0 (rtype_of z) in
-    type_kept b2 b3 t.condition.0 rtype.Bool more (type_kept sp.middle b2 t.condition.0 rtype.Bool sp.closes.extends (subst P suits.0 sp.answered.type))
+    type_kept b2 b3 t.condition.0 BoolType more (type_kept sp.middle b2 t.condition.0 BoolType sp.closes.extends (subst P suits.0 sp.answered.type))
 
 -- ---- loops
 
@@ -37,61 +56,19 @@ while_begun x s e ss b0 b1 b3 o is room bool is_head c1 sp =
     let P : TypedStmt → Type 0 = λ z. Begins x (means_loop x z) b0 b3 o in
     subst P (sym (typed_stmt-While s e ss is)) (while_begins x (typed_expr e) (typed_suite ss) s.line b0 b1 b3 o room bool is_head c1 sp)
 
--- ---- the shape of parts in a row
+-- ---- what is open stays so, while the parts of `if` and `while` end
 
-pub four_keep : (b0 b1 b2 b3 b4 : Building) → Extends b0 b1 → Extends b1 b2 → Extends b2 b3 → length b3.blocks ≤ length b4.blocks → Keeps b0 b1 → Keeps b1 b2 → Keeps b2 b3 → Keeps b3 b4 → Keeps b0 b4
-four_keep b0 b1 b2 b3 b4 x1 x2 x3 le k1 k2 k3 k4 =
-    let r1 = x1.regs_grow in
-    let r2 = x2.regs_grow in
-    let r3 = x3.regs_grow in
-    keeps_both b0 b3 b4 (omega arith) le (keeps_both b0 b2 b3 (omega arith) x3.blocks_grow (keeps_both b0 b1 b2 r1 x2.blocks_grow k1 k2) k3) k4
+pub open_kept : (b c : Building) (from to : ℕ) (es : List Exit) → Extends b c → to ≤ length b.blocks → OpenIn b from to es → OpenIn c from (length c.blocks) es
+open_kept b c from to es x le o =
+    let more = x.blocks_grow in
+    open_on b c from to from (length c.blocks) es (stays_by b c from to x) (le_refl from) (omega arith) o
 
--- the arms and the body of `else`, which are left to one place
-pub join_keeps : (b0 b1 b2 b3 : Building) (ks xs ys : List Exit) → Extends b0 b1 → Extends b1 b2 → Keeps b0 b1 → Keeps b1 b2 → Joins b2 b3 ks xs ys → Keeps b2 b3 → Keeps b0 b3
-join_keeps b0 b1 b2 b3 ks xs ys x1 x2 k1 k2 j k3 =
-    let r1 = x1.regs_grow in
-    let r2 = x2.regs_grow in
-    let n1 = j.closes.blocks in
-    let n2 : length b3.blocks ≡ length j.closed.blocks = ap (λ (v : Building). length v.blocks) j.jumps ∙ jumping_blocks (planned (joining j.end)) ks j.closed in
-    keeps_both b0 b2 b3 (omega arith) (omega arith) (keeps_both b0 b1 b2 r1 x2.blocks_grow k1 k2) k3
+-- a test before all of them was written
+pub open_tested : (b c : Building) (k from start exit : ℕ) (r : Reg) (es : List Exit) → k < from → Open b k → c ≡ record b { blocks = with_last b.blocks k (If r start exit) } → OpenIn b from (length b.blocks) es → OpenIn c from (length c.blocks) es
+open_tested b c k from start exit r es lt o is h =
+    let p = patches b c k (If r start exit) o (λ z. cc) is in
+    let n = p.blocks in
+    open_on b c from (length b.blocks) from (length c.blocks) es (stays_patch_below b c from (length b.blocks) k (If r start exit) lt p) (le_refl from) (omega arith) h
 
-pub arm_blocks : (b c : Building) (t : Test) (xs ys : List Exit) → EndsArm b c t xs ys → length b.blocks ≤ length c.blocks
-arm_blocks b c t xs ys e =
-    let one = e.closes.blocks in
-    let same = ap (λ (v : Building). length v.blocks) e.set ∙ with_last_length e.closed.blocks t.block _ in
-    omega arith
-
-pub loop_blocks : (b c : Building) (o : LoopStart) (next : ℕ) (ks xs ys : List Exit) → EndsLoop b c o next ks xs ys → length b.blocks ≤ length c.blocks
-loop_blocks b c o next ks xs ys l =
-    let n2 = l.turns.blocks in
-    let n3 = l.closes.blocks in
-    let n4 = ap (λ (v : Building). length v.blocks) l.set ∙ with_last_length l.closed.blocks o.test.block _ in
-    let n5 = ap (λ (v : Building). length v.blocks) l.jumps ∙ jumping_blocks (planned (looping_to l.exit next)) ks l.tested in
-    omega arith
-
--- ---- the kinds of simple statements
-
--- where the module is known alone, or nothing
-pub kinds_among : {A E : Type 0} (res : Result A E) (m : TypedModule) (gives : Option Sort) (b c : Building) → KeepsKindsIf (IsAmong m) b c → OnOk res (KeepsKindsIf (IsAround m gives) b c)
-kinds_among (Ok a) m gives b c k = λ g around h. k g around.among h
-kinds_among (Err e) m gives b c k = tt
-
-pub kinds_always : {A E : Type 0} (res : Result A E) (m : TypedModule) (gives : Option Sort) (b c : Building) → KeepsKinds b c → OnOk res (KeepsKindsIf (IsAround m gives) b c)
-kinds_always (Ok a) m gives b c k = λ g around h. k g h
-kinds_always (Err e) m gives b c k = tt
-
--- and those of a return
-pub kinds_returned : {A E : Type 0} (res : Result A E) (m : TypedModule) (vs : List Variable) (gives : Option Sort) (o : Option TypedExpr) (b c : Building) → ReturnSuits m vs gives o → KeepsKindsIf (IsAround m (Some (returned_type o))) b c → OnOk res (KeepsKindsIf (IsAround m gives) b c)
-kinds_returned (Ok a) m vs gives o b c suits k =
-    let P : Option Sort → Type 0 = λ z. KeepsKindsIf (IsAround m z) b c in subst P (sym (given_as m vs gives o suits)) k
-kinds_returned (Err e) m vs gives o b c suits k = tt
-
--- ---- the kinds of an `if`
-
-pub if_kinds : (m : TypedModule) (gives : Option Sort) (b0 b1 b2 b3 : Building) → KeepsKindsIf (IsAround m gives) b0 b1 → KeepsKindsIf (IsAround m gives) b1 b2 → KeepsKinds b2 b3 → KeepsKindsIf (IsAround m gives) b0 b3
-if_kinds m gives b0 b1 b2 b3 k1 k2 k3 g around h = k3 g (k2 g around (k1 g around h))
-
--- ---- the kinds of a loop
-
-pub loop_kinds : (m : TypedModule) (gives : Option Sort) (b0 b3 b4 b5 b9 : Building) (r : Reg) → KeepsKindsIf (IsAmong m) b0 b3 → KeepsKindsIf (IsAround m gives) b3 b4 → KeepsKinds b4 b5 → IsOf b5.regs r rtype.Bool → KeepsKindsIf (λ g. IsOf b5.regs r rtype.Bool) b5 b9 → KeepsKindsIf (IsAround m gives) b0 b9
-loop_kinds m gives b0 b3 b4 b5 b9 r k1 k2 k3 is k4 g around h = k4 g is (k3 g (k2 g around (k1 g around.among h)))
+pub still_open : (b c : Building) (k : ℕ) → Extends b c → Open b k → Open c k
+still_open b c k x o = record { place = o.place; is = x.items k o.place _ o.is }

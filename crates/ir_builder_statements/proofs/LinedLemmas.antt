@@ -1,27 +1,13 @@
 -- How the lines of the code of statements come from those of their pieces.
-use Rattle.ir_builder_statements.proofs.Common.{◌≡◌, sym, ◌∙◌, ap, subst, ℕ, ◌+◌, ◌<◌, ◌≤◌, List, [], ◌∷◌, ◌++◌, length, map, drop, get_or, Option, Some, None, Sort, TExpr, TStmt, TypedExpr, TypedStmt, TypedSuite, TypedTarget, TypedAct, LocalTarget, GlobalTarget, AttrTarget, ItemTarget, reading_of, typed_expr, typed_stmt, typed_suite, typed_arm, typed_target, arms_of, maybe_typed, on_line, Building, Extends, If, Setting, Emits, Emitted, OpenIn, planned, Exit, LoopStart, Open, patches, means_suite, means_statement, Target, typed_act, sort, LoopSuits, type_of, exprs_of, typed_node-Print}
-use Rattle.std.proofs.Common.{Bool, le_refl}
-use Rattle.ir_core.specs.Building.{held}
-use Rattle.std.proofs.lemmas.List.{drop_more, drop_all}
-use Rattle.py_syntax.specs.declared.token.Span.{Span}
+use Rattle.ir_builder_statements.proofs.Common.{◌≡◌, sym, ◌∙◌, ap, subst, ℕ, ◌+◌, ◌<◌, ◌≤◌, List, [], ◌∷◌, ◌++◌, length, map, drop, get_or, Option, Some, None, Sort, TExpr, TStmt, TypedExpr, TypedStmt, TypedSuite, TypedTarget, TypedAct, LocalTarget, GlobalTarget, AttrTarget, ItemTarget, reading_of, typed_expr, typed_stmt, typed_suite, typed_arm, typed_target, arms_of, maybe_typed, on_line, Building, Extends, If, Setting, Emits, Emitted, OpenIn, planned, Exit, LoopStart, Open, patches, means_suite, Target, typed_act, sort, LoopSuits, type_of, exprs_of, Bool, le_refl, held, drop_more, drop_all, Span, Ty, BinOp, typed_stmt_at, typed_stmt_of, typed_stmt-If, typed_stmt-While, typed_act-Expr, typed_act-Assign, typed_act-Aug, typed_act-Return, typed_act-Break, typed_act-Continue, typed_act-Pass, OwnLines, has_less, extends_trans, Around, IsCodeOf, Lined, LinedParts, lined, own, part, around_none, around_both, lined_node, lined_then, listed_of, SplitsBy, EndsArm, Joins, EndsLoop, joining, looping_to, Test, jumps_of}
 use Rattle.py_typed.specs.Statements as tree
 use Rattle.py_typed.specs.Expressions as expression
 use Rattle.py_typed.specs.declared.expression.TKind as expr
 use Rattle.py_typed.specs.declared.statement.TStmtKind as kind
 use Rattle.py_typed.specs.declared.statement.TStmtKind.{TStmtKind}
-use Rattle.py_typed.specs.declared.types.Ty.{Ty}
-use Rattle.py_syntax.specs.declared.expression.BinOp.{BinOp}
-use Rattle.py_typed.proofs.StatementLemmas.{typed_stmt_at, typed_stmt_of, typed_stmt-If, typed_stmt-While, typed_act-Expr, typed_act-Assign, typed_act-Aug, typed_act-Return, typed_act-Break, typed_act-Continue, typed_act-Pass}
-use Rattle.ir_builder_frames.specs.Lines.{OwnLines}
-use Rattle.ir_builder_frames.proofs.HeldLemmas.{has_less, extends_trans}
-use Rattle.ir_builder_expressions.specs.Lined.{Around, IsCodeOf, Lined, LinedParts, lined, own, part}
-use Rattle.ir_builder_expressions.proofs.LinedLemmas.{around_none, around_both, lined_node, lined_then, listed_of}
-use Rattle.ir_builder_expressions.proofs.ArmLemmas.{Is, is_node}
-use Rattle.ir_builder_loops_and_jumps.specs.Around.{SplitsBy, EndsArm, Joins, EndsLoop, joining, looping_to}
-use Rattle.ir_builder_loops_and_jumps.specs.declared.ways.Test.{Test}
-use Rattle.ir_builder_loops_and_jumps.proofs.ExitLemmas.{jumps_of}
+use Rattle.ir_builder_statements.proofs.AloneLemmas.{print_is}
 use Rattle.ir_builder_statements.specs.Lined.{Piece, value, alone, body, arm_pieces, returned_pieces, head_pieces, pieces_of, IsCodeOfSuite, IsCodeOfStatement, IsCodeOfPiece, of_value, of_alone, of_body, LinedPieces, own as bare, piece, LinedStatement, lined as stands, LinedSuite, none, next}
-use Rattle.ir_builder_statements.proofs.PartLemmas.{open_kept, open_tested, still_open}
+use Rattle.ir_builder_statements.proofs.BodyLemmas.{open_kept, open_tested, still_open}
 
 -- ---- pieces one behind the other
 
@@ -39,9 +25,6 @@ pieces_join (piece p code one rest) q = piece p code one (pieces_join rest q)
 
 pub value_piece : (x : Setting) (l : ℕ) (e : TypedExpr) (a b c : Building) → IsCodeOf x e a b → Lined x e a b → Around l b c → LinedPieces x l (value e ∷ []) a c
 value_piece x l e a b c code one p = piece (around_none l a) code (of_value one) (bare p)
-
-pub alone_piece : (x : Setting) (l : ℕ) (e : TypedExpr) (a b : Building) → IsCodeOfPiece x (alone e) a b → Lined x e a b → LinedPieces x l (alone e ∷ []) a b
-alone_piece x l e a b code one = piece (around_none l a) code (of_alone one) (bare (around_none l b))
 
 pub body_piece : (x : Setting) (l : ℕ) (ss : TypedSuite) (a b c : Building) → IsCodeOfSuite x ss a b → LinedSuite x ss a b → Around l b c → LinedPieces x l (body ss ∷ []) a c
 body_piece x l ss a b c code one p = piece (around_none l a) code (of_body one) (bare p)
@@ -75,12 +58,6 @@ update_pieces x before e target t place a b c is h p =
 pub record SuiteRest (x : Setting) (whole rest : TypedSuite) (start b : Building) : Type 0 where
   pub make : (c : Building) → LinedSuite x rest b c → LinedSuite x whole start c
 
-pub suite_start : (x : Setting) (ss : TypedSuite) (b : Building) → SuiteRest x ss ss b b
-suite_start x ss b = record { make = λ c h. h }
-
-pub statement_code : (x : Setting) (gives : Option Sort) (looping : Bool) (s : TypedStmt) (a b : Building) (xs ys : List Exit) → Emitted x gives looping (means_statement x s) a b xs ys → IsCodeOfStatement x s a b
-statement_code x gives looping s a b xs ys e = (gives, e.mine, e.works)
-
 pub suite_code : (x : Setting) (gives : Option Sort) (looping : Bool) (ss : TypedSuite) (a b : Building) (xs ys : List Exit) → Emitted x gives looping (means_suite x ss) a b xs ys → IsCodeOfSuite x ss a b
 suite_code x gives looping ss a b xs ys e = (gives, e.mine, e.works)
 
@@ -108,9 +85,6 @@ pieces_of_arms arms = arm_pieces (arms_of (map typed_arm arms))
 pub record PiecesRest (x : Setting) (l : ℕ) (whole rest : List Piece) (start b : Building) : Type 0 where
   pub make : (c : Building) → LinedPieces x l rest b c → LinedPieces x l whole start c
 
-pub arms_start : (x : Setting) (l : ℕ) (ps : List Piece) (b : Building) → PiecesRest x l ps ps b b
-arms_start x l ps b = record { make = λ c h. h }
-
 pub arms_next : (x : Setting) (l : ℕ) (arms : Tests) (i : ℕ) (a : TExpr × List TStmt) (ss : List TStmt) (start b b1 b2 b3 : Building) → i < length arms → a ≡ get_or arms i a → ss ≡ a.1 → PiecesRest x l (pieces_of_arms arms) (pieces_of_arms (drop i arms)) start b → LinedPieces x l (value (typed_expr a.0) ∷ []) b b1 → IsCodeOfSuite x (typed_suite ss) b1 b2 → LinedSuite x (typed_suite ss) b1 b2 → Around l b2 b3 → PiecesRest x l (pieces_of_arms arms) (pieces_of_arms (drop (i + 1) arms)) start b3
 arms_next x l arms i a ss start b b1 b2 b3 lt is same g test code one end =
     let d : drop i arms ≡ a ∷ drop (i + 1) arms = drop_more arms i a lt ∙ ap (λ z. z ∷ drop (i + 1) arms) (sym is) in
@@ -128,12 +102,9 @@ arms_over x l arms i start b le g =
 
 -- ---- what stands around bodies
 
-split_open : (x : Setting) (e : TypedExpr) (b1 b3 c : Building) (t : Test) → SplitsBy x e b1 b3 t → Extends b3 c → Open c t.block
-split_open x e b1 b3 c t s more = still_open b3 c t.block more record { place = length s.middle.ops; is = ap (λ k. held b3 k (length s.middle.ops)) s.block ∙ s.closes.at }
-
 pub arm_around : (x : Setting) (l : ℕ) (e : TypedExpr) (b1 b3 b4 b6 : Building) (t : Test) (before after : List Exit) → SplitsBy x e b1 b3 t → Extends b3 b4 → EndsArm b4 b6 t before after → OwnLines l b4 b6 → Around l b4 b6
 arm_around x l e b1 b3 b4 b6 t before after s more a lines =
-    let there = split_open x e b1 b3 a.closed t s (extends_trans b3 b4 a.closed more a.closes.extends) in
+    let there = still_open b3 a.closed t.block (extends_trans b3 b4 a.closed more a.closes.extends) record { place = length s.middle.ops; is = ap (λ k. held b3 k (length s.middle.ops)) s.block ∙ s.closes.at } in
     let p = patches a.closed b6 t.block (If t.condition t.start a.next) there (λ z. cc) a.set in
     record { lines = lines; stays = λ q fn h. has_less q fn b4 a.closed a.closes.extends (p.has q fn h) }
 
@@ -162,7 +133,7 @@ act_is s k a at is = typed_stmt_of s k is ∙ ap (λ z. on_line z s.line) at
 
 module _ (x : Setting) (s : TStmt) (b c : Building) where
   pub alone_lined : (e : TExpr) → s.kind ≡ kind.Expr e → IsCodeOfPiece x (alone (typed_expr e)) b c → Lined x (typed_expr e) b c → LinedStatement x (typed_stmt s) b c
-  alone_lined e is code one = statement_lined x s (tree.Do (typed_expr e)) b c (act_is s _ _ (typed_act-Expr e) is) (alone_piece x s.line (typed_expr e) b c code one)
+  alone_lined e is code one = statement_lined x s (tree.Do (typed_expr e)) b c (act_is s _ _ (typed_act-Expr e) is) (piece (around_none s.line b) code (of_alone one) (bare (around_none s.line c)))
 
   pub assign_lined : (targets : List Target) (e : TExpr) → s.kind ≡ kind.Assign targets e → LinedPieces x s.line (value (typed_expr e) ∷ []) b c → LinedStatement x (typed_stmt s) b c
   assign_lined targets e is h = statement_lined x s (tree.Assign (map typed_target targets) (typed_expr e)) b c (act_is s _ _ (typed_act-Assign targets e) is) h
@@ -219,6 +190,4 @@ some_lined x l o e a b r is code one =
 -- ---- `print`
 
 pub print_lined : (x : Setting) (e : TExpr) (es all : List TExpr) (a b c : Building) → e.kind ≡ expr.Print all → es ≡ all → LinedParts x e.span.line (listed_of es) a b → Around e.span.line b c → Lined x (typed_expr e) a c
-print_lined x e es all a b c is same h p =
-    let print_is : Is e (expression.Print (exprs_of (map typed_expr es))) = is_node e _ _ (typed_node-Print all ∙ ap (λ l. expression.Print (exprs_of (map typed_expr l))) (sym same)) is in
-    lined_node x e (expression.Print (exprs_of (map typed_expr es))) a c print_is (lined_then h p)
+print_lined x e es all a b c is same h p = lined_node x e (expression.Print (exprs_of (map typed_expr es))) a c (print_is e es all is same) (lined_then h p)

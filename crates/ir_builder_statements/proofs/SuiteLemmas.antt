@@ -1,10 +1,5 @@
 -- What is asked of statements is asked of their parts.
-use Rattle.ir_builder_statements.proofs.Common.{◌≡◌, ℕ, ◌+◌, ◌<◌, true, List, ◌∷◌, length, map, drop, get_or, Option, refl, sym, ap, ◌∙◌, subst, TExpr, TStmt, Sort, typed_expr, Variable, TypedModule, TypedStmt, TypedSuite, TypedAct, on_line, typed_stmt, typed_act, typed_suite, typed_arm, maybe_typed, arms_of, typed_stmt_of, typed_stmt-While, typed_act-If, typed_act-While, typed_act-Return, typed_act-Break, typed_act-Continue, State, Setting, means_loop, means_statement, means_suite, TestSuits, ReturnSuits, StatementSuits, ActSuits, SuiteSuits, ArmsSuit, LoopSuits}
-use Rattle.std.proofs.Common.{Bool}
-use Rattle.std.proofs.lemmas.List.{drop_more}
-use Rattle.py_syntax.specs.declared.expression.BinOp.{BinOp}
-use Rattle.py_typed.specs.declared.types.Ty.{Ty}
-use Rattle.py_typed.specs.declared.statement.Target.{Target}
+use Rattle.ir_builder_statements.proofs.Common.{◌≡◌, ℕ, ◌+◌, ◌<◌, true, List, ◌∷◌, length, map, drop, get_or, Option, refl, sym, ap, ◌∙◌, subst, TExpr, TStmt, Sort, typed_expr, Variable, TypedModule, TypedStmt, TypedSuite, TypedAct, on_line, typed_stmt, typed_act, typed_suite, typed_arm, maybe_typed, arms_of, typed_stmt_of, typed_stmt-While, typed_act-If, typed_act-While, typed_act-Return, typed_act-Break, typed_act-Continue, State, Setting, means_loop, means_statement, means_suite, TestSuits, ReturnSuits, StatementSuits, ActSuits, SuiteSuits, ArmsSuit, LoopSuits, Bool, drop_more, BinOp, Ty, Target}
 use Rattle.py_typed.specs.declared.statement.THandler.{THandler}
 use Rattle.py_typed.specs.declared.statement.TStmtKind.{TStmtKind, fold-roll-TStmtKind, out-TStmtKind, roll-TStmtKind, roll-out-TStmtKind}
 use Rattle.py_typed.specs.declared.statement.TStmtKind as kind

@@ -1,9 +1,8 @@
 -- Variables are read and set by their code.
-use Rattle.ir_builder_statements.proofs.Common.{◌≡◌, ℕ, zero, suc, ◌<◌, ◌≤◌, List, [], ◌∷◌, map, get_or, Some, None, refl, sym, ap, ◌∙◌, subst, arith, pos, slice_get, Var, Target, Sort, Variable, TypedModule, LocalTarget, GlobalTarget, typed_target, variable, Number, Move, Lit, Prim, PArg, Reg, Building, Extends, Setting, rtype_of, HasType, Pushes, flag_of, HasRoom, Surrounding, AreAlike, OpKinds, IsAmong, WritesGlobal, type_kept, get_below, write_fits, is_scalar, param_set, other_set, global_set, HasFlag, SetsLocal, TakesGlobal, SetsGlobal, TakesRegister, SetsVariable}
+use Rattle.ir_builder_statements.proofs.Common.{◌≡◌, ℕ, zero, suc, ◌<◌, ◌≤◌, List, [], ◌∷◌, map, get_or, Some, None, refl, sym, ap, ◌∙◌, subst, arith, pos, slice_get, Var, Target, Sort, Variable, TypedModule, LocalTarget, GlobalTarget, typed_target, variable, Number, Move, Lit, Prim, PArg, Reg, Building, Extends, Setting, rtype_of, HasType, Pushes, flag_of, HasRoom, Surrounding, AreAlike, OpKinds, IsAmong, WritesGlobal, type_kept, get_below, write_fits, is_scalar, param_set, other_set, global_set, HasFlag, SetsLocal, TakesGlobal, SetsGlobal, TakesRegister, SetsVariable, BoolType}
 use Rattle.c_core.specs.declared.primitive.Primitive.TheVariants as prim
 use Rattle.c_core.specs.declared.primitive.GlobalPrim.TheVariants as global
 use Rattle.py_typed.specs.declared.statement.Target.TheVariants as declared
-use Rattle.ir_core.specs.declared.code.RType.TheVariants.{Bool as BoolType}
 use Rattle.ir_core.specs.declared.code.PArg.TheVariants as arg
 use Rattle.ir_builder_frames.specs.declared.frame.Frame.{Frame}
 use Rattle.ir_builder_expressions.specs.Reading.{setting_in}
@@ -37,18 +36,14 @@ has_flag x k v b room at other =
 
 -- ---- a variable of the module is set
 
--- a declared variable is the one of its number
-declared_variable : (vs : List Var) (i : ℕ) (d : Var) (v : Variable) → slice_get (map variable vs) i ≡ Some v → d ≡ get_or vs i d → v ≡ variable d
-declared_variable [] i d v at is = let f : None ≡ Some v = at in absurd (cc)
-declared_variable (e ∷ vs) zero d v at is =
+-- a declared variable has the name of the one of its number
+declared_name : (vs : List Var) (i : ℕ) (d : Var) (v : Variable) → slice_get (map variable vs) i ≡ Some v → d ≡ get_or vs i d → v.0 ≡ d.name
+declared_name [] i d v at is = let f : None ≡ Some v = at in absurd (cc)
+declared_name (e ∷ vs) zero d v at is =
     let f : Some (variable e) ≡ Some v = at in
     let same : v ≡ variable e = cc in
-    same ∙ sym (ap variable is)
-declared_variable (e ∷ vs) (suc i) d v at is = declared_variable vs i d v at is
-
--- and has its name
-declared_name : (vs : List Var) (i : ℕ) (d : Var) (v : Variable) → slice_get (map variable vs) i ≡ Some v → d ≡ get_or vs i d → v.0 ≡ d.name
-declared_name vs i d v at is = ap (λ (z : Variable). z.0) (declared_variable vs i d v at is)
+    ap (λ (z : Variable). z.0) (same ∙ sym (ap variable is))
+declared_name (e ∷ vs) (suc i) d v at is = declared_name vs i d v at is
 
 -- the arguments of a write
 abbrev pub stored : List ℕ → Reg → List PArg

@@ -1,16 +1,10 @@
--- What the statements of a function are built among.
+-- The result of the function whose statements are built.
 use Rattle.std.specs.Prelude.{◌≡◌, Option, Some, None}
-use Rattle.py_typed.specs.Statements.{TypedModule}
 use Rattle.py_typed.specs.Sorts.{Sort}
 use Rattle.ir_builder_frames.specs.Settings.{rtype_of}
-use Rattle.ir_builder_frames.specs.Kinds.{Surrounding, IsAmong}
+use Rattle.ir_builder_frames.specs.Among.{Surrounding}
 
--- the result of the function, where it gives one
+-- it has this type, where the function gives one
 abbrev pub GivesResult : Option Sort → Surrounding → Type 0
 GivesResult None g = Unit {0}
 GivesResult (Some t) g = g.ret ≡ rtype_of t
-
--- the module's functions, and the result
-pub record IsAround (m : TypedModule) (gives : Option Sort) (g : Surrounding) : Type 0 where
-  pub among : IsAmong m g
-  pub ret : GivesResult gives g

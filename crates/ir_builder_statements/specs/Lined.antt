@@ -4,7 +4,7 @@ use Rattle.std.specs.Prelude.{ℕ, List, [], ◌∷◌, ◌++◌, Option, Some, 
 use Rattle.py_typed.specs.Sorts.{Sort}
 use Rattle.py_typed.specs.Expressions.{TypedExpr}
 use Rattle.py_typed.specs.Statements.{TypedStmt, on_line, TypedAct, Do, Assign, Aug, If, While, Return, TypedSuite, no_stmts, stmt_then, Arms, no_arms, arm_then}
-use Rattle.ir_core.specs.Building.{Building}
+use Rattle.ir_builder_frames.specs.Building.{Building}
 use Rattle.ir_builder_frames.specs.Settings.{Setting}
 use Rattle.ir_builder_expressions.specs.Lined.{Around, IsCodeOf, Lined}
 use Rattle.ir_builder_loops_and_jumps.specs.declared.ways.Exit.{Exit}

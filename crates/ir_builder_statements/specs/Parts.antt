@@ -7,20 +7,17 @@ use Rattle.py_typed.specs.Sorts as sort
 use Rattle.py_typed.specs.Sorts.{Sort}
 use Rattle.py_typed.specs.Expressions.{TypedExpr, typed, Local, Global, Nothing}
 use Rattle.py_typed.specs.Statements.{Variable, TypedModule, TypedTarget, LocalTarget, GlobalTarget}
-use Rattle.source_meaning.specs.State.{on_to}
-use Rattle.source_meaning.specs.Operations.{coerced}
-use Rattle.ir_core.specs.Building.{Building}
+use Rattle.ir_builder_frames.specs.Building.{Building}
 use Rattle.ir_core.specs.declared.code.RType.TheVariants.{Bool}
 use Rattle.ir_builder_frames.specs.declared.frame.Frame.{Frame}
 use Rattle.ir_builder_frames.specs.Settings.{Setting, rtype_of}
 use Rattle.ir_builder_frames.specs.Placing.{HasType}
 use Rattle.ir_builder_frames.specs.Matching.{flag_of, HasRoom}
-use Rattle.ir_builder_frames.specs.Computing.{means, Shows, Computes}
-use Rattle.ir_builder_operations.specs.Operating.{is_whole}
+use Rattle.ir_builder_frames.specs.Computing.{Shows, Computes}
+use Rattle.ir_builder_operations.specs.Selecting.{is_whole}
 use Rattle.ir_builder_expressions.specs.declared.applying.Binary.{Binary}
 use Rattle.ir_builder_expressions.specs.declared.applying.Binary.TheVariants.{Arithmetic, Joined}
 use Rattle.ir_builder_expressions.specs.Parts.{is_scalar}
-use Rattle.ir_builder_expressions.specs.Applying.{binary_goes}
 use Rattle.ir_builder_expressions.specs.Reading.{setting_in}
 use Rattle.ir_builder_loops_and_jumps.specs.Means.{means_returned, returned_type}
 use Rattle.ir_builder_loops_and_jumps.specs.Simple.{Sets}
@@ -72,11 +69,6 @@ update_binary op t = Arithmetic op
 -- a value of the first type becomes one of the second, which a variable has: a number of a whole one, or a text as it is
 abbrev pub TurnsInto : Sort → Sort → Type 0
 TurnsInto t u = ((is_number t ≡ true) × (is_whole u ≡ true)) ⊎ ((t ≡ sort.Str) × (u ≡ sort.Str))
-
--- the result of an operation on two parts in the first type was computed, as a value of the second
-abbrev pub ComputesAs : Setting → Binary → Sort → Sort → TypedExpr → TypedExpr → Building → Building → ℕ → Type 0
-ComputesAs x op t u a b old new r =
-    Computes x (Shows u) (rtype_of u) (λ n s. on_to (on_to (means x a n s) (λ v s1. on_to (means x b n s1) (binary_goes op t v))) (coerced u)) old new r
 
 -- ---- returned values
 

@@ -7,7 +7,7 @@ use Rattle.py_typed.specs.Sorts as sort
 use Rattle.py_typed.specs.Sorts.{Sort}
 use Rattle.py_typed.specs.Expressions.{TypedExpr, typed, Print, TypedExprs, no_exprs, expr_then, type_of}
 use Rattle.py_typed.specs.Statements.{Variable, TypedModule, TypedTarget, LocalTarget, GlobalTarget, TypedStmt, on_line, TypedAct, Do, Assign, Aug, If, While, Return, Break, Continue, Pass, TypedSuite, no_stmts, stmt_then, Arms, no_arms, arm_then}
-use Rattle.ir_builder_operations.specs.Operating.{is_whole}
+use Rattle.ir_builder_operations.specs.Selecting.{is_whole}
 use Rattle.ir_builder_expressions.specs.declared.applying.Binary.TheVariants.{Arithmetic, Joined}
 use Rattle.ir_builder_expressions.specs.Parts.{is_scalar}
 use Rattle.ir_builder_expressions.specs.Applying.{BinarySuits}

@@ -1,18 +1,14 @@
 //! The code of an expression alone, of which `print` is one.
-ghost use Rattle.std.specs.Prelude.{[], map, Option, None, OnOk};
+ghost use Rattle.std.specs.Prelude.{[], Option, None, OnOk};
 ghost use Rattle.py_typed.specs.Sorts.{Sort};
-ghost use Rattle.py_typed.specs.Expressions.{typed_expr, exprs_of};
-ghost use Rattle.ir_core.specs.Building.{Extends};
+ghost use Rattle.py_typed.specs.Expressions.{typed_expr};
+ghost use Rattle.ir_builder_frames.specs.Building.{Extends};
 ghost use Rattle.ir_builder_frames.specs.Matching.{HasRoom};
-ghost use Rattle.ir_builder_frames.specs.Shaped.{Keeps};
-ghost use Rattle.ir_builder_frames.specs.Kinds.{IsAmong, KeepsKindsIf};
 ghost use Rattle.ir_builder_expressions.specs.Site.{setting_of};
-ghost use Rattle.ir_builder_expressions.specs.Emitting.{means_all};
 ghost use Rattle.ir_builder_loops_and_jumps.specs.Means.{means_alone};
-ghost use Rattle.ir_builder_loops_and_jumps.specs.Printing.{printed};
 ghost use Rattle.ir_builder_loops_and_jumps.specs.Runs.{Works};
-ghost use Rattle.ir_builder_statements.specs.Suiting.{PrintSuits, DoSuits};
-ghost use Rattle.ir_builder_expressions.specs.Lined.{listed, Lined, LinedParts};
+ghost use Rattle.ir_builder_statements.specs.Suiting.{DoSuits};
+ghost use Rattle.ir_builder_expressions.specs.Lined.{Lined};
 
 use ir_builder_expressions::{Site, emit_arguments, emit_expression};
 use ir_builder_frames::Emitter;
@@ -20,28 +16,13 @@ use ir_builder_loops_and_jumps::emit_print;
 use py_typed::{TExpr, TKind};
 use value_core::Memory;
 
-// `print` of values, which are all computed before the first is written.
-fn emit_printing(b: &mut Emitter, site: Site, values: &[TExpr]) -> Result<(), Memory>
-    requires suits { PrintSuits (setting_of site).source (setting_of site).variables None (exprs_of (map typed_expr values.now)) }
-    requires room { HasRoom (setting_of site) b.old }
-    ensures kept { Extends b.old b.new }
-    ensures works { OnOk result ((gives : Option Sort) (t : Sort) → Works (setting_of site.entry) gives (printed (setting_of site.entry).source t (means_all (setting_of site.entry) (exprs_of (map typed_expr values.now)))) b.old b.new []) }
-    ensures shaped { Keeps b.old b.new }
-    ensures kinds { KeepsKindsIf (IsAmong (setting_of site.entry).source) b.old b.new }
-    ensures lined { OnOk result (LinedParts (setting_of site.entry) site.entry.line (listed (exprs_of (map typed_expr values.now))) b.old b.new) }
-{
-    let regs = emit_arguments(b, site, values)?;
-    emit_print(b, site.alloc, values, regs.as_slice(), site.line)
-}
-
-/// Emits an expression alone, whose value is not kept (Python Language Reference, "Expression statements").
+/// Emits an expression alone, whose value is not kept (Python Language Reference, "Expression statements"). The values of a `print`
+/// are all computed before the first is written.
 pub(crate) fn emit_alone(b: &mut Emitter, site: Site, e: &TExpr) -> Result<(), Memory>
     requires suits { DoSuits (setting_of site).source (setting_of site).variables None (typed_expr e.now) }
     requires room { HasRoom (setting_of site) b.old }
     ensures kept { Extends b.old b.new }
     ensures works { OnOk result ((gives : Option Sort) → Works (setting_of site.entry) gives (means_alone (setting_of site.entry) (typed_expr e.now)) b.old b.new []) }
-    ensures shaped { Keeps b.old b.new }
-    ensures kinds { KeepsKindsIf (IsAmong (setting_of site.entry).source) b.old b.new }
     ensures lined { OnOk result (Lined (setting_of site.entry) (typed_expr e.now) b.old b.new) }
 {
     match &e.kind {
@@ -50,7 +31,9 @@ pub(crate) fn emit_alone(b: &mut Emitter, site: Site, e: &TExpr) -> Result<(), M
                 line: e.span.line,
                 ..site
             };
-            emit_printing(b, site, values.as_slice())
+            let values = values.as_slice();
+            let regs = emit_arguments(b, site, values)?;
+            emit_print(b, site.alloc, values, regs.as_slice(), site.line)
         }
         _ => {
             emit_expression(b, site, e)?;

@@ -1,11 +1,10 @@
 //! What stands around the bodies of `if` and of loops.
 ghost use Rattle.std.specs.Prelude.{◌<◌, ◌≤◌, ℕ, length, IfOk, OnOk, OnErr, [], ◌∷◌};
 ghost use Rattle.py_typed.specs.Expressions.{typed_expr};
-ghost use Rattle.ir_core.specs.Building.{Extends};
+ghost use Rattle.ir_builder_frames.specs.Building.{Extends};
 ghost use Rattle.ir_builder_frames.specs.Calling.{Open};
 ghost use Rattle.ir_builder_frames.specs.Matching.{HasRoom};
-ghost use Rattle.ir_builder_frames.specs.Shaped.{Keeps};
-ghost use Rattle.ir_builder_frames.specs.Kinds.{IsAmong, IsOf, KeepsKinds, KeepsKindsIf};
+ghost use Rattle.ir_builder_frames.specs.Kinds.{IsOf};
 ghost use Rattle.ir_builder_expressions.specs.Site.{setting_of};
 ghost use Rattle.ir_builder_expressions.specs.Suiting.{Suits};
 ghost use Rattle.ir_builder_loops_and_jumps.specs.Runs.{OpenIn};
@@ -28,8 +27,6 @@ pub(crate) fn emit_split(b: &mut Emitter, site: Site, e: &TExpr) -> Result<Test,
     requires room { HasRoom (setting_of site) b.old }
     ensures kept { Extends b.old b.new }
     ensures splits { IfOk result (λ t. SplitsBy (setting_of site.entry) (typed_expr e.now) b.old b.new t) }
-    ensures shaped { Keeps b.old b.new }
-    ensures kinds { KeepsKindsIf (IsAmong (setting_of site.entry).source) b.old b.new }
     ensures lined { OnOk result ((l : ℕ) → LinedPieces (setting_of site.entry) l (value (typed_expr e.now) ∷ []) b.old b.new) }
 {
     let condition = emit_expression(b, site, e)?;
@@ -45,10 +42,9 @@ pub(crate) fn emit_split(b: &mut Emitter, site: Site, e: &TExpr) -> Result<Test,
 pub(crate) fn end_arm(b: &mut Emitter, test: Test, exits: &mut Vec<Exit>) -> Result<(), Memory>
     requires start { test.block < test.start }
     requires here { test.start ≤ length b.old.blocks }
+    requires flag { IsOf b.old.regs test.condition RType.Bool }
     ensures kept { OnErr result (Extends b.old b.new) }
     ensures ends { OnOk result (EndsArm b.old b.new test exits.old.items exits.new.items) }
-    ensures shaped { OnOk result (Keeps b.old b.new) }
-    ensures kinds { OnOk result (KeepsKindsIf (λ g. IsOf b.old.regs test.condition RType.Bool) b.old b.new) }
     ensures lined { (l : ℕ) → OwnLines l b.old b.new }
 {
     leave_by(b, Way::Join, exits)?;
@@ -62,8 +58,6 @@ pub(crate) fn join(b: &mut Emitter, inner: &[Exit], exits: &mut Vec<Exit>) -> Re
     requires opens { (from : ℕ) × OpenIn b.old from (length b.old.blocks) inner.now }
     ensures kept { OnErr result (Extends b.old b.new) }
     ensures joins { OnOk result (Joins b.old b.new inner.now exits.old.items exits.new.items) }
-    ensures shaped { OnOk result (Keeps b.old b.new) }
-    ensures kinds { OnOk result (KeepsKinds b.old b.new) }
     ensures lined { OnOk result ((l : ℕ) → Around l b.old b.new) }
 {
     let end = b.step_on()?;
@@ -94,10 +88,9 @@ pub(crate) fn end_loop(
     requires here { start.test.start ≤ next }
     requires next { next ≤ length b.old.blocks }
     requires opens { OpenIn b.old start.test.start next inner.now }
+    requires flag { IsOf b.old.regs start.test.condition RType.Bool }
     ensures kept { OnErr result (Extends b.old b.new) }
     ensures ends { OnOk result (EndsLoop b.old b.new start next inner.now exits.old.items exits.new.items) }
-    ensures shaped { OnOk result (Keeps b.old b.new) }
-    ensures kinds { OnOk result (KeepsKindsIf (λ g. IsOf b.old.regs start.test.condition RType.Bool) b.old b.new) }
     ensures lined { OnOk result (Around line b.old b.new) }
 {
     let LoopStart { head, test } = start;

@@ -1,9 +1,7 @@
 //! The blocks that are left by ways whose places come later.
 ghost use Rattle.std.specs.Prelude.{◌≡◌, ◌++◌, [], ◌∷◌, ℕ, length, OnOk};
-ghost use Rattle.ir_core.specs.Building.{Extends};
+ghost use Rattle.ir_builder_frames.specs.Building.{Extends};
 ghost use Rattle.ir_builder_frames.specs.Calling.{Closes};
-ghost use Rattle.ir_builder_frames.specs.Shaped.{Keeps, KeepsIf};
-ghost use Rattle.ir_builder_frames.specs.Kinds.{KeepsKinds};
 ghost use Rattle.ir_builder_loops_and_jumps.specs.Ways.{planned, left};
 ghost use Rattle.ir_builder_loops_and_jumps.specs.Plans.{PlanFits};
 ghost use Rattle.ir_builder_loops_and_jumps.specs.Runs.{OpenIn, all_jumping};
@@ -19,8 +17,6 @@ pub(crate) fn leave_by(b: &mut Emitter, way: Way, exits: &mut Vec<Exit>) -> Resu
     ensures kept { Extends b.old b.new }
     ensures noted { OnOk result (exits.new.items ≡ exits.old.items ++ record { way = way; block = length b.old.blocks } ∷ []) }
     ensures closed { OnOk result (Closes b.old b.new Last.Unreachable) }
-    ensures shaped { Keeps b.old b.new }
-    ensures kinds { KeepsKinds b.old b.new }
     ensures lined { (l : ℕ) → OwnLines l b.old b.new }
 {
     let block = b.close(Last::Unreachable)?;
@@ -43,9 +39,8 @@ fn place_of(plan: ExitPlan, way: Way) -> Option<usize>
 /// Writes the jumps of the exits whose way is in a plan. It takes no memory.
 pub(crate) fn patch_all(b: &mut Emitter, exits: &[Exit], plan: ExitPlan)
     requires opens { (from : ℕ) × OpenIn b.old from (length b.old.blocks) exits.now }
+    requires fits { PlanFits (length b.old.blocks) (planned plan) exits.now }
     ensures jumps { b.new ≡ all_jumping (planned plan) exits.now b.old }
-    ensures shaped { KeepsIf (λ n m. PlanFits m (planned plan) exits.now) b.old b.new }
-    ensures kinds { KeepsKinds b.old b.new }
     ensures lined { (l : ℕ) → OwnLines l b.old b.new }
 {
     for exit in exits {

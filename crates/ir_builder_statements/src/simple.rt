@@ -4,25 +4,21 @@ ghost use Rattle.py_typed.specs.Sorts.{Sort, sort};
 ghost use Rattle.py_typed.specs.Expressions.{typed_expr, type_of};
 ghost use Rattle.py_typed.specs.Statements.{typed_target, maybe_typed, variable};
 ghost use Rattle.source_meaning.specs.Operations.{coerced};
-ghost use Rattle.ir_core.specs.Building.{Extends};
+ghost use Rattle.ir_builder_frames.specs.Building.{Extends};
 ghost use Rattle.ir_builder_frames.specs.Settings.{rtype_of};
 ghost use Rattle.ir_builder_frames.specs.Placing.{HasType};
 ghost use Rattle.ir_builder_frames.specs.Matching.{HasRoom};
 ghost use Rattle.ir_builder_frames.specs.Computing.{Shows, Attempts};
-ghost use Rattle.ir_builder_frames.specs.Shaped.{Keeps};
-ghost use Rattle.ir_builder_frames.specs.Kinds.{IsAmong, KeepsKinds, KeepsKindsIf};
 ghost use Rattle.ir_builder_operations.specs.Operating.{ActsOn};
 ghost use Rattle.ir_builder_expressions.specs.Site.{setting_of};
 ghost use Rattle.ir_builder_expressions.specs.Parts.{is_scalar};
-ghost use Rattle.ir_builder_expressions.specs.Applying.{BinarySuits};
 ghost use Rattle.ir_builder_expressions.specs.Suiting.{Suits};
 ghost use Rattle.ir_builder_loops_and_jumps.specs.Means.{means_assignment, means_update, means_return, returned_type};
 ghost use Rattle.ir_builder_loops_and_jumps.specs.Runs.{Works};
 ghost use Rattle.ir_builder_statements.specs.Suiting.{IsOnly, VariableUpdates, ReturnSuits};
-ghost use Rattle.ir_builder_statements.specs.Kinds.{IsAround};
-ghost use Rattle.ir_builder_statements.specs.Parts.{ComputesAs, ComputesReturned, update_binary, TurnsInto};
+ghost use Rattle.ir_builder_statements.specs.Kinds.{GivesResult};
+ghost use Rattle.ir_builder_statements.specs.Parts.{ComputesReturned, update_binary, TurnsInto};
 ghost use Rattle.ir_builder_frames.specs.Lines.{OwnLines};
-ghost use Rattle.ir_builder_expressions.specs.Lined.{LinedParts};
 ghost use Rattle.ir_builder_statements.specs.Lined.{value as value_piece, returned_pieces, LinedPieces};
 
 use crate::variables::{emit_set, reading, variable_type};
@@ -48,8 +44,6 @@ pub(crate) fn emit_assignment(
     requires room { HasRoom (setting_of site) b.old }
     ensures kept { Extends b.old b.new }
     ensures works { OnOk result ((gives : Option Sort) → Works (setting_of site.entry) gives (means_assignment (setting_of site.entry) (map typed_target targets.now) (typed_expr e.now)) b.old b.new []) }
-    ensures shaped { Keeps b.old b.new }
-    ensures kinds { KeepsKindsIf (IsAmong (setting_of site.entry).source) b.old b.new }
     ensures lined { OnOk result (LinedPieces (setting_of site.entry) site.entry.line (value_piece (typed_expr e.now) ∷ []) b.old b.new) }
 {
     let target = &targets[0];
@@ -80,39 +74,12 @@ fn emit_own(
     requires value { HasType b.old x.0 (rtype_of (sort t.now)) }
     ensures kept { Extends b.old b.new }
     ensures made { IfOk result (λ r. Attempts (Shows (sort own.now)) b.old b.new r.0 (rtype_of (sort own.now)) (ActsOn (sort t.now) x.0 (coerced (sort own.now)))) }
-    ensures shaped { Keeps b.old b.new }
-    ensures kinds { KeepsKinds b.old b.new }
     ensures lined { OwnLines line b.old b.new }
 {
     match own {
         Ty::Str => Ok(x),
         _ => emit_coercion(b, alloc, t, own, x, line),
     }
-}
-
-// The result of an operation on two parts in a type, as a value of the variable's own type.
-fn emit_changed(
-    b: &mut Emitter,
-    site: Site,
-    op: Binary,
-    t: &Ty,
-    own: &Ty,
-    before: &TExpr,
-    e: &TExpr,
-) -> Result<Reg, Memory>
-    requires fits { BinarySuits op (sort t.now) (sort before.now.ty) (sort e.now.ty) }
-    requires turns { TurnsInto (sort t.now) (sort own.now) }
-    requires before { Suits (setting_of site).source (setting_of site).variables (typed_expr before.now) }
-    requires suits { Suits (setting_of site).source (setting_of site).variables (typed_expr e.now) }
-    requires room { HasRoom (setting_of site) b.old }
-    ensures kept { Extends b.old b.new }
-    ensures computes { IfOk result (λ r. ComputesAs (setting_of site.entry) op (sort t.now) (sort own.now) (typed_expr before.now) (typed_expr e.now) b.old b.new r.0) }
-    ensures shaped { Keeps b.old b.new }
-    ensures kinds { KeepsKindsIf (IsAmong (setting_of site.entry).source) b.old b.new }
-    ensures lined { OnOk result (LinedParts (setting_of site.entry) site.entry.line (typed_expr before.now ∷ typed_expr e.now ∷ []) b.old b.new) }
-{
-    let result = emit_two_parts(b, site, op, t, before, e)?;
-    emit_own(b, site.alloc, t, own, result, site.line)
 }
 
 /// Changes a variable by an operation in a type (Python Language Reference, "Augmented assignment statements"): it is read, then
@@ -131,8 +98,6 @@ pub(crate) fn emit_update(
     requires room { HasRoom (setting_of site) b.old }
     ensures kept { Extends b.old b.new }
     ensures works { OnOk result ((gives : Option Sort) → Works (setting_of site.entry) gives (means_update (setting_of site.entry) (typed_target target.now) op (typed_expr e.now) (sort t.now)) b.old b.new []) }
-    ensures shaped { Keeps b.old b.new }
-    ensures kinds { KeepsKindsIf (IsAmong (setting_of site.entry).source) b.old b.new }
     ensures lined { OnOk result (LinedPieces (setting_of site.entry) site.entry.line (value_piece (typed_expr e.now) ∷ []) b.old b.new) }
 {
     let own = variable_type(site, target);
@@ -142,7 +107,8 @@ pub(crate) fn emit_update(
     };
     let before = reading(target, own, place);
     let op = updating(op, t);
-    let value = emit_changed(b, site, op, t, own, &before, e)?;
+    let result = emit_two_parts(b, site, op, t, &before, e)?;
+    let value = emit_own(b, site.alloc, t, own, result, site.line)?;
     emit_set(b, site, target, value)
 }
 
@@ -152,8 +118,6 @@ fn emit_returned(b: &mut Emitter, site: Site, value: &Option<TExpr>) -> Result<R
     requires room { HasRoom (setting_of site) b.old }
     ensures kept { Extends b.old b.new }
     ensures computes { IfOk result (λ r. ComputesReturned (setting_of site.entry) (maybe_typed value.now) b.old b.new r.0) }
-    ensures shaped { Keeps b.old b.new }
-    ensures kinds { KeepsKindsIf (IsAmong (setting_of site.entry).source) b.old b.new }
     ensures lined { OnOk result (LinedPieces (setting_of site.entry) site.entry.line (returned_pieces (maybe_typed value.now)) b.old b.new) }
 {
     match value {
@@ -167,10 +131,9 @@ pub(crate) fn emit_return(b: &mut Emitter, site: Site, value: &Option<TExpr>) ->
     requires suits { ReturnSuits (setting_of site).source (setting_of site).variables (Some (returned_type (maybe_typed value.now))) (maybe_typed value.now) }
     requires room { HasRoom (setting_of site) b.old }
     requires alone { site.frame.ret ≡ None }
+    requires result { GivesResult (Some (returned_type (maybe_typed value.now))) b.old.among }
     ensures kept { Extends b.old b.new }
     ensures works { OnOk result (Works (setting_of site.entry) (Some (returned_type (maybe_typed value.now))) (means_return (setting_of site.entry) (maybe_typed value.now)) b.old b.new []) }
-    ensures shaped { Keeps b.old b.new }
-    ensures kinds { KeepsKindsIf (IsAround (setting_of site.entry).source (Some (returned_type (maybe_typed value.now)))) b.old b.new }
     ensures lined { OnOk result (LinedPieces (setting_of site.entry) site.entry.line (returned_pieces (maybe_typed value.now)) b.old b.new) }
 {
     let r = emit_returned(b, site, value)?;

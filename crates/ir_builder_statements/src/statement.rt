@@ -3,17 +3,15 @@ ghost use Rattle.std.specs.Prelude.{◌≡◌, [], map, Option, None, IfOk, OnOk
 ghost use Rattle.std.specs.Option.{option_map, option_copied};
 ghost use Rattle.py_typed.specs.Sorts.{Sort, sort};
 ghost use Rattle.py_typed.specs.Statements.{TypedSuite, typed_stmt, typed_suite, typed_arm, arms_of};
-ghost use Rattle.ir_core.specs.Building.{Extends};
+ghost use Rattle.ir_builder_frames.specs.Building.{Extends};
 ghost use Rattle.ir_builder_frames.specs.Matching.{HasRoom};
-ghost use Rattle.ir_builder_frames.specs.Shaped.{Keeps};
-ghost use Rattle.ir_builder_frames.specs.Kinds.{IsAmong, KeepsKindsIf};
 ghost use Rattle.ir_builder_expressions.specs.Site.{setting_of};
 ghost use Rattle.ir_builder_loops_and_jumps.specs.Means.{means_loop, means_statement, means_suite};
 ghost use Rattle.ir_builder_loops_and_jumps.specs.Around.{Begins};
 ghost use Rattle.ir_builder_loops_and_jumps.specs.Runs.{Emitted};
 ghost use Rattle.ir_builder_loops_and_jumps.specs.Tested.{Tested};
 ghost use Rattle.ir_builder_statements.specs.Suiting.{LoopSuits, StatementSuits, SuiteSuits, ArmsSuit};
-ghost use Rattle.ir_builder_statements.specs.Kinds.{IsAround};
+ghost use Rattle.ir_builder_statements.specs.Kinds.{GivesResult};
 ghost use Rattle.ir_builder_statements.specs.Lined.{arm_pieces, head_pieces, LinedPieces, LinedStatement, LinedSuite};
 
 use crate::alone::emit_alone;
@@ -41,10 +39,9 @@ pub fn emit_block(
     requires suits { SuiteSuits (setting_of site).source (setting_of site).variables (option_map sort (option_copied gives)) looping (typed_suite body.now) }
     requires room { HasRoom (setting_of site) b.old }
     requires alone { site.frame.ret ≡ None }
+    requires result { GivesResult (option_map sort (option_copied gives)) b.old.among }
     ensures kept { Extends b.old b.new }
     ensures emitted { OnOk result (Emitted (setting_of site.entry) (option_map sort (option_copied gives.entry)) looping (means_suite (setting_of site.entry) (typed_suite body.now)) b.old b.new exits.old.items exits.new.items) }
-    ensures shaped { OnOk result (Keeps b.old b.new) }
-    ensures kinds { OnOk result (KeepsKindsIf (IsAround (setting_of site.entry).source (option_map sort (option_copied gives.entry))) b.old b.new) }
     ensures lined { OnOk result (LinedSuite (setting_of site.entry) (typed_suite body.now) b.old b.new) }
 {
     for s in body {
@@ -66,10 +63,9 @@ fn emit_statement(
     requires suits { StatementSuits (setting_of site).source (setting_of site).variables (option_map sort (option_copied gives)) looping (typed_stmt s.now) }
     requires room { HasRoom (setting_of site) b.old }
     requires alone { site.frame.ret ≡ None }
+    requires result { GivesResult (option_map sort (option_copied gives)) b.old.among }
     ensures kept { Extends b.old b.new }
     ensures emitted { OnOk result (Emitted (setting_of site.entry) (option_map sort (option_copied gives.entry)) looping (means_statement (setting_of site.entry) (typed_stmt s.now)) b.old b.new exits.old.items exits.new.items) }
-    ensures shaped { OnOk result (Keeps b.old b.new) }
-    ensures kinds { OnOk result (KeepsKindsIf (IsAround (setting_of site.entry).source (option_map sort (option_copied gives.entry))) b.old b.new) }
     ensures lined { OnOk result (LinedStatement (setting_of site.entry) (typed_stmt s.now) b.old b.new) }
 {
     let site = Site {
@@ -117,10 +113,9 @@ fn emit_if(
     requires other_suits { SuiteSuits (setting_of site).source (setting_of site).variables (option_map sort (option_copied gives)) looping (typed_suite other.now) }
     requires room { HasRoom (setting_of site) b.old }
     requires alone { site.frame.ret ≡ None }
+    requires result { GivesResult (option_map sort (option_copied gives)) b.old.among }
     ensures kept { Extends b.old b.new }
     ensures emitted { OnOk result (Emitted (setting_of site.entry) (option_map sort (option_copied gives.entry)) looping (means_statement (setting_of site.entry) (typed_stmt s.now)) b.old b.new exits.old.items exits.new.items) }
-    ensures shaped { OnOk result (Keeps b.old b.new) }
-    ensures kinds { OnOk result (KeepsKindsIf (IsAround (setting_of site.entry).source (option_map sort (option_copied gives.entry))) b.old b.new) }
     ensures lined { OnOk result (LinedStatement (setting_of site.entry) (typed_stmt s.now) b.old b.new) }
 {
     let mut inner = Vec::new(site.alloc);
@@ -143,10 +138,9 @@ fn emit_arms(
     requires suits { ArmsSuit (setting_of site).source (setting_of site).variables (option_map sort (option_copied gives)) looping (arms_of (map typed_arm arms.now)) }
     requires room { HasRoom (setting_of site) b.old }
     requires alone { site.frame.ret ≡ None }
+    requires result { GivesResult (option_map sort (option_copied gives)) b.old.among }
     ensures kept { Extends b.old b.new }
     ensures tested { OnOk result (Tested (setting_of site.entry) (option_map sort (option_copied gives.entry)) looping [] arms.now b.old b.new exits.new.items) }
-    ensures shaped { OnOk result (Keeps b.old b.new) }
-    ensures kinds { OnOk result (KeepsKindsIf (IsAround (setting_of site.entry).source (option_map sort (option_copied gives.entry))) b.old b.new) }
     ensures lined { OnOk result ((l : ℕ) → LinedPieces (setting_of site.entry) l (arm_pieces (arms_of (map typed_arm arms.now))) b.old b.new) }
 {
     for (e, body) in arms {
@@ -164,8 +158,6 @@ fn begin_loop(b: &mut Emitter, site: Site, s: &TStmt) -> Result<LoopStart, Memor
     requires room { HasRoom (setting_of site) b.old }
     ensures kept { Extends b.old b.new }
     ensures begins { IfOk result (λ o. Begins (setting_of site.entry) (means_loop (setting_of site.entry) (typed_stmt s.now)) b.old b.new o) }
-    ensures shaped { Keeps b.old b.new }
-    ensures kinds { KeepsKindsIf (IsAmong (setting_of site.entry).source) b.old b.new }
     ensures lined { OnOk result ((l : ℕ) → LinedPieces (setting_of site.entry) l (head_pieces (typed_stmt s.now)) b.old b.new) }
 {
     match &s.kind {
@@ -192,10 +184,9 @@ fn emit_loop(
     requires suits { LoopSuits (setting_of site).source (setting_of site).variables (option_map sort (option_copied gives)) (typed_stmt s.now) (typed_suite body.now) }
     requires room { HasRoom (setting_of site) b.old }
     requires alone { site.frame.ret ≡ None }
+    requires result { GivesResult (option_map sort (option_copied gives)) b.old.among }
     ensures kept { Extends b.old b.new }
     ensures emitted { OnOk result (Emitted (setting_of site.entry) (option_map sort (option_copied gives.entry)) looping (means_statement (setting_of site.entry) (typed_stmt s.now)) b.old b.new exits.old.items exits.new.items) }
-    ensures shaped { OnOk result (Keeps b.old b.new) }
-    ensures kinds { OnOk result (KeepsKindsIf (IsAround (setting_of site.entry).source (option_map sort (option_copied gives.entry))) b.old b.new) }
     ensures lined { OnOk result (LinedStatement (setting_of site.entry) (typed_stmt s.now) b.old b.new) }
 {
     let mut inner = Vec::new(site.alloc);

@@ -3,9 +3,9 @@ ghost use Rattle.std.specs.Prelude.{◌≡◌, true, List, None, OnOk};
 ghost use Rattle.py_typed.specs.Sorts.{Sort, sort};
 ghost use Rattle.py_typed.specs.Expressions.{typed_expr};
 ghost use Rattle.py_typed.specs.Statements.{TypedModule, Variable, typed_target, variable};
-ghost use Rattle.ir_core.specs.Building.{Extends};
-ghost use Rattle.ir_builder_frames.specs.Shaped.{Keeps};
-ghost use Rattle.ir_builder_frames.specs.Kinds.{IsAmong, AreAlike, KeepsKindsIf};
+ghost use Rattle.ir_builder_frames.specs.Building.{Extends};
+ghost use Rattle.ir_builder_frames.specs.Kinds.{AreAlike};
+ghost use Rattle.ir_builder_frames.specs.Among.{IsAmong};
 ghost use Rattle.ir_builder_expressions.specs.Site.{setting_of};
 ghost use Rattle.ir_builder_expressions.specs.Parts.{is_scalar};
 ghost use Rattle.ir_builder_statements.specs.Suiting.{IsVariable};
@@ -65,11 +65,10 @@ pub(crate) fn reading(target: &Target, t: &Ty, span: Span) -> TExpr
 
 // Puts a value into a variable of the function. The flag of one that is no parameter is set behind it.
 fn set_local(b: &mut Emitter, frame: Frame, k: usize, r: Reg, line: usize) -> Result<(), Memory>
-    requires { HasFlag frame k b.old }
+    requires flagged { HasFlag frame k b.old }
+    requires alike { AreAlike b.old.regs (record { 0 = k }) r }
     ensures kept { Extends b.old b.new }
     ensures sets { OnOk result (SetsLocal frame k r.0 b.old b.new) }
-    ensures shaped { Keeps b.old b.new }
-    ensures kinds { KeepsKindsIf (λ g. AreAlike b.old.regs (record { 0 = k }) r) b.old b.new }
     ensures lined { OwnLines line b.old b.new }
 {
     b.push(Op::Move(Reg(k), r), line)?;
@@ -82,11 +81,10 @@ fn set_local(b: &mut Emitter, frame: Frame, k: usize, r: Reg, line: usize) -> Re
 
 // Puts a value into a variable of the module.
 fn set_global(b: &mut Emitter, site: Site, i: usize, r: Reg) -> Result<(), Memory>
-    requires { TakesGlobal (setting_of site).source i r.0 b.old }
+    requires takes { TakesGlobal (setting_of site).source i r.0 b.old }
+    requires among { IsAmong (setting_of site).source b.old.among }
     ensures kept { Extends b.old b.new }
     ensures sets { OnOk result (SetsGlobal (setting_of site.entry).source i r.0 b.old b.new) }
-    ensures shaped { Keeps b.old b.new }
-    ensures kinds { KeepsKindsIf (IsAmong (setting_of site.entry).source) b.old b.new }
     ensures lined { OwnLines site.entry.line b.old b.new }
 {
     let name = site.checked.globals.as_slice()[i].name.clone()?;
@@ -104,8 +102,6 @@ pub(crate) fn emit_set(b: &mut Emitter, site: Site, target: &Target, r: Reg) -> 
     requires { TakesRegister (setting_of site).source site.frame (typed_target target.now) r.0 b.old }
     ensures kept { Extends b.old b.new }
     ensures sets { OnOk result (SetsVariable (setting_of site.entry).source site.entry.frame (typed_target target.now) r.0 b.old b.new) }
-    ensures shaped { Keeps b.old b.new }
-    ensures kinds { KeepsKindsIf (IsAmong (setting_of site.entry).source) b.old b.new }
     ensures lined { OwnLines site.entry.line b.old b.new }
 {
     match target {

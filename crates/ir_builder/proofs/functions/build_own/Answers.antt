@@ -1,9 +1,15 @@
-use Rattle.ir_builder.proofs.Common.{refl, typed_module}
-use Rattle.ir_builder.proofs.FunctionLemmas.{own_is}
+use Rattle.ir_builder.proofs.Common.{[], typed_module}
+use Rattle.ir_core.specs.declared.code.RType.TheVariants.{Bool}
+use Rattle.ir_builder.proofs.RegisterLemmas.{no_flags}
+use Rattle.ir_builder.proofs.FunctionLemmas.{begin_room, own_is}
 use Rattle.ir_builder.proofs.functions.build_own.Goals as goal
+
+pub emit_body-requires-clause-room : goal.emit_body-requires-clause-room
+emit_body-requires-clause-room c = rw (c.in_ok-vars.ensures, c.new-b.ensures, c.new.ensures) (begin_room (typed_module c.args.checked.now) [] Bool 0 _ (no_flags _))
 
 pub returns : goal.returns
 returns c =
-    let bodied = rw c.as_slice.ensures at c.in_ok-emit_body.ensures.bodied in
-    let lined = rw c.as_slice.ensures at c.in_ok-emit_body.ensures.lined in
-    own_is (typed_module c.args.checked.now) c.new.result.items 0 0 c.in_ok-vars.vars c.begin-b.result c.emit_body.new.b c.finish.result c.new.ensures.items refl c.in_ok-vars.ensures c.begin-b.ensures bodied c.in_ok-emit_body.ensures.shaped c.in_ok-emit_body.ensures.kinds lined c.in_ok-emit_body.ensures.few c.finish.ensures.names refl c.finish.ensures.is
+    let body = c.in_ok-emit_body.ensures in
+    let bodied = rw (c.as_slice.ensures, c.in_ok-vars.ensures, c.new-b.ensures, c.new.ensures) at body.bodied in
+    let lined = rw (c.as_slice.ensures, c.in_ok-vars.ensures, c.new-b.ensures, c.new.ensures) at body.lined in
+    own_is (typed_module c.args.checked.now) c.emit_body.new.b c.from_string.result c.finish.result bodied body.fits lined body.few c.finish.ensures.names c.finish.ensures.kinds c.finish.ensures.is

@@ -1,21 +1,21 @@
-use Rattle.ir_builder_expressions.proofs.Common.{sort, typed_expr, Reg, ok_map, part_sort}
-use Rattle.ir_builder_expressions.proofs.ApplyLemmas.{applies_negated, applies_inverted, applies_tested, applies_counted, applies_written, applies_coerced}
+use Rattle.ir_builder_expressions.proofs.Common.{sort, Reg, ok_map}
+use Rattle.ir_builder_expressions.proofs.ApplyLemmas.{applies_inverted, applies_tested, applies_counted, applies_written}
 use Rattle.ir_builder_expressions.proofs.applying.emit_unary.Goals as goal
 
 pub returns-in-Negated-clause-made : goal.returns-in-Negated-clause-made
-returns-in-Negated-clause-made c = ok_map _ _ _ (λ (r : Reg) a. applies_negated c.args.op (sort c.args.t.now) (part_sort (sort c.args.t.now) (typed_expr c.args.e.now)) _ _ r.0 _ c.in-Negated.is a) c.emit_negated.ensures.made
+returns-in-Negated-clause-made c = rw c.in-Negated.is c.emit_negated.ensures.made
 
 pub returns-in-Inverted-clause-made : goal.returns-in-Inverted-clause-made
-returns-in-Inverted-clause-made c = ok_map _ _ _ (λ (r : Reg) a. applies_inverted c.args.op (sort c.args.t.now) c.args.e.now _ _ r.0 _ c.in-Inverted.is c.requires.fits a) c.emit_operation.ensures.made
+returns-in-Inverted-clause-made c = rw c.in-Inverted.is (ok_map _ _ _ (λ (r : Reg) a. applies_inverted (sort c.args.t.now) c.args.e.now _ _ r.0 _ (rw c.in-Inverted.is at c.requires.fits) a) c.emit_operation.ensures.made)
 
 pub returns-in-Tested-clause-made : goal.returns-in-Tested-clause-made
-returns-in-Tested-clause-made c = ok_map _ _ _ (λ (r : Reg) a. applies_tested c.args.op (sort c.args.t.now) c.args.e.now _ _ r.0 _ c.in-Tested.is c.requires.fits a) c.emit_truth.ensures.found
+returns-in-Tested-clause-made c = rw c.in-Tested.is (ok_map _ _ _ (λ (r : Reg) a. applies_tested (sort c.args.t.now) c.args.e.now _ _ r.0 _ (rw c.in-Tested.is at c.requires.fits) a) c.emit_truth.ensures.found)
 
 pub returns-in-Counted-clause-made : goal.returns-in-Counted-clause-made
-returns-in-Counted-clause-made c = ok_map _ _ _ (λ (r : Reg) a. applies_counted c.args.op (sort c.args.t.now) c.args.e.now _ _ r.0 _ c.in-Counted.is c.requires.fits a) c.emit_operation-in-Counted.ensures.made
+returns-in-Counted-clause-made c = rw c.in-Counted.is (ok_map _ _ _ (λ (r : Reg) a. applies_counted (sort c.args.t.now) c.args.e.now _ _ r.0 _ (rw c.in-Counted.is at c.requires.fits) a) c.emit_operation-in-Counted.ensures.made)
 
 pub returns-in-Written-clause-made : goal.returns-in-Written-clause-made
-returns-in-Written-clause-made c = ok_map _ _ _ (λ (r : Reg) a. applies_written c.args.op (sort c.args.t.now) c.args.e.now _ _ r.0 _ c.in-Written.is c.requires.fits a) c.emit_text_of.ensures.made
+returns-in-Written-clause-made c = rw c.in-Written.is (ok_map _ _ _ (λ (r : Reg) a. applies_written (sort c.args.t.now) c.args.e.now _ _ r.0 _ (rw c.in-Written.is at c.requires.fits) a) c.emit_text_of.ensures.made)
 
 pub returns-in-Coerced-clause-made : goal.returns-in-Coerced-clause-made
-returns-in-Coerced-clause-made c = ok_map _ _ _ (λ (r : Reg) a. applies_coerced c.args.op (sort c.args.t.now) (part_sort (sort c.args.t.now) (typed_expr c.args.e.now)) _ _ r.0 _ c.in-Coerced.is a) c.emit_coerced.ensures.made
+returns-in-Coerced-clause-made c = rw c.in-Coerced.is c.emit_coerced.ensures.made

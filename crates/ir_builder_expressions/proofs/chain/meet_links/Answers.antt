@@ -1,5 +1,5 @@
-use Rattle.ir_builder_expressions.proofs.Common.{arith, List, subst, sym, Building, extends_trans, Link, Pending, Ended}
-use Rattle.ir_builder_expressions.proofs.LinkLemmas.{Last, pending_last, pending_extends, met_pending, met_flag, met_grows, keeps_both, ended_snoc}
+use Rattle.ir_builder_expressions.proofs.Common.{List, subst, sym, Building, extends_trans, Link, Pending, Ended}
+use Rattle.ir_builder_expressions.proofs.LinkLemmas.{Last, pending_last, pending_extends, met_pending, met_flag, ended_snoc}
 use Rattle.ir_builder_expressions.proofs.chain.meet_links.Goals as goal
 
 pub meet_link-requires-clause-begun : goal.meet_link-requires-clause-begun
@@ -12,9 +12,6 @@ meet_link-requires-clause-begun c =
 pub returns-in_err-meet_link-clause-kept : goal.returns-in_err-meet_link-clause-kept
 returns-in_err-meet_link-clause-kept c a h = extends_trans a c.loop-link.b c.meet_link.new.b (pending_extends a c.loop-link.rest c.loop-link.b (c.loop-link.invariant.pending a h)) c.in_err-meet_link.ensures.kept
 
-pub returns-in_err-meet_link-clause-shaped : goal.returns-in_err-meet_link-clause-shaped
-returns-in_err-meet_link-clause-shaped c = keeps_both c.args.b.now c.loop-link.b c.meet_link.new.b c.loop-link.invariant.more c.in_err-meet_link.ensures.kept.blocks_grow c.loop-link.invariant.shaped c.meet_link.ensures.shaped
-
 pub loop-link-preserved : goal.loop-link-preserved
 loop-link-preserved c =
     let met = c.in_ok-meet_link.ensures.met in
@@ -22,19 +19,14 @@ loop-link-preserved c =
     let l = c.in-Some.link in
     let b = c.loop-link.b in
     let d = c.meet_link.new.b in
-    let grows = met_grows b d l c.loop-link.r.0 met in
     let split : (a : Building) → Pending a c.args.links c.args.b.now → Last a ls l b = λ a h.
     let P : List Link → Type 0 = λ z. Pending a z b in
     pending_last a ls l b (subst P c.in-Some.ensures (c.loop-link.invariant.pending a h)) in
     record {
       pending = λ a h. met_pending a ls l b d c.loop-link.r.0 (split a h) met;
-      more = let m = c.loop-link.invariant.more in let n = grows.0 in omega arith;
-      grown = let m = c.loop-link.invariant.grown in let n = grows.1 in omega arith;
       flag = met_flag c.requires.pending.0 ls l b d c.loop-link.r.0 (split c.requires.pending.0 c.requires.pending.1) met;
       ends = λ e q h.
           let Q : List Link → Type 0 = λ z. Ended z b c.loop-link.r.0 e q in
           c.loop-link.invariant.ends e q (subst Q (sym c.in-Some.ensures) (ended_snoc ls l b d c.loop-link.r.0 e q met h));
-      shaped = keeps_both c.args.b.now b d c.loop-link.invariant.more grows.1 c.loop-link.invariant.shaped c.meet_link.ensures.shaped;
-      kinds = λ g h. c.meet_link.ensures.kinds g (c.loop-link.invariant.kinds g h);
       lined = λ k i x other at. c.loop-link.invariant.lined k i x other (c.meet_link.ensures.lined k i x other at);
     }

@@ -1,9 +1,9 @@
-use Rattle.ir_builder_loops_and_jumps.proofs.Common.{◌<◌, length, arith, rules, get_or, sort, TExpr, Reg, rtype_of, on_ok_map, type_kept}
-use Rattle.ir_builder_loops_and_jumps.proofs.PrintLemmas.{printing_none, printing_on, as_many, item_written, item_type, line_written, item_own}
+use Rattle.ir_builder_loops_and_jumps.proofs.Common.{◌<◌, length, arith, rules, get_or, sort, TExpr, Reg, rtype_of, on_ok_map, type_kept, extends_refl, extends_trans}
+use Rattle.ir_builder_loops_and_jumps.proofs.PrintLemmas.{none_written, next_written, as_many, item_written, item_type, line_written, item_own}
 use Rattle.ir_builder_loops_and_jumps.proofs.printing.emit_print.Goals as goal
 
 pub loop-i-init : goal.loop-i-init
-loop-i-init c = record { printing = printing_none c.args.values.now c.args.regs.now c.args.b.now; lined = λ k i x other at. at }
+loop-i-init c = record { kept = extends_refl c.args.b.now; writes = none_written c.args.values.now c.args.regs.now c.args.b.now; lined = λ k i x other at. at }
 
 pub bounds-values-i : goal.bounds-values-i
 bounds-values-i c =
@@ -30,7 +30,7 @@ emit_item-requires-clause-value c =
     let lt = c.loop-i-test.true in
     let e : TExpr = get_or c.args.values.now c.loop-i.i c.index-values-i.result in
     let r : Reg = get_or c.args.regs.now c.loop-i.i (record { 0 = 0 }) in
-    type_kept c.args.b.now c.loop-i.b r.0 (rtype_of (sort e.ty)) c.loop-i.invariant.printing.kept
+    type_kept c.args.b.now c.loop-i.b r.0 (rtype_of (sort e.ty)) c.loop-i.invariant.kept
     (item_type c.args.b.now.regs c.args.values.now c.args.regs.now c.loop-i.i e r c.requires.types lt (item_own c.args.values.now c.loop-i.i c.index-values-i.result (omega (arith, same, lt))) (item_own c.args.regs.now c.loop-i.i (record { 0 = 0 }) lt))
 
 pub loop-i-preserved : goal.loop-i-preserved
@@ -40,7 +40,11 @@ loop-i-preserved c =
     let e : TExpr = get_or c.args.values.now c.loop-i.i c.index-values-i.result in
     let r : Reg = get_or c.args.regs.now c.loop-i.i (record { 0 = 0 }) in
     let w = c.in_ok-emit_item.ensures in
-    record { printing = printing_on c.args.values.now c.args.regs.now c.loop-i.i e r c.args.b.now _ _ c.requires.types lt (item_own c.args.values.now c.loop-i.i c.index-values-i.result (omega (arith, same, lt))) (item_own c.args.regs.now c.loop-i.i (record { 0 = 0 }) lt) c.loop-i.invariant.printing w.kept w.writes w.shaped w.kinds; lined = λ k i x other at. c.loop-i.invariant.lined k i x other (w.lined k i x other at) }
+    record {
+      kept = extends_trans _ _ _ c.loop-i.invariant.kept w.kept;
+      writes = next_written c.args.values.now c.args.regs.now c.loop-i.i e r c.args.b.now _ _ c.requires.types lt (item_own c.args.values.now c.loop-i.i c.index-values-i.result (omega (arith, same, lt))) (item_own c.args.regs.now c.loop-i.i (record { 0 = 0 }) lt) c.loop-i.invariant.writes w.writes;
+      lined = λ k i x other at. c.loop-i.invariant.lined k i x other (w.lined k i x other at);
+    }
 
 pub returns-clause-writes : goal.returns-clause-writes
-returns-clause-writes c = on_ok_map _ _ _ (line_written c.args.values.now c.args.regs.now c.loop-i.i _ _ _ c.loop-i-test.false c.loop-i.invariant.printing.writes) c.emit_literal.ensures.writes
+returns-clause-writes c = on_ok_map _ _ _ (line_written c.args.values.now c.args.regs.now c.loop-i.i _ _ _ c.loop-i-test.false c.loop-i.invariant.writes) c.emit_literal.ensures.writes

@@ -8,18 +8,18 @@ returns-then-is_short-clause-made c =
     let number = to_z-of_z w128 c.args.n c.ranges.n in
     ok_map _ _ _ (λ (r : Reg) a. short_makes _ _ r.0 c.args.n _ (word ∙ c.doubled.ensures ∙ ap (λ z. pos 2 *ℤ z) number) a) c.literal.ensures.added
 
-pub returns-then-is_short-clause-kinds : goal.returns-then-is_short-clause-kinds
-returns-then-is_short-clause-kinds c g h =
+pub literal-requires : goal.literal-requires
+literal-requires c =
     let word = to_z-of_z w64 c.doubled.result (record { sfits = c.doubled.type_inv }) in
     let number = to_z-of_z w128 c.args.n c.ranges.n in
-    c.literal.ensures.kinds g (twice_fits c.args.n _ (word ∙ c.doubled.ensures ∙ ap (λ z. pos 2 *ℤ z) number) (ap is_short (sym number) ∙ sym c.is_short.ensures ∙ c.if-is_short.true)) h
+    record { fits = twice_fits c.args.n _ (word ∙ c.doubled.ensures ∙ ap (λ z. pos 2 *ℤ z) number) (ap is_short (sym number) ∙ sym c.is_short.ensures ∙ c.if-is_short.true) }
 
 pub returns-in_ok-decimal-clause-made : goal.returns-in_ok-decimal-clause-made
 returns-in_ok-decimal-clause-made c =
     let number = to_z-of_z w128 c.args.n c.ranges.n in
     ok_map _ _ _ (λ (r : Reg) a. decimal_makes _ _ r.0 c.args.n _ c.ranges.n (ap is_short (sym number) ∙ sym c.is_short.ensures ∙ c.if-is_short.false) (c.as_str.ensures ∙ c.in_ok-decimal.ensures ∙ ap signed_decimal number) a) c.emit_written.ensures.added
 
-pub returns-in_ok-decimal-clause-kinds : goal.returns-in_ok-decimal-clause-kinds
-returns-in_ok-decimal-clause-kinds c g h =
+pub emit_written-requires : goal.emit_written-requires
+emit_written-requires c =
     let number = to_z-of_z w128 c.args.n c.ranges.n in
-    c.emit_written.ensures.kinds g (decimal_answers c.args.b.now.regs c.args.n _ c.as_str.utf8 c.ranges.n (ap is_short (sym number) ∙ sym c.is_short.ensures ∙ c.if-is_short.false) (c.as_str.ensures ∙ c.in_ok-decimal.ensures ∙ ap signed_decimal number)) h
+    record { fits = decimal_answers c.args.b.now.regs c.args.n _ c.as_str.utf8 c.ranges.n (ap is_short (sym number) ∙ sym c.is_short.ensures ∙ c.if-is_short.false) (c.as_str.ensures ∙ c.in_ok-decimal.ensures ∙ ap signed_decimal number) }

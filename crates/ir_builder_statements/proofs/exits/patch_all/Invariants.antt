@@ -1,13 +1,9 @@
-use Rattle.ir_builder_statements.proofs.Common.{◌≡◌, ℕ, length, drop, KeepsIf, KeepsKinds, all_jumping, planned}
-use Rattle.ir_builder_loops_and_jumps.specs.Plans.{PlanFits}
-use Rattle.ir_builder_frames.specs.Lines.{OwnLines}
+use Rattle.ir_builder_statements.proofs.Common.{◌≡◌, ℕ, length, drop, all_jumping, planned, OwnLines}
 use Rattle.ir_builder_statements.proofs.exits.patch_all.Given as goal
 
 abbrev pub invariant-loop-exit : goal.invariant-loop-exit
 invariant-loop-exit l = record {
   jumps : all_jumping (planned l.plan) (drop l.exit-index l.exits) l.b ≡ all_jumping (planned l.plan) l.exits l.initial.b;
   blocks : length l.b.blocks ≡ length l.initial.b.blocks;
-  shaped : KeepsIf (λ n m. PlanFits m (planned l.plan) l.exits) l.initial.b l.b;
-  kinds : KeepsKinds l.initial.b l.b;
   lined : (k : ℕ) → OwnLines k l.initial.b l.b;
 }

@@ -1,22 +1,17 @@
-use Rattle.ir_builder_expressions.specs.Site.{setting_of}
-use Rattle.ir_builder_statements.proofs.Common.{typed_expr, type_of, Setting, on_ok_map}
+use Rattle.ir_builder_statements.proofs.Common.{typed_expr, type_of, on_ok_map, setting_of, always, around_by}
 use Rattle.ir_builder_statements.proofs.AssignLemmas.{assignment_code, assignment_takes}
-use Rattle.ir_builder_expressions.proofs.LinedLemmas.{always, around_by}
 use Rattle.ir_builder_statements.proofs.LinedLemmas.{value_piece}
 use Rattle.ir_builder_statements.proofs.simple.emit_assignment.Goals as goal
 
 pub emit_set-requires : goal.emit_set-requires
 emit_set-requires c =
-    let x : Setting = setting_of c.args.site in
-    assignment_takes x c.args.targets.now c.index-targets-0.result (typed_expr c.args.e.now) _ _ _ c.requires.simple c.index-targets-0.is c.requires.target c.requires.room c.in_ok-r.ensures.emitted
+    assignment_takes (setting_of c.args.site) c.args.targets.now c.index-targets-0.result (typed_expr c.args.e.now) _ _ _ c.requires.simple c.index-targets-0.is c.requires.target c.requires.room c.in_ok-r.ensures.emitted
 
 pub returns-clause-works : goal.returns-clause-works
 returns-clause-works c =
-    let x : Setting = setting_of c.args.site in
-    on_ok_map _ _ _ (λ q. assignment_code x c.args.targets.now c.index-targets-0.result (typed_expr c.args.e.now) _ _ _ c.in_ok-r.r c.requires.simple c.index-targets-0.is c.requires.target c.requires.room c.in_ok-r.ensures.emitted q) c.emit_set.ensures.sets
+    on_ok_map _ _ _ (λ q. assignment_code (setting_of c.args.site) c.args.targets.now c.index-targets-0.result (typed_expr c.args.e.now) _ _ _ c.in_ok-r.r c.requires.simple c.index-targets-0.is c.requires.target c.requires.room c.in_ok-r.ensures.emitted q) c.emit_set.ensures.sets
 
 pub returns-clause-lined : goal.returns-clause-lined
 returns-clause-lined c =
-    let x : Setting = setting_of c.args.site in
     let e = typed_expr c.args.e.now in
-    always _ _ (value_piece x c.args.site.line e _ _ _ (type_of e, c.in_ok-r.r.0, c.in_ok-r.ensures.emitted) c.in_ok-r.ensures.lined (around_by c.args.site.line _ _ c.emit_set.ensures.kept c.emit_set.ensures.lined))
+    always _ _ (value_piece (setting_of c.args.site) c.args.site.line e _ _ _ (type_of e, c.in_ok-r.r.0, c.in_ok-r.ensures.emitted) c.in_ok-r.ensures.lined (around_by c.args.site.line _ _ c.emit_set.ensures.kept c.emit_set.ensures.lined))

@@ -1,28 +1,20 @@
-use Rattle.ir_builder_expressions.specs.Site.{setting_of}
-use Rattle.ir_builder_statements.proofs.Common.{option_map, option_copied, sort, rules, map, true, le_refl, the_lemmas, typed_expr, typed_module, maybe_typed, typed_stmt, typed_suite, typed_arm, arms_of, Setting, HasRoom, extends_refl, extends_trans, type_kept, on_ok_map, either_way, room_on, means_loop, means_statement, means_suite, nothing_emitted, next_emitted, alone_emitted, assignment_emitted, update_emitted, loop_open, loop_emitted, nothing_tested, next_tested, if_emitted, pass_emitted, break_emitted, continue_emitted, join_open, SuiteSuits, ArmsSuit, LoopSuits, keeps_both}
-use Rattle.ir_core.specs.declared.code.RType.TheVariants.{Bool}
+use Rattle.ir_builder_statements.proofs.Common.{option_map, option_copied, sort, rules, map, true, le_refl, the_lemmas, typed_expr, maybe_typed, typed_stmt, typed_suite, typed_arm, arms_of, Setting, HasRoom, extends_refl, extends_trans, type_kept, on_ok_map, either_way, room_on, means_loop, means_statement, means_suite, nothing_emitted, next_emitted, alone_emitted, assignment_emitted, update_emitted, loop_open, loop_emitted, nothing_tested, next_tested, if_emitted, pass_emitted, break_emitted, continue_emitted, join_open, SuiteSuits, ArmsSuit, LoopSuits, GivesResult, setting_of, BoolType, ℕ, Around, always, around_by}
 use Rattle.ir_builder_statements.proofs.SuiteLemmas.{suite_step, arms_step, loop_suits, loop_body, loop_means, if_suits, return_suits, break_suits, continue_suits, none_left}
-use Rattle.ir_builder_statements.proofs.BodyLemmas.{on_ok_both, return_made, condition_type, four_keep, join_keeps, arm_blocks, loop_blocks, kinds_among, kinds_always, kinds_returned, if_kinds, loop_kinds}
-use Rattle.std.proofs.Common.{ℕ}
-use Rattle.ir_builder_expressions.specs.Lined.{Around}
-use Rattle.ir_builder_expressions.proofs.LinedLemmas.{always, around_by}
-use Rattle.ir_builder_statements.proofs.LinedLemmas.{pieces_join, body_piece, suite_start, suite_next, suite_over, statement_code, suite_code, pieces_of_arms, arms_start, arms_next, arms_over, arm_around, alone_lined, assign_lined, update_lined, return_lined, break_lined, continue_lined, pass_lined, if_lined, loop_lined}
+use Rattle.ir_builder_statements.proofs.BodyLemmas.{on_ok_both, return_made, returns_given, gives_on, condition_type}
+use Rattle.ir_builder_statements.proofs.LinedLemmas.{pieces_join, body_piece, suite_next, suite_over, suite_code, arms_next, arms_over, arm_around, alone_lined, assign_lined, update_lined, return_lined, break_lined, continue_lined, pass_lined, if_lined, loop_lined}
 use Rattle.ir_builder_statements.proofs.statement.+statement.Goals as goal
 
 -- ---- rows
 
 pub emit_block-loop-s-init : goal.emit_block-loop-s-init
-emit_block-loop-s-init t c =
-    let x : Setting = setting_of c.args.site in
-    record {
-      so_far = λ end zs e. e;
-      kept = extends_refl c.args.b.now;
-      suits = c.requires.suits;
-      room = c.requires.room;
-      shaped = λ n m low up s. s;
-      kinds = λ g around h. h;
-      lined = suite_start x (typed_suite c.args.body.now) c.args.b.now;
-    }
+emit_block-loop-s-init t c = record {
+  so_far = λ end zs e. e;
+  kept = extends_refl c.args.b.now;
+  suits = c.requires.suits;
+  room = c.requires.room;
+  result = c.requires.result;
+  lined = record { make = λ end h. h };
+}
 
 pub emit_block-loop-s-preserved : goal.emit_block-loop-s-preserved
 emit_block-loop-s-preserved t c =
@@ -34,15 +26,13 @@ emit_block-loop-s-preserved t c =
       kept = extends_trans _ _ _ i.kept k.kept;
       suits = (suite_step x.source x.variables (option_map sort (option_copied c.args.gives)) c.args.looping c.args.body.now c.loop-s.s-index c.s-item.result c.loop-s-test.true c.s-item.is i.suits).1;
       room = room_on x _ _ k.kept i.room;
-      shaped = keeps_both c.args.b.now c.loop-s.b c.emit_statement.new.b i.kept.regs_grow k.kept.blocks_grow i.shaped k.shaped;
-      kinds = λ g around h. k.kinds g around (i.kinds g around h);
-      lined = suite_next x c.args.body.now c.loop-s.s-index c.s-item.result c.args.b.now c.loop-s.b _ c.loop-s-test.true c.s-item.is i.lined (statement_code x _ _ (typed_stmt c.s-item.result) _ _ _ _ k.emitted) k.lined;
+      result = gives_on (option_map sort (option_copied c.args.gives)) _ _ k.kept i.result;
+      lined = suite_next x c.args.body.now c.loop-s.s-index c.s-item.result c.args.b.now c.loop-s.b _ c.loop-s-test.true c.s-item.is i.lined (option_map sort (option_copied c.args.gives), k.emitted.mine, k.emitted.works) k.lined;
     }
 
 pub emit_block-returns-clause-emitted : goal.emit_block-returns-clause-emitted
 emit_block-returns-clause-emitted t c =
-    let x : Setting = setting_of c.args.site in
-    c.loop-s.invariant.so_far _ _ (nothing_emitted x (option_map sort (option_copied c.args.gives)) c.args.looping c.args.body.now c.loop-s.s-index _ _ c.loop-s-test.false)
+    c.loop-s.invariant.so_far _ _ (nothing_emitted (setting_of c.args.site) (option_map sort (option_copied c.args.gives)) c.args.looping c.args.body.now c.loop-s.s-index _ _ c.loop-s-test.false)
 
 -- ---- statements
 
@@ -54,20 +44,22 @@ emit_statement-emit_if-requires t c =
     let other_suits : SuiteSuits x.source x.variables (option_map sort (option_copied c.args.gives)) c.args.looping (typed_suite c.as_slice-other.result.now) = k.1 in
     search (rules, the_lemmas)
 
+pub emit_statement-emit_return-requires-clause-result : goal.emit_statement-emit_return-requires-clause-result
+emit_statement-emit_return-requires-clause-result t c =
+    let x : Setting = setting_of c.args.site in
+    returns_given x.source x.variables (option_map sort (option_copied c.args.gives)) (maybe_typed c.in-Return.value) c.args.b.now.among (return_suits x.source x.variables (option_map sort (option_copied c.args.gives)) c.args.looping c.args.s.now c.requires.suits c.in-Return.value c.in-Return.is) c.requires.result
+
 pub emit_statement-returns-in-Expr-clause-emitted : goal.emit_statement-returns-in-Expr-clause-emitted
 emit_statement-returns-in-Expr-clause-emitted t c =
-    let x : Setting = setting_of c.args.site in
-    on_ok_map _ _ _ (alone_emitted x (option_map sort (option_copied c.args.gives)) c.args.looping c.args.s.now c.in-Expr.e _ _ _ c.in-Expr.is) c.emit_alone.ensures.works
+    on_ok_map _ _ _ (alone_emitted (setting_of c.args.site) (option_map sort (option_copied c.args.gives)) c.args.looping c.args.s.now c.in-Expr.e _ _ _ c.in-Expr.is) c.emit_alone.ensures.works
 
 pub emit_statement-returns-in-Assign-clause-emitted : goal.emit_statement-returns-in-Assign-clause-emitted
 emit_statement-returns-in-Assign-clause-emitted t c =
-    let x : Setting = setting_of c.args.site in
-    on_ok_map _ _ _ (assignment_emitted x (option_map sort (option_copied c.args.gives)) c.args.looping c.args.s.now c.as_slice-targets.result.now c.in-Assign.targets c.in-Assign.e _ _ _ c.in-Assign.is c.as_slice-targets.ensures) c.emit_assignment.ensures.works
+    on_ok_map _ _ _ (assignment_emitted (setting_of c.args.site) (option_map sort (option_copied c.args.gives)) c.args.looping c.args.s.now c.as_slice-targets.result.now c.in-Assign.targets c.in-Assign.e _ _ _ c.in-Assign.is c.as_slice-targets.ensures) c.emit_assignment.ensures.works
 
 pub emit_statement-returns-in-Aug-clause-emitted : goal.emit_statement-returns-in-Aug-clause-emitted
 emit_statement-returns-in-Aug-clause-emitted t c =
-    let x : Setting = setting_of c.args.site in
-    on_ok_map _ _ _ (update_emitted x (option_map sort (option_copied c.args.gives)) c.args.looping c.args.s.now c.in-Aug.target c.in-Aug.op c.in-Aug.e _ _ _ _ c.in-Aug.is) c.emit_update.ensures.works
+    on_ok_map _ _ _ (update_emitted (setting_of c.args.site) (option_map sort (option_copied c.args.gives)) c.args.looping c.args.s.now c.in-Aug.target c.in-Aug.op c.in-Aug.e _ _ _ _ c.in-Aug.is) c.emit_update.ensures.works
 
 pub emit_statement-returns-in-Return-clause-emitted : goal.emit_statement-returns-in-Return-clause-emitted
 emit_statement-returns-in-Return-clause-emitted t c =
@@ -86,49 +78,17 @@ emit_statement-returns-in-Continue-clause-emitted t c =
 
 pub emit_statement-returns-in-Pass-clause-emitted : goal.emit_statement-returns-in-Pass-clause-emitted
 emit_statement-returns-in-Pass-clause-emitted t c =
-    let x : Setting = setting_of c.args.site in
-    pass_emitted x (option_map sort (option_copied c.args.gives)) c.args.looping c.args.s.now c.args.b.now c.args.exits.now.items c.in-Pass.is
-
--- ---- what keeps that operations fit their registers
-
-pub emit_statement-returns-in-Expr-clause-kinds : goal.emit_statement-returns-in-Expr-clause-kinds
-emit_statement-returns-in-Expr-clause-kinds t c =
-    kinds_among _ (typed_module c.args.site.checked.now) (option_map sort (option_copied c.args.gives)) _ _ c.emit_alone.ensures.kinds
-
-pub emit_statement-returns-in-Assign-clause-kinds : goal.emit_statement-returns-in-Assign-clause-kinds
-emit_statement-returns-in-Assign-clause-kinds t c =
-    kinds_among _ (typed_module c.args.site.checked.now) (option_map sort (option_copied c.args.gives)) _ _ c.emit_assignment.ensures.kinds
-
-pub emit_statement-returns-in-Aug-clause-kinds : goal.emit_statement-returns-in-Aug-clause-kinds
-emit_statement-returns-in-Aug-clause-kinds t c =
-    kinds_among _ (typed_module c.args.site.checked.now) (option_map sort (option_copied c.args.gives)) _ _ c.emit_update.ensures.kinds
-
-pub emit_statement-returns-in-Return-clause-kinds : goal.emit_statement-returns-in-Return-clause-kinds
-emit_statement-returns-in-Return-clause-kinds t c =
-    let x : Setting = setting_of c.args.site in
-    kinds_returned _ x.source x.variables (option_map sort (option_copied c.args.gives)) (maybe_typed c.in-Return.value) _ _ (return_suits x.source x.variables (option_map sort (option_copied c.args.gives)) c.args.looping c.args.s.now c.requires.suits c.in-Return.value c.in-Return.is) c.emit_return.ensures.kinds
-
-pub emit_statement-returns-in-Break-clause-kinds : goal.emit_statement-returns-in-Break-clause-kinds
-emit_statement-returns-in-Break-clause-kinds t c =
-    kinds_always _ (typed_module c.args.site.checked.now) (option_map sort (option_copied c.args.gives)) _ _ c.leave_by.ensures.kinds
-
-pub emit_statement-returns-in-Continue-clause-kinds : goal.emit_statement-returns-in-Continue-clause-kinds
-emit_statement-returns-in-Continue-clause-kinds t c =
-    kinds_always _ (typed_module c.args.site.checked.now) (option_map sort (option_copied c.args.gives)) _ _ c.leave_by-in-Continue.ensures.kinds
+    pass_emitted (setting_of c.args.site) (option_map sort (option_copied c.args.gives)) c.args.looping c.args.s.now c.args.b.now c.args.exits.now.items c.in-Pass.is
 
 -- ---- `if`
 
 pub emit_arms-loop-e-init : goal.emit_arms-loop-e-init
-emit_arms-loop-e-init t c =
-    let x : Setting = setting_of c.args.site in
-    record {
-      so_far = nothing_tested x (option_map sort (option_copied c.args.gives)) c.args.looping c.args.arms.now c.args.b.now c.args.exits.now.items c.requires.none;
-      suits = c.requires.suits;
-      room = c.requires.room;
-      shaped = λ n m low up s. s;
-      kinds = λ g around h. h;
-      lined = λ k. arms_start x k (pieces_of_arms c.args.arms.now) c.args.b.now;
-    }
+emit_arms-loop-e-init t c = record {
+  so_far = nothing_tested (setting_of c.args.site) (option_map sort (option_copied c.args.gives)) c.args.looping c.args.arms.now c.args.b.now c.args.exits.now.items c.requires.none;
+  suits = c.requires.suits;
+  room = c.requires.room;
+  lined = λ k. record { make = λ end h. h };
+}
 
 pub emit_arms-emit_block-requires : goal.emit_arms-emit_block-requires
 emit_arms-emit_block-requires t c =
@@ -136,7 +96,14 @@ emit_arms-emit_block-requires t c =
     let k = arms_step x.source x.variables (option_map sort (option_copied c.args.gives)) c.args.looping c.args.arms.now c.loop-e.e-index c.loop-e-item.result c.as_slice-body.result.now c.loop-e-test.true c.loop-e-item.is c.as_slice-body.ensures c.loop-e.invariant.suits in
     let suits : SuiteSuits x.source x.variables (option_map sort (option_copied c.args.gives)) c.args.looping (typed_suite c.as_slice-body.result.now) = k.1 in
     let room : HasRoom x c.emit_split.new.b = room_on x _ _ c.in_ok-test.ensures.kept c.loop-e.invariant.room in
+    let result : GivesResult (option_map sort (option_copied c.args.gives)) c.emit_split.new.b.among = gives_on (option_map sort (option_copied c.args.gives)) _ _ (extends_trans _ _ _ c.loop-e.invariant.so_far.extends c.in_ok-test.ensures.kept) c.requires.result in
     search (rules, the_lemmas)
+
+pub emit_arms-end_arm-requires-clause-flag : goal.emit_arms-end_arm-requires-clause-flag
+emit_arms-end_arm-requires-clause-flag t c =
+    let x : Setting = setting_of c.args.site in
+    let step = arms_step x.source x.variables (option_map sort (option_copied c.args.gives)) c.args.looping c.args.arms.now c.loop-e.e-index c.loop-e-item.result c.as_slice-body.result.now c.loop-e-test.true c.loop-e-item.is c.as_slice-body.ensures c.loop-e.invariant.suits in
+    condition_type x (option_map sort (option_copied c.args.gives)) (typed_expr c.loop-e-item.result.0) c.loop-e.b c.emit_split.new.b c.emit_block.new.b c.in_ok-test.test step.0 c.in_ok-test.ensures.splits c.in_ok-emit_block.ensures.kept
 
 pub emit_arms-returns-in_err-emit_block-clause-kept : goal.emit_arms-returns-in_err-emit_block-clause-kept
 emit_arms-returns-in_err-emit_block-clause-kept t c =
@@ -160,8 +127,6 @@ emit_arms-loop-e-preserved t c =
       so_far = all;
       suits = step.2;
       room = room_on x _ _ all.extends c.requires.room;
-      shaped = four_keep c.args.b.now c.loop-e.b c.emit_split.new.b c.emit_block.new.b c.end_arm.new.b i.so_far.extends p.kept q.kept (arm_blocks _ _ _ _ _ e.ends) i.shaped p.shaped q.shaped e.shaped;
-      kinds = λ g around h. e.kinds g (condition_type x (option_map sort (option_copied c.args.gives)) (typed_expr a.0) c.loop-e.b c.emit_split.new.b c.emit_block.new.b c.in_ok-test.test step.0 p.splits q.kept) (q.kinds g around (p.kinds g around.among (i.kinds g around h)));
       lined = λ l. arms_next x l c.args.arms.now c.loop-e.e-index a c.as_slice-body.result.now c.args.b.now c.loop-e.b c.emit_split.new.b c.emit_block.new.b c.end_arm.new.b c.loop-e-test.true c.loop-e-item.is c.as_slice-body.ensures (i.lined l) (p.lined l) (suite_code x _ _ (typed_suite c.as_slice-body.result.now) _ _ _ _ q.emitted) q.lined (arm_around x l (typed_expr a.0) c.loop-e.b c.emit_split.new.b c.emit_block.new.b c.end_arm.new.b c.in_ok-test.test _ _ p.splits q.kept e.ends (e.lined l));
     }
 
@@ -169,37 +134,25 @@ pub emit_if-emit_block-requires : goal.emit_if-emit_block-requires
 emit_if-emit_block-requires t c =
     let x : Setting = setting_of c.args.site in
     let room : HasRoom x c.emit_arms.new.b = room_on x _ _ c.in_ok-emit_arms.ensures.kept c.requires.room in
+    let result : GivesResult (option_map sort (option_copied c.args.gives)) c.emit_arms.new.b.among = gives_on (option_map sort (option_copied c.args.gives)) _ _ c.in_ok-emit_arms.ensures.kept c.requires.result in
     search (rules, the_lemmas)
 
 pub emit_if-join-requires : goal.emit_if-join-requires
 emit_if-join-requires t c =
+    record { opens = join_open (setting_of c.args.site) (option_map sort (option_copied c.args.gives)) c.args.looping c.args.arms.now c.args.other.now _ _ _ _ _ c.deref.result.now c.in_ok-emit_arms.ensures.tested c.in_ok-emit_block.ensures.emitted c.deref.ensures.value }
+
+pub emit_if-returns : goal.emit_if-returns
+emit_if-returns t c =
     let x : Setting = setting_of c.args.site in
-    record { opens = join_open x (option_map sort (option_copied c.args.gives)) c.args.looping c.args.arms.now c.args.other.now _ _ _ _ _ c.deref.result.now c.in_ok-emit_arms.ensures.tested c.in_ok-emit_block.ensures.emitted c.deref.ensures.value }
-
-pub emit_if-returns-clause-emitted : goal.emit_if-returns-clause-emitted
-emit_if-returns-clause-emitted t c =
-    let x : Setting = setting_of c.args.site in
-    on_ok_map _ _ _ (if_emitted x (option_map sort (option_copied c.args.gives)) c.args.looping c.args.arms.now c.args.other.now _ _ _ _ _ c.deref.result.now c.in_ok-emit_arms.ensures.tested c.in_ok-emit_block.ensures.emitted c.deref.ensures.value c.args.s.now _ _ _ c.requires.is) c.join.ensures.joins
-
-pub emit_if-returns-clause-kept : goal.emit_if-returns-clause-kept
-emit_if-returns-clause-kept t c =
-    let x : Setting = setting_of c.args.site in
-    either_way c.join.result _ _ _
-    (λ j. (if_emitted x (option_map sort (option_copied c.args.gives)) c.args.looping c.args.arms.now c.args.other.now c.args.b.now c.emit_arms.new.b c.emit_block.new.b _ _ c.deref.result.now c.in_ok-emit_arms.ensures.tested c.in_ok-emit_block.ensures.emitted c.deref.ensures.value c.args.s.now c.join.new.b c.args.exits.now.items c.join.new.exits.items c.requires.is j).works.extends)
-    (λ k. extends_trans _ _ _ c.in_ok-emit_arms.ensures.kept (extends_trans _ _ _ c.in_ok-emit_block.ensures.kept k))
-    c.join.ensures.joins c.join.ensures.kept
-
-pub emit_if-returns-clause-shaped : goal.emit_if-returns-clause-shaped
-emit_if-returns-clause-shaped t c =
-    on_ok_both _ _ _ _
-    (join_keeps c.args.b.now c.emit_arms.new.b c.emit_block.new.b c.join.new.b _ _ _ c.in_ok-emit_arms.ensures.kept c.in_ok-emit_block.ensures.kept c.in_ok-emit_arms.ensures.shaped c.in_ok-emit_block.ensures.shaped)
-    c.join.ensures.joins c.join.ensures.shaped
-
-pub emit_if-returns-clause-kinds : goal.emit_if-returns-clause-kinds
-emit_if-returns-clause-kinds t c =
-    on_ok_map _ _ _
-    (if_kinds (typed_module c.args.site.checked.now) (option_map sort (option_copied c.args.gives)) c.args.b.now c.emit_arms.new.b c.emit_block.new.b c.join.new.b c.in_ok-emit_arms.ensures.kinds c.in_ok-emit_block.ensures.kinds)
-    c.join.ensures.kinds
+    let s = c.args.s.now in
+    let arms = c.in_ok-emit_arms.ensures in
+    let other = c.in_ok-emit_block.ensures in
+    let made = if_emitted x (option_map sort (option_copied c.args.gives)) c.args.looping c.args.arms.now c.args.other.now c.args.b.now c.emit_arms.new.b c.emit_block.new.b _ _ c.deref.result.now arms.tested other.emitted c.deref.ensures.value s c.join.new.b c.args.exits.now.items c.join.new.exits.items c.requires.is in
+    record {
+      kept = either_way c.join.result _ _ _ (λ j. (made j).works.extends) (λ k. extends_trans _ _ _ arms.kept (extends_trans _ _ _ other.kept k)) c.join.ensures.joins c.join.ensures.kept;
+      emitted = on_ok_map _ _ _ made c.join.ensures.joins;
+      lined = on_ok_map _ _ _ (λ (end : (l : ℕ) → Around l c.emit_block.new.b c.join.new.b). if_lined x s _ _ c.args.arms.now c.args.other.now c.requires.is (pieces_join (arms.lined s.line) (body_piece x s.line (typed_suite c.args.other.now) _ _ _ (suite_code x _ _ (typed_suite c.args.other.now) _ _ _ _ other.emitted) other.lined (end s.line)))) c.join.ensures.lined;
+    }
 
 -- ---- loops
 
@@ -226,13 +179,13 @@ emit_loop-emit_block-requires t c =
     let x : Setting = setting_of c.args.site in
     let suits : SuiteSuits x.source x.variables (option_map sort (option_copied c.args.gives)) true (typed_suite c.args.body.now) = loop_body x (option_map sort (option_copied c.args.gives)) (typed_stmt c.args.s.now) (typed_suite c.args.body.now) c.requires.suits in
     let room : HasRoom x c.begin_loop.new.b = room_on x _ _ c.in_ok-start.ensures.kept c.requires.room in
+    let result : GivesResult (option_map sort (option_copied c.args.gives)) c.begin_loop.new.b.among = gives_on (option_map sort (option_copied c.args.gives)) _ _ c.in_ok-start.ensures.kept c.requires.result in
     search (rules, the_lemmas)
 
 pub emit_loop-end_loop-requires : goal.emit_loop-end_loop-requires
 emit_loop-end_loop-requires t c =
-    let x : Setting = setting_of c.args.site in
     let g = c.in_ok-start.ensures.begins in
-    let k = loop_open x (option_map sort (option_copied c.args.gives)) _ _ _ _ _ _ c.in_ok-start.start c.in_ok-next.next _ _ c.deref.result.now g c.new-inner.ensures.items c.in_ok-emit_block.ensures.emitted c.in_ok-next.ensures.number c.in_ok-next.ensures.closed c.deref.ensures.value in
+    let k = loop_open (setting_of c.args.site) (option_map sort (option_copied c.args.gives)) _ _ _ _ _ _ c.in_ok-start.start c.in_ok-next.next _ _ c.deref.result.now g c.new-inner.ensures.items c.in_ok-emit_block.ensures.emitted c.in_ok-next.ensures.number c.in_ok-next.ensures.closed c.deref.ensures.value in
     record {
       head = (g.head.0, k.0);
       «open» = k.1;
@@ -240,94 +193,57 @@ emit_loop-end_loop-requires t c =
       here = k.2;
       next = rw c.in_ok-next.ensures.number (le_refl _);
       opens = k.3;
+      flag = type_kept c.begin_loop.new.b c.step_on.new.self c.in_ok-start.start.test.condition.0 BoolType (extends_trans _ _ _ c.in_ok-emit_block.ensures.kept c.in_ok-next.ensures.kept) g.type;
     }
 
-pub emit_loop-returns-clause-emitted : goal.emit_loop-returns-clause-emitted
-emit_loop-returns-clause-emitted t c =
+pub emit_loop-returns : goal.emit_loop-returns
+emit_loop-returns t c =
     let x : Setting = setting_of c.args.site in
-    on_ok_map _ _ _ (loop_emitted x (option_map sort (option_copied c.args.gives)) c.args.looping (means_loop x (typed_stmt c.args.s.now)) (means_suite x (typed_suite c.args.body.now)) _ _ _ _ _ _ c.in_ok-start.start c.in_ok-next.next _ _ _ _ c.deref.result.now (loop_means x (option_map sort (option_copied c.args.gives)) (typed_stmt c.args.s.now) (typed_suite c.args.body.now) c.requires.suits) c.in_ok-start.ensures.begins c.new-inner.ensures.items c.in_ok-emit_block.ensures.emitted c.in_ok-next.ensures.number c.in_ok-next.ensures.closed c.deref.ensures.value) c.end_loop.ensures.ends
-
-pub emit_loop-returns-clause-kept : goal.emit_loop-returns-clause-kept
-emit_loop-returns-clause-kept t c =
-    let x : Setting = setting_of c.args.site in
-    either_way c.end_loop.result _ _ _
-    (λ l. (loop_emitted x (option_map sort (option_copied c.args.gives)) c.args.looping (means_loop x (typed_stmt c.args.s.now)) (means_suite x (typed_suite c.args.body.now)) (means_statement x (typed_stmt c.args.s.now)) c.args.b.now c.begin_loop.new.b c.emit_block.new.b c.step_on.new.self c.end_loop.new.b c.in_ok-start.start c.in_ok-next.next c.args.exits.now.items c.end_loop.new.exits.items _ _ c.deref.result.now (loop_means x (option_map sort (option_copied c.args.gives)) (typed_stmt c.args.s.now) (typed_suite c.args.body.now) c.requires.suits) c.in_ok-start.ensures.begins c.new-inner.ensures.items c.in_ok-emit_block.ensures.emitted c.in_ok-next.ensures.number c.in_ok-next.ensures.closed c.deref.ensures.value l).works.extends)
-    (λ k. extends_trans _ _ _ c.in_ok-start.ensures.kept (extends_trans _ _ _ c.in_ok-emit_block.ensures.kept (extends_trans _ _ _ c.in_ok-next.ensures.kept k)))
-    c.end_loop.ensures.ends c.end_loop.ensures.kept
-
-pub emit_loop-returns-clause-shaped : goal.emit_loop-returns-clause-shaped
-emit_loop-returns-clause-shaped t c =
-    on_ok_both _ _ _ _
-    (λ l. four_keep c.args.b.now c.begin_loop.new.b c.emit_block.new.b c.step_on.new.self c.end_loop.new.b c.in_ok-start.ensures.kept c.in_ok-emit_block.ensures.kept c.in_ok-next.ensures.kept (loop_blocks c.step_on.new.self c.end_loop.new.b c.in_ok-start.start c.in_ok-next.next c.deref.result.now c.args.exits.now.items c.end_loop.new.exits.items l) c.in_ok-start.ensures.shaped c.in_ok-emit_block.ensures.shaped c.in_ok-next.ensures.shaped)
-    c.end_loop.ensures.ends c.end_loop.ensures.shaped
-
-pub emit_loop-returns-clause-kinds : goal.emit_loop-returns-clause-kinds
-emit_loop-returns-clause-kinds t c =
-    let x : Setting = setting_of c.args.site in
-    let r = c.in_ok-start.start.test.condition in
-    on_ok_map _ _ _
-    (loop_kinds x.source (option_map sort (option_copied c.args.gives)) c.args.b.now c.begin_loop.new.b c.emit_block.new.b c.step_on.new.self c.end_loop.new.b r c.in_ok-start.ensures.kinds c.in_ok-emit_block.ensures.kinds c.in_ok-next.ensures.kinds (type_kept c.begin_loop.new.b c.step_on.new.self r.0 Bool (extends_trans _ _ _ c.in_ok-emit_block.ensures.kept c.in_ok-next.ensures.kept) c.in_ok-start.ensures.begins.type))
-    c.end_loop.ensures.kinds
+    let s = c.args.s.now in
+    let ss = typed_suite c.args.body.now in
+    let start = c.in_ok-start.ensures in
+    let inside = c.in_ok-emit_block.ensures in
+    let next = c.in_ok-next.ensures in
+    let made = loop_emitted x (option_map sort (option_copied c.args.gives)) c.args.looping (means_loop x (typed_stmt s)) (means_suite x ss) (means_statement x (typed_stmt s)) c.args.b.now c.begin_loop.new.b c.emit_block.new.b c.step_on.new.self c.end_loop.new.b c.in_ok-start.start c.in_ok-next.next c.args.exits.now.items c.end_loop.new.exits.items _ _ c.deref.result.now (loop_means x (option_map sort (option_copied c.args.gives)) (typed_stmt s) ss c.requires.suits) start.begins c.new-inner.ensures.items inside.emitted next.number next.closed c.deref.ensures.value in
+    record {
+      kept = either_way c.end_loop.result _ _ _ (λ l. (made l).works.extends) (λ k. extends_trans _ _ _ start.kept (extends_trans _ _ _ inside.kept (extends_trans _ _ _ next.kept k))) c.end_loop.ensures.ends c.end_loop.ensures.kept;
+      emitted = on_ok_map _ _ _ made c.end_loop.ensures.ends;
+      lined = on_ok_map _ _ _ (λ (end : Around s.line c.step_on.new.self c.end_loop.new.b). loop_lined x (option_map sort (option_copied c.args.gives)) s ss _ _ _ _ _ c.requires.suits (start.lined s.line) (suite_code x _ _ ss _ _ _ _ inside.emitted) inside.lined (around_by s.line _ _ next.kept (next.lined s.line)) end) c.end_loop.ensures.lined;
+    }
 
 -- ---- the lines
 
 pub emit_block-returns-clause-lined : goal.emit_block-returns-clause-lined
 emit_block-returns-clause-lined t c =
-    let x : Setting = setting_of c.args.site in
-    suite_over x c.args.body.now c.loop-s.s-index c.args.b.now c.loop-s.b c.loop-s-test.false c.loop-s.invariant.lined
+    suite_over (setting_of c.args.site) c.args.body.now c.loop-s.s-index c.args.b.now c.loop-s.b c.loop-s-test.false c.loop-s.invariant.lined
 
 pub emit_statement-returns-in-Expr-clause-lined : goal.emit_statement-returns-in-Expr-clause-lined
 emit_statement-returns-in-Expr-clause-lined t c =
-    let x : Setting = setting_of c.args.site in
-    on_ok_both _ _ _ _ (alone_lined x c.args.s.now _ _ c.in-Expr.e c.in-Expr.is) c.emit_alone.ensures.works c.emit_alone.ensures.lined
+    on_ok_both _ _ _ _ (alone_lined (setting_of c.args.site) c.args.s.now _ _ c.in-Expr.e c.in-Expr.is) c.emit_alone.ensures.works c.emit_alone.ensures.lined
 
 pub emit_statement-returns-in-Assign-clause-lined : goal.emit_statement-returns-in-Assign-clause-lined
 emit_statement-returns-in-Assign-clause-lined t c =
-    let x : Setting = setting_of c.args.site in
-    on_ok_map _ _ _ (assign_lined x c.args.s.now _ _ c.in-Assign.targets c.in-Assign.e c.in-Assign.is) c.emit_assignment.ensures.lined
+    on_ok_map _ _ _ (assign_lined (setting_of c.args.site) c.args.s.now _ _ c.in-Assign.targets c.in-Assign.e c.in-Assign.is) c.emit_assignment.ensures.lined
 
 pub emit_statement-returns-in-Aug-clause-lined : goal.emit_statement-returns-in-Aug-clause-lined
 emit_statement-returns-in-Aug-clause-lined t c =
-    let x : Setting = setting_of c.args.site in
-    on_ok_map _ _ _ (update_lined x c.args.s.now _ _ c.in-Aug.target c.in-Aug.op c.in-Aug.e _ c.in-Aug.is) c.emit_update.ensures.lined
+    on_ok_map _ _ _ (update_lined (setting_of c.args.site) c.args.s.now _ _ c.in-Aug.target c.in-Aug.op c.in-Aug.e _ c.in-Aug.is) c.emit_update.ensures.lined
 
 pub emit_statement-returns-in-Return-clause-lined : goal.emit_statement-returns-in-Return-clause-lined
 emit_statement-returns-in-Return-clause-lined t c =
-    let x : Setting = setting_of c.args.site in
-    on_ok_map _ _ _ (return_lined x c.args.s.now _ _ c.in-Return.value c.in-Return.is) c.emit_return.ensures.lined
+    on_ok_map _ _ _ (return_lined (setting_of c.args.site) c.args.s.now _ _ c.in-Return.value c.in-Return.is) c.emit_return.ensures.lined
 
 pub emit_statement-returns-in-Break-clause-lined : goal.emit_statement-returns-in-Break-clause-lined
 emit_statement-returns-in-Break-clause-lined t c =
-    let x : Setting = setting_of c.args.site in
-    always _ _ (break_lined x c.args.s.now _ _ c.in-Break.is (around_by c.args.s.now.line _ _ c.leave_by.ensures.kept (c.leave_by.ensures.lined c.args.s.now.line)))
+    always _ _ (break_lined (setting_of c.args.site) c.args.s.now _ _ c.in-Break.is (around_by c.args.s.now.line _ _ c.leave_by.ensures.kept (c.leave_by.ensures.lined c.args.s.now.line)))
 
 pub emit_statement-returns-in-Continue-clause-lined : goal.emit_statement-returns-in-Continue-clause-lined
 emit_statement-returns-in-Continue-clause-lined t c =
-    let x : Setting = setting_of c.args.site in
-    always _ _ (continue_lined x c.args.s.now _ _ c.in-Continue.is (around_by c.args.s.now.line _ _ c.leave_by-in-Continue.ensures.kept (c.leave_by-in-Continue.ensures.lined c.args.s.now.line)))
+    always _ _ (continue_lined (setting_of c.args.site) c.args.s.now _ _ c.in-Continue.is (around_by c.args.s.now.line _ _ c.leave_by-in-Continue.ensures.kept (c.leave_by-in-Continue.ensures.lined c.args.s.now.line)))
 
 pub emit_statement-returns-in-Pass-clause-lined : goal.emit_statement-returns-in-Pass-clause-lined
 emit_statement-returns-in-Pass-clause-lined t c = pass_lined (setting_of c.args.site) c.args.s.now c.args.b.now c.in-Pass.is
 
 pub emit_arms-returns-clause-lined : goal.emit_arms-returns-clause-lined
 emit_arms-returns-clause-lined t c l =
-    let x : Setting = setting_of c.args.site in
-    arms_over x l c.args.arms.now c.loop-e.e-index c.args.b.now c.loop-e.b c.loop-e-test.false (c.loop-e.invariant.lined l)
-
-pub emit_if-returns-clause-lined : goal.emit_if-returns-clause-lined
-emit_if-returns-clause-lined t c =
-    let x : Setting = setting_of c.args.site in
-    let s = c.args.s.now in
-    let other = c.in_ok-emit_block.ensures in
-    on_ok_map _ _ _
-    (λ (end : (l : ℕ) → Around l c.emit_block.new.b c.join.new.b). if_lined x s _ _ c.args.arms.now c.args.other.now c.requires.is (pieces_join (c.in_ok-emit_arms.ensures.lined s.line) (body_piece x s.line (typed_suite c.args.other.now) _ _ _ (suite_code x _ _ (typed_suite c.args.other.now) _ _ _ _ other.emitted) other.lined (end s.line))))
-    c.join.ensures.lined
-
-pub emit_loop-returns-clause-lined : goal.emit_loop-returns-clause-lined
-emit_loop-returns-clause-lined t c =
-    let x : Setting = setting_of c.args.site in
-    let s = c.args.s.now in
-    let inside = c.in_ok-emit_block.ensures in
-    on_ok_map _ _ _
-    (λ (end : Around s.line c.step_on.new.self c.end_loop.new.b). loop_lined x (option_map sort (option_copied c.args.gives)) s (typed_suite c.args.body.now) _ _ _ _ _ c.requires.suits (c.in_ok-start.ensures.lined s.line) (suite_code x _ _ (typed_suite c.args.body.now) _ _ _ _ inside.emitted) inside.lined (around_by s.line _ _ c.in_ok-next.ensures.kept (c.in_ok-next.ensures.lined s.line)) end)
-    c.end_loop.ensures.lined
+    arms_over (setting_of c.args.site) l c.args.arms.now c.loop-e.e-index c.args.b.now c.loop-e.b c.loop-e-test.false (c.loop-e.invariant.lined l)

@@ -1,9 +1,7 @@
-use Rattle.ir_builder_expressions.specs.Site.{setting_of}
-use Rattle.ir_builder_statements.proofs.Common.{option_map, option_copied, sort, ◌+◌, ◌*◌, max, List, map, drop, size-TStmt, typed_module, typed_suite, typed_arm, arms_of, variable, Building, Extends, Exit, HasRoom, Keeps, KeepsKindsIf, means_suite, Emitted, SuiteSuits, ArmsSuit, IsAround}
+use Rattle.ir_builder_statements.proofs.Common.{option_map, option_copied, sort, ◌+◌, ◌*◌, max, List, map, drop, size-TStmt, typed_module, typed_suite, typed_arm, arms_of, variable, Building, Extends, Exit, HasRoom, means_suite, Emitted, SuiteSuits, ArmsSuit, GivesResult, setting_of, ℕ}
 use denote.Param.Weighed.{most}
 use Rattle.ir_builder_loops_and_jumps.specs.Tested.{Tested}
 use Rattle.ir_builder_statements.proofs.SizeLemmas.{arm_size}
-use Rattle.std.proofs.Common.{ℕ}
 use Rattle.ir_builder_statements.proofs.LinedLemmas.{SuiteRest, PiecesRest, pieces_of_arms}
 use Rattle.ir_builder_statements.proofs.statement.+statement.Given as goal
 
@@ -28,8 +26,7 @@ invariant-emit_block-loop-s l = record {
   kept : Extends l.fn.b l.b;
   suits : SuiteSuits (typed_module l.site.checked.now) (map variable l.site.locals.now) (option_map sort (option_copied l.gives)) l.looping (typed_suite (drop l.s-index l.body));
   room : HasRoom (setting_of l.site) l.b;
-  shaped : Keeps l.fn.b l.b;
-  kinds : KeepsKindsIf (IsAround (typed_module l.site.checked.now) (option_map sort (option_copied l.gives))) l.fn.b l.b;
+  result : GivesResult (option_map sort (option_copied l.gives)) l.b.among;
   lined : SuiteRest (setting_of l.site) (typed_suite l.body) (typed_suite (drop l.s-index l.body)) l.fn.b l.b;
 }
 
@@ -38,7 +35,5 @@ invariant-emit_arms-loop-e l = record {
   so_far : Tested (setting_of l.site) (option_map sort (option_copied l.gives)) l.looping (drop l.e-index l.arms) l.arms l.fn.b l.b l.exits.items;
   suits : ArmsSuit (typed_module l.site.checked.now) (map variable l.site.locals.now) (option_map sort (option_copied l.gives)) l.looping (arms_of (map typed_arm (drop l.e-index l.arms)));
   room : HasRoom (setting_of l.site) l.b;
-  shaped : Keeps l.fn.b l.b;
-  kinds : KeepsKindsIf (IsAround (typed_module l.site.checked.now) (option_map sort (option_copied l.gives))) l.fn.b l.b;
   lined : (k : ℕ) → PiecesRest (setting_of l.site) k (pieces_of_arms l.arms) (pieces_of_arms (drop l.e-index l.arms)) l.fn.b l.b;
 }

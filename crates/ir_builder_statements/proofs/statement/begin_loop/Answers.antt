@@ -1,15 +1,12 @@
-use Rattle.ir_builder_expressions.specs.Site.{setting_of}
-use Rattle.ir_builder_statements.proofs.Common.{Setting, room_on, LoopStart}
+use Rattle.ir_builder_statements.proofs.Common.{Setting, room_on, LoopStart, setting_of, around_by}
 use Rattle.ir_builder_statements.proofs.BodyLemmas.{while_begun}
 use Rattle.ir_builder_statements.proofs.SuiteLemmas.{while_suits}
-use Rattle.ir_builder_expressions.proofs.LinedLemmas.{around_by}
 use Rattle.ir_builder_statements.proofs.LinedLemmas.{while_head}
 use Rattle.ir_builder_statements.proofs.statement.begin_loop.Goals as goal
 
 pub emit_split-requires-clause-room : goal.emit_split-requires-clause-room
 emit_split-requires-clause-room c =
-    let x : Setting = setting_of c.args.site in
-    room_on x _ _ c.in_ok-head-in-While.ensures.kept c.requires.room
+    room_on (setting_of c.args.site) _ _ c.in_ok-head-in-While.ensures.kept c.requires.room
 
 pub returns-clause-begins : goal.returns-clause-begins
 returns-clause-begins c =
@@ -18,10 +15,6 @@ returns-clause-begins c =
     let test = while_suits x c.requires.suits.0 c.args.s.now c.in-While.e _ c.requires.suits.1 c.in-While.is c.requires.suits.2 in
     while_begun x c.args.s.now c.in-While.e _ c.args.b.now c.step_on.new.self c.emit_split.new.b o c.in-While.is c.requires.room test.0 c.in_ok-head-in-While.ensures.number c.in_ok-head-in-While.ensures.closed c.in_ok-test-in-While.ensures.splits
 
-pub returns-clause-kinds : goal.returns-clause-kinds
-returns-clause-kinds c = λ g among h. c.in_ok-test-in-While.ensures.kinds g among (c.in_ok-head-in-While.ensures.kinds g h)
-
 pub returns-clause-lined : goal.returns-clause-lined
 returns-clause-lined c l =
-    let x : Setting = setting_of c.args.site in
-    while_head x c.args.s.now c.in-While.e _ l _ _ _ c.in-While.is (around_by l _ _ c.in_ok-head-in-While.ensures.kept (c.in_ok-head-in-While.ensures.lined l)) (c.in_ok-test-in-While.ensures.lined l)
+    while_head (setting_of c.args.site) c.args.s.now c.in-While.e _ l _ _ _ c.in-While.is (around_by l _ _ c.in_ok-head-in-While.ensures.kept (c.in_ok-head-in-While.ensures.lined l)) (c.in_ok-test-in-While.ensures.lined l)
