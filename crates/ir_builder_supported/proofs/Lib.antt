@@ -2,5 +2,4 @@ pub mod FormLemmas
 pub mod SuitLemmas
 pub mod SuiteLemmas
 pub mod ModuleLemmas
-pub mod CodeLemmas
 pub mod Common

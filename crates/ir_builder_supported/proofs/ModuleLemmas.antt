@@ -1,5 +1,5 @@
 -- A well typed module all of which is compiled is one that is built.
-use Rattle.ir_builder_supported.proofs.Common.{◌≡◌, refl, sym, ◌∙◌, ap, subst, arith, ℕ, zero, suc, ◌+◌, Bool, true, false, List, [], ◌∷◌, ◌++◌, length, map, Option, Some, None, leb-true, same_Some, not, ◌&&◌, ◌||◌, nat_le, slice_get, list_any, flat_map, Suite, suite_definitions, ClassEntry, Signature, is_same_type, Variable, TypedFunc, TypedModule, init_class, is_called_in, all_differ, suite_typed, and_left, and_right, one_type, Unbuilt, lesser, least, parameter_sorts, is_scalar, is_result, unbuilt, is_none, function_form, suite_forms, are_scalars, is_function, line_or_none, function_forms, functions_forms, function_lines, class_form}
+use Rattle.ir_builder_supported.proofs.Common.{◌≡◌, refl, sym, ◌∙◌, ap, subst, arith, ℕ, zero, suc, ◌+◌, Bool, true, false, List, [], ◌∷◌, ◌++◌, length, map, Option, Some, None, leb-true, same_Some, not, ◌&&◌, nat_le, slice_get, list_any, flat_map, suite_definitions, ClassEntry, Signature, is_same_type, Variable, TypedFunc, TypedModule, init_class, is_called_in, all_differ, suite_typed, and_left, and_right, one_type, parameter_sorts, is_scalar, is_none, suite_forms, are_scalars, is_function, functions_forms, class_form}
 use Rattle.std.proofs.lemmas.List.Folds.{list_any-append}
 use Rattle.std.specs.Str.{bytes_eq}
 use Rattle.c_core.specs.WellFormed.{is_identifier, names_differ}
@@ -7,18 +7,9 @@ use Rattle.c_core.proofs.Lines.{all_at as at_each}
 use Rattle.py_typed.specs.WellTypedModule.{names_of, same_row, all_at, parameter_types, signature_fits, variables_typed, func_typed, own_name, is_well_typed}
 use Rattle.ir_builder_statements.specs.Modules.{FunctionSuits, ModuleSuits}
 use Rattle.ir_builder_supported.specs.Laws.{CompiledSuits}
-use Rattle.ir_builder_supported.proofs.SuitLemmas.{none_left, none_right, form_of, parts_of, AllScalar, AllSigned, same_sorts}
+use Rattle.ir_builder_supported.proofs.FormLemmas.{no_form, none_left, none_right, compiled}
+use Rattle.ir_builder_supported.proofs.SuitLemmas.{AllScalar, AllSigned, same_sorts}
 use Rattle.ir_builder_supported.proofs.SuiteLemmas.{suite_suits}
-
--- ---- forms
-
-still_some : (u : Unbuilt) (xs : List Unbuilt) → least (Some u) xs ≡ None → ⊥
-still_some u [] e = absurd (cc)
-still_some u (x ∷ xs) e = still_some (lesser x (Some u)) xs e
-
-no_form : (xs : List Unbuilt) → least None xs ≡ None → xs ≡ []
-no_form [] e = refl
-no_form (x ∷ xs) e = absurd (still_some (lesser x None) xs e)
 
 -- ---- names
 
@@ -26,18 +17,9 @@ one_test : (xs : List (List ℕ)) → all_differ xs ≡ names_differ xs
 one_test [] = refl
 one_test (x ∷ xs) = ap (λ b. not (list_any (bytes_eq x) xs) && b) (one_test xs)
 
-neither_left : (a b : Bool) → not (a || b) ≡ true → not a ≡ true
-neither_left false b e = refl
-neither_left true b e = e
-
-not_among : (x : List ℕ) (xs ys : List (List ℕ)) → not (is_called_in (xs ++ ys) x) ≡ true → not (is_called_in xs x) ≡ true
-not_among x xs ys e = neither_left (is_called_in xs x) (is_called_in ys x) (subst (λ b. not b ≡ true) (list_any-append (bytes_eq x) xs ys) e)
-
 differ_left : (xs ys : List (List ℕ)) → all_differ (xs ++ ys) ≡ true → all_differ xs ≡ true
 differ_left [] ys e = refl
-differ_left (x ∷ xs) ys e =
-    ap (λ b. b && all_differ xs) (not_among x xs ys (and_left (not (is_called_in (xs ++ ys) x)) (all_differ (xs ++ ys)) e))
-    ∙ differ_left xs ys (and_right (not (is_called_in (xs ++ ys) x)) (all_differ (xs ++ ys)) e)
+differ_left (x ∷ xs) ys e = grind (arith, differ_left xs ys, list_any-append (bytes_eq x) xs ys)
 
 differ_right : (xs ys : List (List ℕ)) → all_differ (xs ++ ys) ≡ true → all_differ ys ≡ true
 differ_right [] ys e = e
@@ -54,34 +36,17 @@ at_place test i (y ∷ ys) (suc k) n x is h e = at_place test (suc i) ys k n x (
 is_form_of : (globals : List Variable) (lines : List ℕ) (n : ℕ) (fs : List TypedFunc) (k : ℕ) (f : TypedFunc) → functions_forms globals lines n fs ≡ [] → slice_get fs k ≡ Some f → (is_function f ≡ true) × (suite_forms f.locals globals f.body ≡ [])
 is_form_of globals lines n [] k f p e = absurd (cc)
 is_form_of globals lines n (g ∷ more) zero f p e =
-    let here : function_forms globals (line_or_none (slice_get lines n)) g ≡ [] = none_left (function_forms globals (line_or_none (slice_get lines n)) g) (functions_forms globals lines (suc n) more) p in
-    subst (λ h. (is_function h ≡ true) × (suite_forms h.locals globals h.body ≡ [])) (same_Some g f e)
-    (form_of (is_function g) (unbuilt (line_or_none (slice_get lines n)) (function_form g)) (suite_forms g.locals globals g.body) here, parts_of (is_function g) (unbuilt (line_or_none (slice_get lines n)) (function_form g)) (suite_forms g.locals globals g.body) here)
-is_form_of globals lines n (g ∷ more) (suc k) f p e =
-    is_form_of globals lines (suc n) more k f (none_right (function_forms globals (line_or_none (slice_get lines n)) g) (functions_forms globals lines (suc n) more) p) e
+    subst (λ h. (is_function h ≡ true) × (suite_forms h.locals globals h.body ≡ [])) (same_Some g f e) (compiled (is_function g) _ _ (none_left _ _ p))
+is_form_of globals lines n (g ∷ more) (suc k) f p e = is_form_of globals lines (suc n) more k f (none_right _ _ p) e
 
 none_is : {A : Type 0} (o : Option A) → is_none o ≡ true → o ≡ None
 none_is None h = refl
 none_is (Some a) h = absurd (cc)
 
-no_method : (f : TypedFunc) → is_function f ≡ true → f.class ≡ None
-no_method f h = none_is f.class (and_left (is_none f.class) (nat_le f.params (length f.locals) && (are_scalars f.locals && is_result f.ret)) h)
-
--- the types of the parameters of a function that is no method
-own_parameters : (f : TypedFunc) → f.class ≡ None → parameter_types f ≡ parameter_sorts f
-own_parameters f h = rw h refl
-
 module _ (m : TypedModule) where
-  named : (f : TypedFunc) → f.class ≡ None → own_name is_identifier m f ≡ f.name ∷ []
-  named f h = rw h refl
-
-  all_named : (lines : List ℕ) (n : ℕ) (fs : List TypedFunc) → functions_forms m.globals lines n fs ≡ [] → flat_map (own_name is_identifier m) fs ≡ map (λ (f : TypedFunc). f.name) fs
-  all_named lines n [] p = refl
-  all_named lines n (f ∷ more) p =
-      let here : function_forms m.globals (line_or_none (slice_get lines n)) f ≡ [] = none_left (function_forms m.globals (line_or_none (slice_get lines n)) f) (functions_forms m.globals lines (suc n) more) p in
-      let own = named f (no_method f (form_of (is_function f) (unbuilt (line_or_none (slice_get lines n)) (function_form f)) (suite_forms f.locals m.globals f.body) here)) in
-      ap (λ l. l ++ flat_map (own_name is_identifier m) more) own
-      ∙ ap (λ l. f.name ∷ l) (all_named lines (suc n) more (none_right (function_forms m.globals (line_or_none (slice_get lines n)) f) (functions_forms m.globals lines (suc n) more) p))
+  all_named : (fs : List TypedFunc) → ((k : ℕ) (f : TypedFunc) → slice_get fs k ≡ Some f → f.class ≡ None) → flat_map (own_name is_identifier m) fs ≡ map (λ (f : TypedFunc). f.name) fs
+  all_named [] h = refl
+  all_named (f ∷ more) h = rw (h 0 f refl) (ap (λ l. f.name ∷ l) (all_named more (λ k. h (suc k))))
 
   -- what a well typed function has
   record Parts (n : ℕ) (f : TypedFunc) : Type 0 where
@@ -90,47 +55,47 @@ module _ (m : TypedModule) where
     pub signature : signature_fits (slice_get m.classes.signatures n) f ≡ true
     pub body : suite_typed m f.locals (init_class f) (Some f.ret) [] false false f.body ≡ true
 
-  parts : (n : ℕ) (f : TypedFunc) → func_typed is_identifier m n f ≡ true → Parts n f
-  parts n f h =
-      let twelve = and_left _ _ h in
-      let eight = and_left _ _ (and_left _ _ (and_left _ _ (and_left _ _ twelve))) in
-      let five = and_left _ _ (and_left _ _ (and_left _ _ eight)) in
-      record {
-        name = and_left _ _ (and_left _ _ (and_left _ _ (and_left _ _ five)));
-        variables = and_right _ _ five;
-        signature = and_right _ _ eight;
-        body = and_right _ _ h;
-      }
-
   -- ---- signatures
 
   signed_as : (f : TypedFunc) (s : Signature) → f.class ≡ None → signature_fits (Some s) f ≡ true → (s.params ≡ parameter_sorts f) × (s.ret ≡ f.ret)
   signed_as f s own h = (
-    sym (same_sorts (parameter_types f) s.params (and_left (same_row (parameter_types f) s.params) (is_same_type f.ret s.ret) h)) ∙ own_parameters f own,
+    sym (same_sorts (parameter_types f) s.params (and_left (same_row (parameter_types f) s.params) (is_same_type f.ret s.ret) h)) ∙ rw own refl,
     sym (one_type f.ret s.ret (and_right (same_row (parameter_types f) s.params) (is_same_type f.ret s.ret) h)),
   )
 
-  module _ (tree : Suite) (typed : is_well_typed is_identifier m ≡ true) (forms : functions_forms m.globals (function_lines (suite_definitions tree)) 0 m.funcs ≡ []) where
+  module _ (lines : List ℕ) (typed : is_well_typed is_identifier m ≡ true) (forms : functions_forms m.globals lines 0 m.funcs ≡ []) where
     function_parts : (n : ℕ) (f : TypedFunc) → slice_get m.funcs n ≡ Some f → Parts n f
-    function_parts n f is = parts n f (at_place (func_typed is_identifier m) 0 m.funcs n n f (omega arith) (and_right _ _ (and_left _ _ typed)) is)
+    function_parts n f is =
+        let h = at_place (func_typed is_identifier m) 0 m.funcs n n f (omega arith) (and_right _ _ (and_left _ _ typed)) is in
+        let eight = and_left _ _ (and_left _ _ (and_left _ _ (and_left _ _ (and_left _ _ h)))) in
+        let five = and_left _ _ (and_left _ _ (and_left _ _ eight)) in
+        record {
+          name = and_left _ _ (and_left _ _ (and_left _ _ (and_left _ _ five)));
+          variables = and_right _ _ five;
+          signature = and_right _ _ eight;
+          body = and_right _ _ h;
+        }
 
     formed : (n : ℕ) (f : TypedFunc) → slice_get m.funcs n ≡ Some f → (is_function f ≡ true) × (suite_forms f.locals m.globals f.body ≡ [])
-    formed n f is = is_form_of m.globals (function_lines (suite_definitions tree)) 0 m.funcs n f forms is
+    formed n f is = is_form_of m.globals lines 0 m.funcs n f forms is
+
+    no_method : (n : ℕ) (f : TypedFunc) → slice_get m.funcs n ≡ Some f → f.class ≡ None
+    no_method n f is = none_is f.class (and_left (is_none f.class) _ (formed n f is).0)
 
     all_signed : (vs : List Variable) (init : Option ℕ) → AllSigned m vs init
     all_signed vs init n f s is function found =
-        signed_as f s (no_method f (formed n f is).0) (subst (λ o. signature_fits o f ≡ true) found (function_parts n f is).signature)
+        signed_as f s (no_method n f is) (subst (λ o. signature_fits o f ≡ true) found (function_parts n f is).signature)
 
     function_suits : (n : ℕ) (f : TypedFunc) → slice_get m.funcs n ≡ Some f → FunctionSuits m f
     function_suits n f is =
         let p = function_parts n f is in
         let form = formed n f is in
-        let row = and_right (is_none f.class) (nat_le f.params (length f.locals) && (are_scalars f.locals && is_result f.ret)) form.0 in
-        let types = and_right (nat_le f.params (length f.locals)) (are_scalars f.locals && is_result f.ret) row in
-        let scalars : AllScalar m f.locals (init_class f) = λ i v there. at_each (λ (x : Variable). is_scalar x.1) f.locals i v (and_left (are_scalars f.locals) (is_result f.ret) types) there in
+        let row = and_right (is_none f.class) _ form.0 in
+        let types = and_right (nat_le f.params (length f.locals)) _ row in
+        let scalars : AllScalar m f.locals (init_class f) = λ i v there. at_each (λ (x : Variable). is_scalar x.1) f.locals i v (and_left (are_scalars f.locals) _ types) there in
         record {
           name = p.name;
-          parameters = leb-true f.params (length f.locals) (and_left (nat_le f.params (length f.locals)) (are_scalars f.locals && is_result f.ret) row);
+          parameters = leb-true f.params (length f.locals) (and_left (nat_le f.params (length f.locals)) _ row);
           identifiers = and_left _ _ (and_left _ _ p.variables);
           differ = sym (one_test (names_of f.locals)) ∙ and_right _ _ (and_left _ _ p.variables);
           body = suite_suits m f.locals (init_class f) scalars (all_signed f.locals (init_class f)) (Some f.ret) [] false false f.body p.body form.1;
@@ -149,7 +114,7 @@ module _ (m : TypedModule) where
           functions = function_suits;
           differ =
               sym (one_test (map (λ (f : TypedFunc). f.name) m.funcs))
-              ∙ subst (λ l. all_differ l ≡ true) (all_named (function_lines (suite_definitions tree)) 0 m.funcs forms) (differ_left functions classes (differ_right others (functions ++ classes) (and_right _ _ two)));
+              ∙ subst (λ l. all_differ l ≡ true) (all_named m.funcs no_method) (differ_left functions classes (differ_right others (functions ++ classes) (and_right _ _ two)));
           identifiers = and_left _ _ (and_left _ _ globals);
           globals_differ = sym (one_test others) ∙ and_right _ _ (and_left _ _ globals);
           top = suite_suits m [] None no_variables (all_signed [] None) None [] false false m.top (and_right _ _ typed) top;
@@ -160,8 +125,5 @@ module _ (m : TypedModule) where
 
 pub compiled_suits : CompiledSuits
 compiled_suits tree m typed none =
-    let own : List Unbuilt = suite_forms [] m.globals m.top in
-    let functions : List Unbuilt = functions_forms m.globals (function_lines (suite_definitions tree)) 0 m.funcs in
-    let all = no_form (flat_map class_form (suite_definitions tree) ++ (own ++ functions)) none in
-    let both : own ++ functions ≡ [] = none_right (flat_map class_form (suite_definitions tree)) (own ++ functions) all in
-    module_suits m tree typed (none_right own functions both) (none_left own functions both)
+    let behind = none_right (flat_map class_form (suite_definitions tree)) _ (no_form _ none) in
+    module_suits m _ typed (none_right (suite_forms [] m.globals m.top) _ behind) (none_left (suite_forms [] m.globals m.top) _ behind)

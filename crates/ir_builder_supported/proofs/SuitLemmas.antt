@@ -1,35 +1,12 @@
 -- A well typed expression in which nothing is said to be not compiled suits, in a function whose variables are numbers, bools and
 -- texts, where the signature of each function is that of its definition.
-use Rattle.ir_builder_supported.proofs.Common.{◌≡◌, refl, sym, ◌∙◌, ap, subst, ℕ, Bool, true, false, List, [], ◌∷◌, ◌++◌, Option, Some, None, ◌⊎◌, ⊎_elim, or_cases, ℤ, pos, negsuc, not, ◌&&◌, if◌then◌else◌, slice_get, option_map, Span, Sort, sorts_of, Signature, is_same_type, are_same_types, is_nothing, TypedExpr, typed, TypedNode, Int, Str, Flag, Local, Neg, Not, Truth, Arith, Concat, Compare, And, Or, Cond, At, Call, Input, Len, ToStr, Coerce, TypedExprs, no_exprs, expr_then, Comparisons, no_comparisons, comparison_then, type_of, Variable, TypedFunc, TypedModule, is_in, facts, stands, parts_typed, are_values, chain_typed, rule, types_of, is_type, indexed, is_literal, reads_as, declared, call_fits, is_empty_call, and_left, and_right, one_type, parameter_sorts, is_bool, is_int, is_text, is_scalar, is_result, is_pair, is_whole, Suits, NodeSuits, ArgumentsSuit, ComparisonsSuit, Unbuilt, unbuilt, node_form, or_parts, are_pairs, is_form, expression_forms, part_forms, row_forms, chain_forms}
+use Rattle.ir_builder_supported.proofs.Common.{◌≡◌, refl, sym, ◌∙◌, ap, subst, ℕ, Bool, true, false, List, [], ◌∷◌, ◌++◌, Option, Some, None, ⊎_elim, or_cases, ℤ, pos, negsuc, not, if◌then◌else◌, slice_get, option_map, Sort, sorts_of, Signature, is_same_type, are_same_types, is_nothing, TypedExpr, typed, TypedNode, Int, Str, Flag, Local, Neg, Not, Truth, Arith, Concat, Compare, And, Or, Cond, At, Call, Input, Len, ToStr, Coerce, TypedExprs, no_exprs, expr_then, Comparisons, no_comparisons, comparison_then, type_of, Variable, TypedFunc, TypedModule, is_in, facts, stands, parts_typed, are_values, chain_typed, rule, types_of, is_type, indexed, is_literal, reads_as, declared, call_fits, is_empty_call, and_left, and_right, one_type, parameter_sorts, is_bool, is_int, is_text, is_scalar, is_result, is_whole, Suits, NodeSuits, ArgumentsSuit, ComparisonsSuit, are_pairs, is_form, expression_forms, part_forms, row_forms, chain_forms}
+use Rattle.ir_builder_supported.proofs.FormLemmas.{none_left, none_right, compiled, both}
 use Rattle.value_core.specs.Arithmetic.{lies_within}
 use Rattle.py_typed.specs.Sorts as sort
 use Rattle.py_typed.specs.Expressions.{Global}
 use Rattle.py_typed.specs.WellTypedExpr.{is_function}
 use Rattle.ir_builder_comparisons.specs.Comparing.{is_ordering}
-
--- ---- rows with nothing
-
-pub none_left : (xs ys : List Unbuilt) → xs ++ ys ≡ [] → xs ≡ []
-none_left [] ys e = refl
-none_left (x ∷ xs) ys e = absurd (cc)
-
-pub none_right : (xs ys : List Unbuilt) → xs ++ ys ≡ [] → ys ≡ []
-none_right [] ys e = e
-none_right (x ∷ xs) ys e = absurd (cc)
-
-pub form_of : (b : Bool) (here : Unbuilt) (parts : List Unbuilt) → or_parts b here parts ≡ [] → b ≡ true
-form_of true here parts e = refl
-form_of false here parts e = absurd (cc)
-
-pub parts_of : (b : Bool) (here : Unbuilt) (parts : List Unbuilt) → or_parts b here parts ≡ [] → parts ≡ []
-parts_of true here parts e = e
-parts_of false here parts e = absurd (cc)
-
-pub own_form : (n : TypedNode) (t : Sort) (place : Span) → expression_forms (typed n t place) ≡ [] → is_form n t ≡ true
-own_form n t place q = form_of (is_form n t) (unbuilt place.line (node_form n t)) (part_forms n) q
-
-pub own_parts : (n : TypedNode) (t : Sort) (place : Span) → expression_forms (typed n t place) ≡ [] → part_forms n ≡ []
-own_parts n t place q = parts_of (is_form n t) (unbuilt place.line (node_form n t)) (part_forms n) q
 
 -- ---- types
 
@@ -37,7 +14,7 @@ bool_is : (t : Sort) → is_bool t ≡ true → t ≡ sort.Bool
 bool_is sort.Bool h = refl
 bool_is _ h = absurd (cc)
 
-int_is : (t : Sort) → is_int t ≡ true → t ≡ sort.Int
+pub int_is : (t : Sort) → is_int t ≡ true → t ≡ sort.Int
 int_is sort.Int h = refl
 int_is _ h = absurd (cc)
 
@@ -45,20 +22,14 @@ text_is : (t : Sort) → is_text t ≡ true → t ≡ sort.Str
 text_is sort.Str h = refl
 text_is _ h = absurd (cc)
 
-is_scalar_at : (t s : Sort) → t ≡ s → is_scalar s ≡ true → is_scalar t ≡ true
-is_scalar_at t s e h = ap is_scalar e ∙ h
-
 whole_scalar : (t : Sort) → is_whole t ≡ true → is_scalar t ≡ true
 whole_scalar sort.Int h = refl
 whole_scalar sort.I64 h = refl
 whole_scalar _ h = absurd (cc)
 
 result_scalar : (t : Sort) → is_result t ≡ true → not (is_nothing t) ≡ true → is_scalar t ≡ true
-result_scalar sort.Int h k = refl
-result_scalar sort.I64 h k = refl
-result_scalar sort.Bool h k = refl
-result_scalar sort.Str h k = refl
-result_scalar _ h k = absurd (cc)
+result_scalar sort.Nothing h k = absurd (cc)
+result_scalar _ h k = h
 
 literal_within : (n : ℤ) → is_literal n ≡ true → lies_within 127 n ≡ true
 literal_within (pos n) h = h
@@ -92,38 +63,33 @@ module _ (m : TypedModule) (vs : List Variable) (init : Option ℕ) where
   abbrev pub AllSigned : Type 0
   AllSigned = (f : ℕ) (g : TypedFunc) (s : Signature) → slice_get m.funcs f ≡ Some g → is_function (Some g) ≡ true → slice_get m.classes.signatures f ≡ Some s → (s.params ≡ parameter_sorts g) × (s.ret ≡ g.ret)
 
-  checked_parts : (testing : Bool) (known : List ℕ) (n : TypedNode) (t : Sort) (place : Span) → stands m vs init testing known (typed n t place) ≡ true → parts_typed m vs init testing known n ≡ true
-  checked_parts testing known n t place h = and_left _ _ (and_left _ _ (and_left _ _ (and_left _ _ h)))
-
-  rule_of : (testing : Bool) (known : List ℕ) (n : TypedNode) (t : Sort) (place : Span) → stands m vs init testing known (typed n t place) ≡ true → rule m vs init known n t ≡ true
-  rule_of testing known n t place h = and_right _ _ (and_left _ _ (and_left _ _ (and_left _ _ h)))
-
   -- what is compiled and gives a value gives a number, a bool or a text
   node_scalar : (known : List ℕ) (n : TypedNode) (t : Sort) → rule m vs init known n t ≡ true → is_form n t ≡ true → not (is_empty_call n t) ≡ true → is_scalar t ≡ true
-  node_scalar known (Int n) t r f k = is_scalar_at t sort.Int (int_is t f) refl
-  node_scalar known (Str text) t r f k = is_scalar_at t sort.Str (text_is t f) refl
-  node_scalar known (Flag b) t r f k = is_scalar_at t sort.Bool (bool_is t f) refl
+  node_scalar known (Int n) t r f k = ap is_scalar (int_is t f)
+  node_scalar known (Str text) t r f k = ap is_scalar (text_is t f)
+  node_scalar known (Flag b) t r f k = ap is_scalar (bool_is t f)
   node_scalar known (Local i) t r f k = f
   node_scalar known (Global i) t r f k = f
   node_scalar known (Neg e) t r f k = whole_scalar t f
-  node_scalar known (Not e) t r f k = is_scalar_at t sort.Bool (bool_is t f) refl
-  node_scalar known (Truth e) t r f k = is_scalar_at t sort.Bool (bool_is t (and_left _ _ f)) refl
+  node_scalar known (Not e) t r f k = ap is_scalar (bool_is t f)
+  node_scalar known (Truth e) t r f k = ap is_scalar (bool_is t (and_left _ _ f))
   node_scalar known (Arith op a b) t r f k = whole_scalar t (and_left _ _ f)
-  node_scalar known (Concat a b) t r f k = is_scalar_at t sort.Str (text_is t f) refl
-  node_scalar known (Compare e more) t r f k = is_scalar_at t sort.Bool (bool_is t (and_left _ _ f)) refl
+  node_scalar known (Concat a b) t r f k = ap is_scalar (text_is t f)
+  node_scalar known (Compare e more) t r f k = ap is_scalar (bool_is t (and_left _ _ f))
   node_scalar known (And a b) t r f k = f
   node_scalar known (Or a b) t r f k = f
   node_scalar known (Cond a test b) t r f k = f
-  node_scalar known (At a b) t r f k = is_scalar_at t sort.Str (letter_sorts (type_of a) (type_of b) t f r).0 refl
+  node_scalar known (At a b) t r f k = ap is_scalar (letter_sorts (type_of a) (type_of b) t f r).0
   node_scalar known (Call g es) t r f k = result_scalar t f k
-  node_scalar known Input t r f k = is_scalar_at t sort.Str (text_is t f) refl
-  node_scalar known (Len e) t r f k = is_scalar_at t sort.Int (one_type t sort.Int (and_right _ _ r)) refl
-  node_scalar known (ToStr e) t r f k = is_scalar_at t sort.Str (one_type t sort.Str (and_right _ _ r)) refl
+  node_scalar known Input t r f k = ap is_scalar (text_is t f)
+  node_scalar known (Len e) t r f k = ap is_scalar (one_type t sort.Int (and_right _ _ r))
+  node_scalar known (ToStr e) t r f k = ap is_scalar (one_type t sort.Str (and_right _ _ r))
   node_scalar known (Coerce e) t r f k = whole_scalar t (and_left _ _ f)
   node_scalar known _ t r f k = absurd (cc)
 
   pub gives_value : (testing : Bool) (known : List ℕ) (e : TypedExpr) → stands m vs init testing known e ≡ true → expression_forms e ≡ [] → is_scalar (type_of e) ≡ true
-  gives_value testing known (typed n t place) h q = node_scalar known n t (rule_of testing known n t place h) (own_form n t place q) (and_right _ _ h)
+  gives_value testing known (typed n t place) h q =
+      node_scalar known n t (and_right _ _ (and_left _ _ (and_left _ _ (and_left _ _ h)))) (compiled (is_form n t) _ _ q).0 (and_right _ _ h)
 
   -- a variable of a type is there
   declared_as : (o : Option Variable) (t : Sort) → is_type (option_map (λ x. x.1) o) t ≡ true → (v : Variable) × (o ≡ Some v) × (v.1 ≡ t)
@@ -133,11 +99,8 @@ module _ (m : TypedModule) (vs : List Variable) (init : Option ℕ) where
   -- a local reads as its own type, since that has no None
   pub reads_itself : (k : Bool) (s : Sort) → is_scalar s ≡ true → reads_as k s ≡ s
   reads_itself false s h = refl
-  reads_itself true sort.Int h = refl
-  reads_itself true sort.Str h = refl
-  reads_itself true sort.I64 h = refl
-  reads_itself true sort.Bool h = refl
-  reads_itself true _ h = absurd (cc)
+  reads_itself true (sort.Optional t) h = absurd (cc)
+  reads_itself true _ h = refl
 
   read_as : (k : Bool) (o : Option Variable) (t : Sort) → ((v : Variable) → o ≡ Some v → is_scalar v.1 ≡ true) → is_type (option_map (reads_as k) (option_map (λ x. x.1) o)) t ≡ true → (v : Variable) × (o ≡ Some v) × (v.1 ≡ t)
   read_as k None t all h = absurd (cc)
@@ -166,7 +129,10 @@ module _ (m : TypedModule) (vs : List Variable) (init : Option ℕ) where
   module _ (scalars : AllScalar) (signed : AllSigned) where
     mutual
       pub well_typed_suits : (testing : Bool) (known : List ℕ) (e : TypedExpr) → stands m vs init testing known e ≡ true → expression_forms e ≡ [] → Suits m vs e
-      well_typed_suits testing known (typed n t place) h q = well_typed_node testing known n t (checked_parts testing known n t place h) (rule_of testing known n t place h) (own_form n t place q) (own_parts n t place q)
+      well_typed_suits testing known (typed n t place) h q =
+          let here = and_left _ _ (and_left _ _ (and_left _ _ h)) in
+          let own = compiled (is_form n t) _ _ q in
+          well_typed_node testing known n t (and_left _ _ here) (and_right _ _ here) own.0 own.1
 
       pub well_typed_node : (testing : Bool) (known : List ℕ) (n : TypedNode) (t : Sort) → parts_typed m vs init testing known n ≡ true → rule m vs init known n t ≡ true → is_form n t ≡ true → part_forms n ≡ [] → NodeSuits m vs n t
       well_typed_node testing known (Int n) t p r f q = (int_is t f, literal_within n (and_left _ _ r))
@@ -178,54 +144,37 @@ module _ (m : TypedModule) (vs : List Variable) (init : Option ℕ) where
       well_typed_node testing known (Not e) t p r f q = ((bool_is t f, one_type (type_of e) sort.Bool (and_left _ _ r)), well_typed_suits true known e p q)
       well_typed_node testing known (Truth e) t p r f q = ((bool_is t (and_left _ _ f), and_right (is_bool t) _ f), well_typed_suits false known e p q)
       well_typed_node testing known (Arith op a b) t p r f q =
-          let numbers = and_left _ _ r in (
-            (and_left _ _ f, and_right (is_whole t) _ f, and_left _ _ numbers, and_right _ _ numbers),
-            well_typed_suits false known a (and_left _ _ p) (none_left (expression_forms a) (expression_forms b) q),
-            well_typed_suits false known b (and_right _ _ p) (none_right (expression_forms a) (expression_forms b) q),
-          )
+          let parts = both (well_typed_suits false known a) (well_typed_suits false known b) p q in
+          let numbers = and_left _ _ r in
+          ((and_left _ _ f, and_right (is_whole t) _ f, and_left _ _ numbers, and_right _ _ numbers), parts.0, parts.1)
       well_typed_node testing known (Concat a b) t p r f q =
-          let texts = and_left _ _ r in (
-            (text_is t f, one_type (type_of a) sort.Str (and_left _ _ texts), one_type (type_of b) sort.Str (and_right _ _ texts)),
-            well_typed_suits false known a (and_left _ _ p) (none_left (expression_forms a) (expression_forms b) q),
-            well_typed_suits false known b (and_right _ _ p) (none_right (expression_forms a) (expression_forms b) q),
-          )
+          let parts = both (well_typed_suits false known a) (well_typed_suits false known b) p q in
+          let texts = and_left _ _ r in
+          ((text_is t f, one_type (type_of a) sort.Str (and_left _ _ texts), one_type (type_of b) sort.Str (and_right _ _ texts)), parts.0, parts.1)
       well_typed_node testing known (Compare e more) t p r f q =
-          let pairs : (is_scalar (type_of e) && are_pairs (type_of e) more) ≡ true = and_right (is_bool t) _ f in (
-            bool_is t (and_left _ _ f),
-            and_left _ _ pairs,
-            well_typed_suits false known e (and_left _ _ p) (none_left (expression_forms e) (chain_forms more) q),
-            well_typed_chain known e more (and_right _ _ p) (and_right _ _ pairs) (none_right (expression_forms e) (chain_forms more) q),
-          )
-      well_typed_node testing known (And a b) t p r f q = (
-        f,
-        one_type (type_of a) t (and_left _ _ r),
-        one_type (type_of b) t (and_right _ _ r),
-        well_typed_suits testing known a (and_left _ _ p) (none_left (expression_forms a) (expression_forms b) q),
-        well_typed_suits testing (facts true a ++ known) b (and_right _ _ p) (none_right (expression_forms a) (expression_forms b) q),
-      )
-      well_typed_node testing known (Or a b) t p r f q = (
-        f,
-        one_type (type_of a) t (and_left _ _ r),
-        one_type (type_of b) t (and_right _ _ r),
-        well_typed_suits testing known a (and_left _ _ p) (none_left (expression_forms a) (expression_forms b) q),
-        well_typed_suits testing (facts false a ++ known) b (and_right _ _ p) (none_right (expression_forms a) (expression_forms b) q),
-      )
+          let pairs = and_right (is_bool t) _ f in
+          let parts = both (well_typed_suits false known e) (λ h. well_typed_chain known e more h (and_right _ _ pairs)) p q in
+          (bool_is t (and_left _ _ f), and_left _ _ pairs, parts.0, parts.1)
+      well_typed_node testing known (And a b) t p r f q =
+          let parts = both (well_typed_suits testing known a) (well_typed_suits testing (facts true a ++ known) b) p q in
+          (f, one_type (type_of a) t (and_left _ _ r), one_type (type_of b) t (and_right _ _ r), parts.0, parts.1)
+      well_typed_node testing known (Or a b) t p r f q =
+          let parts = both (well_typed_suits testing known a) (well_typed_suits testing (facts false a ++ known) b) p q in
+          (f, one_type (type_of a) t (and_left _ _ r), one_type (type_of b) t (and_right _ _ r), parts.0, parts.1)
       well_typed_node testing known (Cond a test b) t p r f q =
-          let rest = none_right (expression_forms a) (expression_forms test ++ expression_forms b) q in (
+          let two = and_left _ _ p in
+          let behind = none_right _ _ q in (
             f,
             one_type (type_of a) t (and_right _ _ (and_left _ _ r)),
             one_type (type_of test) sort.Bool (and_left _ _ (and_left _ _ r)),
             one_type (type_of b) t (and_right _ _ r),
-            well_typed_suits false (facts true test ++ known) a (and_right _ _ (and_left _ _ p)) (none_left (expression_forms a) (expression_forms test ++ expression_forms b) q),
-            well_typed_suits true known test (and_left _ _ (and_left _ _ p)) (none_left (expression_forms test) (expression_forms b) rest),
-            well_typed_suits false (facts false test ++ known) b (and_right _ _ p) (none_right (expression_forms test) (expression_forms b) rest),
+            well_typed_suits false (facts true test ++ known) a (and_right _ _ two) (none_left _ _ q),
+            well_typed_suits true known test (and_left _ _ two) (none_left _ _ behind),
+            well_typed_suits false (facts false test ++ known) b (and_right _ _ p) (none_right _ _ behind),
           )
       well_typed_node testing known (At a b) t p r f q =
-          let is = letter_sorts (type_of a) (type_of b) t f r in (
-            (is.0, is.1, is.2),
-            well_typed_suits false known a (and_left _ _ p) (none_left (expression_forms a) (expression_forms b) q),
-            well_typed_suits false known b (and_right _ _ p) (none_right (expression_forms a) (expression_forms b) q),
-          )
+          let parts = both (well_typed_suits false known a) (well_typed_suits false known b) p q in
+          (letter_sorts (type_of a) (type_of b) t f r, parts.0, parts.1)
       well_typed_node testing known (Call g es) t p r f q =
           let h = call_suits signed g (types_of m vs init es) t (and_left _ _ r) (and_right _ _ r) in
           (f, h.0, h.1, h.2, subst (λ ts. ArgumentsSuit m vs ts es) h.3 (well_typed_arguments known es p q))
@@ -237,12 +186,13 @@ module _ (m : TypedModule) (vs : List Variable) (init : Option ℕ) where
 
       well_typed_arguments : (known : List ℕ) (es : TypedExprs) → are_values m vs init known es ≡ true → row_forms es ≡ [] → ArgumentsSuit m vs (types_of m vs init es) es
       well_typed_arguments known no_exprs p q = tt
-      well_typed_arguments known (expr_then e more) p q = (refl, well_typed_suits false known e (and_left _ _ p) (none_left (expression_forms e) (row_forms more) q), well_typed_arguments known more (and_right _ _ p) (none_right (expression_forms e) (row_forms more) q))
+      well_typed_arguments known (expr_then e more) p q =
+          let parts = both (well_typed_suits false known e) (well_typed_arguments known more) p q in (refl, parts.0, parts.1)
 
       well_typed_chain : (known : List ℕ) (a : TypedExpr) (more : Comparisons) → chain_typed m vs init known a more ≡ true → are_pairs (type_of a) more ≡ true → chain_forms more ≡ [] → ComparisonsSuit m vs (type_of a) more
       well_typed_chain known a no_comparisons p f q = tt
       well_typed_chain known a (comparison_then op e more) p f q =
           let h = and_left _ _ (and_left _ _ p) in
-          let pairs : (is_pair (type_of a) (type_of e) && are_pairs (type_of e) more) ≡ true = and_right (is_ordering op) _ f in
-          let part = none_left (expression_forms e) (chain_forms more) q in
-          (and_left _ _ f, and_left _ _ pairs, gives_value false known e h part, well_typed_suits false known e h part, well_typed_chain known e more (and_right _ _ p) (and_right _ _ pairs) (none_right (expression_forms e) (chain_forms more) q))
+          let pairs = and_right (is_ordering op) _ f in
+          let part = none_left _ _ q in
+          (and_left _ _ f, and_left _ _ pairs, gives_value false known e h part, well_typed_suits false known e h part, well_typed_chain known e more (and_right _ _ p) (and_right _ _ pairs) (none_right _ _ q))

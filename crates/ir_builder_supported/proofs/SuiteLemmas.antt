@@ -1,13 +1,14 @@
 -- A well typed statement in which all is compiled suits, in a function whose variables are numbers, bools and texts.
-use Rattle.ir_builder_supported.proofs.Common.{◌≡◌, refl, sym, ◌∙◌, ap, subst, ℕ, Bool, true, false, List, [], ◌∷◌, ◌++◌, Option, Some, None, ◌⊎◌, ⊎_elim, inl, inr, or_cases, not, ◌&&◌, if◌then◌else◌, slice_get, Span, Sort, is_same_type, is_number, is_nothing, number_join, fits, TypedExpr, typed, TypedNode, Nothing, Print, TypedExprs, no_exprs, expr_then, type_of, Variable, TypedModule, TypedTarget, LocalTarget, GlobalTarget, TypedStmt, on_line, TypedAct, Do, Assign, Aug, If, While, Return, Break, Continue, Pass, TypedSuite, no_stmts, stmt_then, Arms, no_arms, arm_then, is_in, facts, without, bound_suite, part_sorts, after, stands, parts_typed, are_values, rule, is_type, are_texts, are_numbers, is_bar, operation_sort, reads_as, is_value, is_typed, is_none_literal, target_type, read_type, parts_fit, assignment_fits, is_single, return_fits, stmt_typed, act_typed, suite_typed, arms_typed, and_left, and_right, one_type, is_arithmetic, is_whole, is_int, is_i64, is_scalar, Suits, unbuilt, node_form, expression_form, expression_at, targets_form, update_form, is_form, expression_forms, part_forms, row_forms, alone_forms, is_one, is_taken, takes_result, is_updated, returned_forms, statement_forms, act_forms, suite_forms, arms_forms}
+use Rattle.ir_builder_supported.proofs.Common.{◌≡◌, refl, sym, ◌∙◌, ap, subst, ℕ, Bool, true, false, List, [], ◌∷◌, ◌++◌, Option, Some, None, ⊎_elim, inl, inr, or_cases, not, ◌&&◌, if◌then◌else◌, slice_get, Span, Sort, is_same_type, is_number, is_nothing, number_join, fits, TypedExpr, typed, TypedNode, Nothing, Print, TypedExprs, no_exprs, expr_then, type_of, Variable, TypedModule, TypedTarget, LocalTarget, GlobalTarget, TypedStmt, on_line, TypedAct, Do, Assign, Aug, If, While, Return, Break, Continue, Pass, TypedSuite, no_stmts, stmt_then, Arms, no_arms, arm_then, is_in, facts, without, bound_suite, part_sorts, after, stands, are_values, is_type, are_texts, are_numbers, is_bar, operation_sort, reads_as, is_typed, target_type, read_type, parts_fit, assignment_fits, is_single, return_fits, stmt_typed, act_typed, suite_typed, arms_typed, and_left, and_right, one_type, is_arithmetic, is_whole, is_int, is_i64, is_scalar, NodeSuits, Suits, is_form, expression_forms, row_forms, alone_forms, is_one, is_taken, takes_result, is_updated, returned_forms, statement_forms, act_forms, suite_forms, arms_forms}
 use Rattle.py_syntax.specs.declared.expression.BinOp.{BinOp}
-use Rattle.py_syntax.specs.declared.expression.BinOp.TheVariants.{Add, Sub, Mul, FloorDiv, Mod, Shl, Shr}
+use Rattle.py_syntax.specs.declared.expression.BinOp.TheVariants.{Add}
 use Rattle.py_typed.specs.Sorts as sort
 use Rattle.py_typed.specs.TargetTypes.{sort_at}
 use Rattle.ir_builder_expressions.specs.declared.applying.Binary.TheVariants.{Arithmetic}
 use Rattle.ir_builder_expressions.specs.Applying.{BinarySuits}
 use Rattle.ir_builder_statements.specs.Suiting.{PrintSuits, DoSuits, IsOnly, UpdateSuits, VariableUpdates, ReturnSuits, StatementSuits, ActSuits, SuiteSuits, ArmsSuit}
-use Rattle.ir_builder_supported.proofs.SuitLemmas.{none_left, none_right, form_of, parts_of, AllScalar, AllSigned, own_form, own_parts, gives_value, reads_itself, well_typed_suits, well_typed_node}
+use Rattle.ir_builder_supported.proofs.FormLemmas.{none_left, none_right, compiled, both}
+use Rattle.ir_builder_supported.proofs.SuitLemmas.{int_is, AllScalar, AllSigned, gives_value, reads_itself, well_typed_suits, well_typed_node}
 
 -- ---- types
 
@@ -21,11 +22,8 @@ join_whole _ sort.I64 = refl
 join_whole _ _ = refl
 
 no_parts : (s : Sort) → is_scalar s ≡ true → part_sorts s ≡ []
-no_parts sort.Int h = refl
-no_parts sort.I64 h = refl
-no_parts sort.Bool h = refl
-no_parts sort.Str h = refl
-no_parts _ h = absurd (cc)
+no_parts (sort.TupleOf ss) h = absurd (cc)
+no_parts _ h = refl
 
 -- the type of a variable that may be there
 abbrev sort_of : Option Variable → Sort
@@ -38,10 +36,6 @@ sort_found vs i (Some v) e = rw (e, sort_at) refl
 
 never : false ≡ true → ⊥
 never e = absurd (cc)
-
-not_both : (a : Bool) → (a && false) ≡ true → ⊥
-not_both true h = absurd (cc)
-not_both false h = absurd (cc)
 
 -- a variable that has this type
 variable_of : (o : Option Variable) (t : Sort) → is_scalar t ≡ true → t ≡ sort_of o → (v : Variable) × (o ≡ Some v) × (v.1 ≡ t)
@@ -57,19 +51,15 @@ taking : (P : Sort → Type 0) → P sort.Int → (u s : Sort) → is_taken u s 
 taking P int u s h p =
     ⊎_elim (λ e. subst P (sym (one_type u s e)) p) (λ e. subst P (sym (int_is u (and_left (is_int u) (is_i64 s) e))) int)
     (or_cases (is_same_type u s) (is_int u && is_i64 s) h)
-  where
-    int_is : (t : Sort) → is_int t ≡ true → t ≡ sort.Int
-    int_is sort.Int e = refl
-    int_is _ e = absurd (cc)
 
 -- ---- operations whose result a variable takes that is their first operand
 
 numbers_update : (op : BinOp) (u s w : Sort) (b : Bool) → is_arithmetic op ≡ true → is_taken u s ≡ true → (b ≡ true → are_numbers u w ≡ true) → is_type (if b then Some (number_join u w) else None) s ≡ true → (is_whole u ≡ true) × BinarySuits (Arithmetic op) s u w
 numbers_update op u s w true built takes numbers h =
-    let both = numbers refl in
+    let two = numbers refl in
     let whole : is_whole s ≡ true = subst (λ z. is_whole z ≡ true) (one_type (number_join u w) s h) (join_whole u w) in (
       taking (λ z. is_whole z ≡ true) refl u s takes whole,
-      (whole, built, and_left (is_number u) (is_number w) both, and_right (is_number u) (is_number w) both),
+      (whole, built, and_left (is_number u) (is_number w) two, and_right (is_number u) (is_number w) two),
     )
 numbers_update op u s w false built takes numbers h = absurd (cc)
 
@@ -87,35 +77,33 @@ module _ (m : TypedModule) (vs : List Variable) (init : Option ℕ) (scalars : A
     print_suits : (known : List ℕ) (es : TypedExprs) → are_values m vs init known es ≡ true → row_forms es ≡ [] → PrintSuits m vs result es
     print_suits known no_exprs h p = tt
     print_suits known (expr_then e more) h p =
-        let here = none_left (expression_forms e) (row_forms more) p in
-        (gives_value m vs init false known e (and_left _ _ h) here, expression_suits false known e (and_left _ _ h) here, print_suits known more (and_right _ _ h) (none_right (expression_forms e) (row_forms more) p))
+        let here = none_left _ _ p in
+        (gives_value m vs init false known e (and_left _ _ h) here, expression_suits false known e (and_left _ _ h) here, print_suits known more (and_right _ _ h) (none_right _ _ p))
 
-    node_parts : (known : List ℕ) (n : TypedNode) (t : Sort) (place : Span) → is_typed m vs init known (typed n t place) ≡ true → parts_typed m vs init false known n ≡ true
-    node_parts known n t place h = and_left _ _ (and_left _ _ (and_left _ _ h))
-
-    node_rule : (known : List ℕ) (n : TypedNode) (t : Sort) (place : Span) → is_typed m vs init known (typed n t place) ≡ true → rule m vs init known n t ≡ true
-    node_rule known n t place h = and_right _ _ (and_left _ _ (and_left _ _ h))
+    node_alone : (known : List ℕ) (n : TypedNode) (t : Sort) (place : Span) → is_typed m vs init known (typed n t place) ≡ true → expression_forms (typed n t place) ≡ [] → NodeSuits m vs n t
+    node_alone known n t place h p =
+        let here = and_left _ _ (and_left _ _ h) in
+        let own = compiled (is_form n t) _ _ p in
+        well_typed_node m vs init scalars signed false known n t (and_left _ _ here) (and_right _ _ here) own.0 own.1
 
     alone_suits : (known : List ℕ) (e : TypedExpr) → is_typed m vs init known e ≡ true → alone_forms e ≡ [] → DoSuits m vs result e
-    alone_suits known (typed (Print es) t place) h p = print_suits known es (node_parts known (Print es) t place h) p
-    alone_suits known (typed n t place) h p =
-        well_typed_node m vs init scalars signed false known n t (node_parts known n t place h) (node_rule known n t place h) (own_form n t place p) (own_parts n t place p)
+    alone_suits known (typed (Print es) t place) h p = print_suits known es (and_left _ _ (and_left _ _ (and_left _ _ h))) p
+    alone_suits known (typed n t place) h p = node_alone known n t place h p
 
     -- ---- assignments
 
     scalar_assigned : (t : TypedTarget) (s : Sort) → is_scalar s ≡ true → assignment_fits m vs init result (t ∷ []) s ≡ true → s ≡ target_type m vs init result t
     scalar_assigned t s c h =
         let fails : Bool = not (fits m.classes.classes s (target_type m vs init result t)) in
-        ⊎_elim (λ e. one_type s (target_type m vs init result t) e) (λ e. absurd (not_both fails (subst (λ l. (fails && parts_fit m vs init result (t ∷ []) l) ≡ true) (no_parts s c) e)))
+        ⊎_elim (λ e. one_type s (target_type m vs init result t) e) (λ e. absurd (never (and_right fails false (subst (λ l. (fails && parts_fit m vs init result (t ∷ []) l) ≡ true) (no_parts s c) e))))
         (or_cases (is_same_type s (target_type m vs init result t)) _ h)
 
     only_suits : (ts : List TypedTarget) (s : Sort) → is_one ts ≡ true → is_scalar s ≡ true → assignment_fits m vs init result ts s ≡ true → IsOnly m vs result ts s
     only_suits (LocalTarget i ∷ []) s o c h = variable_of (slice_get vs i) s c (scalar_assigned (LocalTarget i) s c h ∙ sort_found vs i (slice_get vs i) refl)
     only_suits (GlobalTarget i ∷ []) s o c h =
         variable_of (slice_get m.globals i) s c (scalar_assigned (GlobalTarget i) s c h ∙ sort_found m.globals i (slice_get m.globals i) refl)
-    only_suits [] s o c h = absurd (never o)
-    only_suits (t ∷ []) s o c h = absurd (never o)
     only_suits (t ∷ u ∷ more) s o c h = absurd (never o)
+    only_suits _ s o c h = absurd (never o)
 
     -- ---- updates
 
@@ -124,19 +112,10 @@ module _ (m : TypedModule) (vs : List Variable) (init : Option ℕ) (scalars : A
         inr (refl, (sym (one_type sort.Str s h), one_type u sort.Str (and_left _ _ is), one_type w sort.Str (and_right _ _ is)))
     adds_update u s w false is takes h = inl (numbers_update Add u s w (are_numbers u w) refl takes (λ e. e) h)
 
-    other_update : (op : BinOp) (u s w : Sort) → is_arithmetic op ≡ true → is_taken u s ≡ true → is_type (if are_numbers u w && not (is_bar op) then Some (number_join u w) else None) s ≡ true → UpdateSuits m vs result op u s w
-    other_update op u s w built takes h =
-        inl (numbers_update op u s w (are_numbers u w && not (is_bar op)) built takes (λ e. and_left (are_numbers u w) (not (is_bar op)) e) h)
-
     operation_suits : (op : BinOp) (u s w : Sort) → is_arithmetic op ≡ true → is_taken u s ≡ true → is_type (operation_sort op u w) s ≡ true → UpdateSuits m vs result op u s w
     operation_suits Add u s w built takes h = adds_update u s w (are_texts u w) refl takes h
-    operation_suits Sub u s w built takes h = other_update Sub u s w built takes h
-    operation_suits Mul u s w built takes h = other_update Mul u s w built takes h
-    operation_suits FloorDiv u s w built takes h = other_update FloorDiv u s w built takes h
-    operation_suits Mod u s w built takes h = other_update Mod u s w built takes h
-    operation_suits Shl u s w built takes h = other_update Shl u s w built takes h
-    operation_suits Shr u s w built takes h = other_update Shr u s w built takes h
-    operation_suits _ u s w built takes h = absurd (cc)
+    operation_suits op u s w built takes h =
+        inl (numbers_update op u s w (are_numbers u w && not (is_bar op)) built takes (λ e. and_left (are_numbers u w) (not (is_bar op)) e) h)
 
     -- a variable that is read with a type is updated in another one
     variable_updated : (op : BinOp) (r u s w : Sort) → r ≡ u → is_arithmetic op ≡ true → is_taken u s ≡ true → is_type (operation_sort op r w) s ≡ true → UpdateSuits m vs result op u s w
@@ -157,26 +136,17 @@ module _ (m : TypedModule) (vs : List Variable) (init : Option ℕ) (scalars : A
 
     -- ---- what is returned
 
-    none_not_compiled : (e : TypedExpr) → is_none_literal e ≡ true → expression_forms e ≡ [] → ⊥
-    none_not_compiled (typed n t place) h p = node_other n t h (own_form n t place p)
-      where
-        node_other : (n : TypedNode) (t : Sort) → is_none_literal (typed n t place) ≡ true → is_form n t ≡ true → ⊥
-        node_other Nothing t h f = absurd (cc)
-        node_other _ t h f = absurd (cc)
-
-    value_returned : (known : List ℕ) (t : Sort) (e : TypedExpr) → (is_value m vs init known e && is_same_type (type_of e) t) ≡ true → is_scalar (type_of e) ≡ true → expression_forms e ≡ [] → (is_scalar (type_of e) ≡ true) × (Some t ≡ Some (type_of e)) × Suits m vs e
-    value_returned known t e h c p =
-        (c, ap Some (sym (one_type (type_of e) t (and_right _ _ h))), expression_suits false known e (and_left _ _ h) p)
-
     returns_of : (known : List ℕ) (t : Sort) (e : TypedExpr) → return_fits m vs init result known (Some t) (Some e) ≡ true → is_scalar (type_of e) ≡ true → expression_forms e ≡ [] → (is_scalar (type_of e) ≡ true) × (Some t ≡ Some (type_of e)) × Suits m vs e
-    returns_of known sort.Nothing e h c p = absurd (none_not_compiled e (and_right _ _ h) p)
-    returns_of known t e h c p = value_returned known t e h c p
+    returns_of known sort.Nothing (typed Nothing t place) h c p = absurd (cc)
+    returns_of known sort.Nothing (typed _ t place) h c p = absurd (never (and_right _ _ h))
+    returns_of known t e h c p =
+        (c, ap Some (sym (one_type (type_of e) t (and_right _ _ h))), expression_suits false known e (and_left _ _ h) p)
 
   return_suits : (known : List ℕ) (result : Option Sort) (e : Option TypedExpr) → return_fits m vs init result known result e ≡ true → returned_forms e ≡ [] → ReturnSuits m vs result e
   return_suits known None e h p = absurd (cc)
   return_suits known (Some t) None h p = ap Some (nothing_is t h)
   return_suits known (Some t) (Some e) h p =
-      returns_of (Some t) known t e h (form_of (is_scalar (type_of e)) (expression_at e) (expression_forms e) p) (parts_of (is_scalar (type_of e)) (expression_at e) (expression_forms e) p)
+      let own = compiled (is_scalar (type_of e)) _ _ p in returns_of (Some t) known t e h own.0 own.1
 
   -- ---- statements
 
@@ -188,23 +158,21 @@ module _ (m : TypedModule) (vs : List Variable) (init : Option ℕ) (scalars : A
       act_suits : (known : List ℕ) (looping handling : Bool) (line : ℕ) (a : TypedAct) → act_typed m vs init result known looping handling a ≡ true → act_forms vs m.globals line a ≡ [] → ActSuits m vs result looping a
       act_suits known looping handling line (Do e) h p = alone_suits result known e h p
       act_suits known looping handling line (Assign ts e) h p =
-          let form = form_of (is_one ts && is_scalar (type_of e)) (unbuilt line (targets_form ts (expression_form e))) (expression_forms e) p in
-          let scalar = and_right (is_one ts) (is_scalar (type_of e)) form in (
-            scalar,
-            only_suits result ts (type_of e) (and_left (is_one ts) (is_scalar (type_of e)) form) scalar (and_right _ _ h),
-            expression_suits false known e (and_left _ _ (and_left _ _ (and_left _ _ h))) (parts_of (is_one ts && is_scalar (type_of e)) (unbuilt line (targets_form ts (expression_form e))) (expression_forms e) p),
-          )
+          let own = compiled (is_one ts && is_scalar (type_of e)) _ _ p in
+          let scalar = and_right (is_one ts) (is_scalar (type_of e)) own.0 in
+          (scalar, only_suits result ts (type_of e) (and_left (is_one ts) _ own.0) scalar (and_right _ _ h), expression_suits false known e (and_left _ _ (and_left _ _ (and_left _ _ h))) own.1)
       act_suits known looping handling line (Aug t op e s) h p =
-          let form = form_of (is_updated vs m.globals t s && (is_scalar s && is_arithmetic op)) (unbuilt line (update_form t s)) (expression_forms e) p in
-          let more = and_right (is_updated vs m.globals t s) (is_scalar s && is_arithmetic op) form in
-          let found = updated result known t op s (type_of e) (and_left (is_updated vs m.globals t s) (is_scalar s && is_arithmetic op) form) (and_left (is_scalar s) (is_arithmetic op) more) (and_right (is_scalar s) (is_arithmetic op) more) (and_left _ _ (and_right _ _ h)) in
-          (found, expression_suits false known e (and_left _ _ (and_left _ _ h)) (parts_of (is_updated vs m.globals t s && (is_scalar s && is_arithmetic op)) (unbuilt line (update_form t s)) (expression_forms e) p))
+          let own = compiled (is_updated vs m.globals t s && (is_scalar s && is_arithmetic op)) _ _ p in
+          let more = and_right (is_updated vs m.globals t s) (is_scalar s && is_arithmetic op) own.0 in (
+            updated result known t op s (type_of e) (and_left (is_updated vs m.globals t s) _ own.0) (and_left (is_scalar s) _ more) (and_right (is_scalar s) _ more) (and_left _ _ (and_right _ _ h)),
+            expression_suits false known e (and_left _ _ (and_left _ _ h)) own.1,
+          )
       act_suits known looping handling line (If arms other) h p =
-          let found = arms_suit known looping handling arms (λ there. suite_typed m vs init result there looping handling other) (and_right _ _ h) (none_left (arms_forms vs m.globals arms) (suite_forms vs m.globals other) p) in
-          (found.0, suite_suits found.1 looping handling other found.2 (none_right (arms_forms vs m.globals arms) (suite_forms vs m.globals other) p))
+          let found = arms_suit known looping handling arms (λ there. suite_typed m vs init result there looping handling other) (and_right _ _ h) (none_left _ _ p) in
+          (found.0, suite_suits found.1 looping handling other found.2 (none_right _ _ p))
       act_suits known looping handling line (While test body) h p = (
-        test_suits (without (bound_suite body) known) test (and_left _ _ (and_left _ _ h)) (none_left (expression_forms test) (suite_forms vs m.globals body) p),
-        suite_suits (facts true test ++ without (bound_suite body) known) true handling body (and_right _ _ h) (none_right (expression_forms test) (suite_forms vs m.globals body) p),
+        test_suits (without (bound_suite body) known) test (and_left _ _ (and_left _ _ h)) (none_left _ _ p),
+        suite_suits (facts true test ++ without (bound_suite body) known) true handling body (and_right _ _ h) (none_right _ _ p),
       )
       act_suits known looping handling line (Return e) h p = return_suits known result e h p
       act_suits known looping handling line Break h p = h
@@ -214,21 +182,16 @@ module _ (m : TypedModule) (vs : List Variable) (init : Option ℕ) (scalars : A
 
       pub suite_suits : (known : List ℕ) (looping handling : Bool) (body : TypedSuite) → suite_typed m vs init result known looping handling body ≡ true → suite_forms vs m.globals body ≡ [] → SuiteSuits m vs result looping body
       suite_suits known looping handling no_stmts h p = tt
-      suite_suits known looping handling (stmt_then s more) h p = (
-        statement_suits known looping handling s (and_left _ _ h) (none_left (statement_forms vs m.globals s) (suite_forms vs m.globals more) p),
-        suite_suits (after (is_single m vs init result) known s) looping handling more (and_right _ _ h) (none_right (statement_forms vs m.globals s) (suite_forms vs m.globals more) p),
-      )
+      suite_suits known looping handling (stmt_then s more) h p =
+          both (statement_suits known looping handling s) (suite_suits (after (is_single m vs init result) known s) looping handling more) h p
 
       arms_suit : (known : List ℕ) (looping handling : Bool) (arms : Arms) (other : List ℕ → Bool) → arms_typed m vs init result known looping handling arms other ≡ true → arms_forms vs m.globals arms ≡ [] → ArmsSuit m vs result looping arms × (there : List ℕ) × (other there ≡ true)
       arms_suit known looping handling no_arms other h p = (tt, known, h)
       arms_suit known looping handling (arm_then test body more) other h p =
-          let rest : suite_forms vs m.globals body ++ arms_forms vs m.globals more ≡ [] = none_right (expression_forms test) (suite_forms vs m.globals body ++ arms_forms vs m.globals more) p in
-          let found = arms_suit (facts false test ++ known) looping handling more other (and_right _ _ h) (none_right (suite_forms vs m.globals body) (arms_forms vs m.globals more) rest) in (
-            (
-              test_suits known test (and_left _ _ (and_left _ _ (and_left _ _ h))) (none_left (expression_forms test) (suite_forms vs m.globals body ++ arms_forms vs m.globals more) p),
-              suite_suits (facts true test ++ known) looping handling body (and_right _ _ (and_left _ _ h)) (none_left (suite_forms vs m.globals body) (arms_forms vs m.globals more) rest),
-              found.0,
-            ),
+          let own = and_left _ _ h in
+          let behind = none_right _ _ p in
+          let found = arms_suit (facts false test ++ known) looping handling more other (and_right _ _ h) (none_right _ _ behind) in (
+            (test_suits known test (and_left _ _ (and_left _ _ own)) (none_left _ _ p), suite_suits (facts true test ++ known) looping handling body (and_right _ _ own) (none_left _ _ behind), found.0),
             found.1,
             found.2,
           )

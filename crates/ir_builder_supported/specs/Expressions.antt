@@ -5,7 +5,7 @@ use Rattle.py_typed.specs.Fits.{is_number}
 use Rattle.py_typed.specs.Sorts.{Sort}
 use Rattle.py_typed.specs.Expressions.{TypedExpr, typed, TypedNode, Int, Str, Flag, Local, Global, Neg, Not, Truth, Arith, Concat, Compare, And, Or, Cond, At, Call, Input, Len, ToStr, Coerce, TypedExprs, no_exprs, expr_then, Comparisons, no_comparisons, comparison_then, type_of}
 use Rattle.ir_builder_forms.specs.declared.form.Unbuilt.{Unbuilt}
-use Rattle.ir_builder_operations.specs.Operating.{is_arithmetic, is_whole}
+use Rattle.ir_builder_operations.specs.Selecting.{is_arithmetic, is_whole}
 use Rattle.ir_builder_comparisons.specs.Comparing.{is_ordering}
 use Rattle.ir_builder_expressions.specs.Parts.{is_bool, is_int, is_text, is_scalar, is_result, is_pair}
 use Rattle.ir_builder_supported.specs.Forms.{unbuilt, node_form}

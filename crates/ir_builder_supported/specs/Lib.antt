@@ -1,5 +1,4 @@
 pub mod Forms
 pub mod Expressions
 pub mod Statements
-pub mod Least
 pub mod Laws

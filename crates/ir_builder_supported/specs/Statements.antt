@@ -12,7 +12,7 @@ use Rattle.py_check_names.specs.Outline.{suite_definitions}
 use Rattle.ir_builder_forms.specs.declared.form.Form.TheVariants as form
 use Rattle.ir_builder_forms.specs.declared.form.Unbuilt.{Unbuilt}
 use Rattle.ir_builder_forms.specs.Least.{least}
-use Rattle.ir_builder_operations.specs.Operating.{is_arithmetic}
+use Rattle.ir_builder_operations.specs.Selecting.{is_arithmetic}
 use Rattle.ir_builder_expressions.specs.Parts.{is_int, is_i64, is_scalar, is_result}
 use Rattle.ir_builder_supported.specs.Forms.{unbuilt, expression_form, expression_at, targets_form, update_form, is_none, function_form}
 use Rattle.ir_builder_supported.specs.Expressions.{or_parts, expression_forms, row_forms}

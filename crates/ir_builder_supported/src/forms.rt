@@ -1,17 +1,16 @@
 //! Whether a type, an operation or a node is one of those that are compiled, whatever stands in it.
 ghost use Rattle.std.specs.Prelude.{◌≡◌, ◌&&◌, map, slice_get};
 ghost use Rattle.py_typed.specs.Sorts.{sort};
-ghost use Rattle.py_typed.specs.Fits as fits;
 ghost use Rattle.py_typed.specs.Expressions.{typed_expr, typed_node, typed_comparison, comparisons_of};
 ghost use Rattle.py_typed.specs.Statements.{typed_target, typed_func, variable};
 ghost use Rattle.ir_builder_comparisons.specs.Comparing as comparing;
-ghost use Rattle.ir_builder_operations.specs.Operating as operating;
+ghost use Rattle.ir_builder_operations.specs.Selecting as selecting;
 ghost use Rattle.ir_builder_expressions.specs.Parts as sorts;
 ghost use Rattle.ir_builder_supported.specs.Expressions as form;
 ghost use Rattle.ir_builder_supported.specs.Statements as statement;
 
 use py_syntax::{BinOp, CmpOp};
-use py_typed::{TExpr, TFunc, TKind, Target, Ty, Var, is_same_type};
+use py_typed::{TExpr, TFunc, TKind, Target, Ty, Var, is_number, is_same_type, is_text};
 
 fn is_int(t: &Ty) -> bool
     ensures { result ≡ sorts.is_int (sort t.now) }
@@ -25,12 +24,6 @@ fn is_i64(t: &Ty) -> bool
     matches!(t, Ty::I64)
 }
 
-fn is_text(t: &Ty) -> bool
-    ensures { result ≡ sorts.is_text (sort t.now) }
-{
-    matches!(t, Ty::Str)
-}
-
 fn is_bool(t: &Ty) -> bool
     ensures { result ≡ sorts.is_bool (sort t.now) }
 {
@@ -39,16 +32,9 @@ fn is_bool(t: &Ty) -> bool
 
 /// Whether a type is one of whole numbers.
 fn is_whole(t: &Ty) -> bool
-    ensures { result ≡ operating.is_whole (sort t.now) }
+    ensures { result ≡ selecting.is_whole (sort t.now) }
 {
     matches!(t, Ty::Int | Ty::I64)
-}
-
-/// Whether a type is one of numbers and bools.
-fn is_number(t: &Ty) -> bool
-    ensures { result ≡ fits.is_number (sort t.now) }
-{
-    matches!(t, Ty::Int | Ty::I64 | Ty::Bool)
 }
 
 /// Whether a type is one of variables: numbers, bools and texts.
@@ -66,7 +52,7 @@ fn is_result(t: &Ty) -> bool
 }
 
 fn is_arithmetic(op: BinOp) -> bool
-    ensures { result ≡ operating.is_arithmetic op }
+    ensures { result ≡ selecting.is_arithmetic op }
 {
     !matches!(op, BinOp::Bar)
 }
@@ -107,47 +93,37 @@ pub(crate) fn is_form(e: &TExpr) -> bool
 {
     match &e.kind {
         TKind::Int(_) => is_int(&e.ty),
-        TKind::Str(_) => is_text(&e.ty),
-        TKind::Bool(_) => is_bool(&e.ty),
-        TKind::Local(_) => is_scalar(&e.ty),
-        TKind::Global(_) => is_scalar(&e.ty),
+        TKind::Str(_) | TKind::Concat(_, _) | TKind::Input => is_text(&e.ty),
+        TKind::Bool(_) | TKind::Not(_) => is_bool(&e.ty),
+        TKind::Local(_)
+        | TKind::Global(_)
+        | TKind::And(_, _)
+        | TKind::Or(_, _)
+        | TKind::Cond(_, _, _) => is_scalar(&e.ty),
         TKind::Neg(_) => is_whole(&e.ty),
-        TKind::Not(_) => is_bool(&e.ty),
         TKind::Truth(a) => is_bool(&e.ty) && is_scalar(&a.ty),
         TKind::Arith(op, _, _) => is_whole(&e.ty) && is_arithmetic(*op),
-        TKind::Concat(_, _) => is_text(&e.ty),
         TKind::Compare(first, more) => {
             is_bool(&e.ty) && (is_scalar(&first.ty) && are_pairs(&first.ty, more.as_slice()))
         }
-        TKind::And(_, _) => is_scalar(&e.ty),
-        TKind::Or(_, _) => is_scalar(&e.ty),
-        TKind::Cond(_, _, _) => is_scalar(&e.ty),
-        TKind::At(a, _) => is_text(&a.ty),
+        TKind::At(a, _) | TKind::Len(a) => is_text(&a.ty),
         TKind::Call(_, _) => is_result(&e.ty),
-        TKind::Input => is_text(&e.ty),
-        TKind::Len(a) => is_text(&a.ty),
         TKind::ToStr(a) => is_scalar(&a.ty),
         TKind::Coerce(a) => is_whole(&e.ty) && is_number(&a.ty),
-        TKind::Nothing => false,
-        TKind::List(_) => false,
-        TKind::Dict(_) => false,
-        TKind::Tuple(_) => false,
-        TKind::Attr(_, _) => false,
-        TKind::TupleAt(_, _) => false,
-        TKind::Make(_, _) => false,
-        TKind::MakeExc(_, _) => false,
-        TKind::Method(_, _, _) => false,
-        TKind::SuperInit(_, _) => false,
-        TKind::Print(_) => false,
-        TKind::Append(_, _) => false,
-        TKind::Pop(_) => false,
+        TKind::Nothing
+        | TKind::List(_)
+        | TKind::Dict(_)
+        | TKind::Tuple(_)
+        | TKind::Attr(_, _)
+        | TKind::TupleAt(_, _)
+        | TKind::Make(_, _)
+        | TKind::MakeExc(_, _)
+        | TKind::Method(_, _, _)
+        | TKind::SuperInit(_, _)
+        | TKind::Print(_)
+        | TKind::Append(_, _)
+        | TKind::Pop(_) => false,
     }
-}
-
-fn is_own(target: &Target) -> bool
-    ensures { result ≡ statement.is_own (typed_target target.now) }
-{
-    matches!(target, Target::Local(_) | Target::Global(_))
 }
 
 /// Whether what is assigned to is one name of the function or of the module.
@@ -155,7 +131,7 @@ fn is_one(targets: &[Target]) -> bool
     ensures { result ≡ statement.is_one (map typed_target targets.now) }
 {
     match targets {
-        [target] => is_own(target),
+        [target] => matches!(target, Target::Local(_) | Target::Global(_)),
         _ => false,
     }
 }
@@ -191,8 +167,7 @@ fn is_updated_name(locals: &[Var], globals: &[Var], target: &Target, t: &Ty) -> 
     match target {
         Target::Local(i) => takes_result(locals, *i, t),
         Target::Global(i) => takes_result(globals, *i, t),
-        Target::Attr(_, _) => false,
-        Target::At(_, _) => false,
+        _ => false,
     }
 }
 
@@ -204,7 +179,7 @@ pub(crate) fn is_updated(
     op: BinOp,
     t: &Ty,
 ) -> bool
-    ensures { result ≡ (statement.is_updated (map variable locals.now) (map variable globals.now) (typed_target target.now) (sort t.now) && (sorts.is_scalar (sort t.now) && operating.is_arithmetic op)) }
+    ensures { result ≡ (statement.is_updated (map variable locals.now) (map variable globals.now) (typed_target target.now) (sort t.now) && (sorts.is_scalar (sort t.now) && selecting.is_arithmetic op)) }
 {
     is_updated_name(locals, globals, target, t) && (is_scalar(t) && is_arithmetic(op))
 }

@@ -2,8 +2,8 @@
 //!
 //! What comes in is a tree and its typed module; what goes out is the first form in it that is not compiled, with its line
 //! (`uncompiled_form`): `specs/Statements.antt` and `specs/Expressions.antt` say which are compiled, `specs/Forms.antt` what the others
-//! are called. `forms` has the tests of single nodes, `naming` the names, and `lines` the walk, which goes as `specs/Least.antt`
-//! does. `laws` has that a well typed module without such a form is one that is built.
+//! are called. `forms` has the tests of single nodes, `naming` the names, and `lines` the walk. `laws` has that a well typed module
+//! without such a form is one that is built.
 #![tactic(auto)]
 
 mod forms;

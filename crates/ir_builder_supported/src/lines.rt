@@ -2,15 +2,17 @@
 //!
 //! Each function takes the first found so far, and gives the first with those of what it goes over. Those that go over statements
 //! take the variables of the function and of the module too.
+#![tactic(auto, using(crate::proofs::FormLemmas::rows))]
+
 ghost use Rattle.std.specs.Prelude.{◌≡◌, ◌++◌, map, slice_get, Some, IfOk};
-ghost use Rattle.ir_builder_forms.specs.Least.{lesser};
+ghost use Rattle.std.specs.List.{flat_map};
+ghost use Rattle.ir_builder_forms.specs.Least.{lesser, least};
 ghost use Rattle.py_syntax.specs.Statements.{module_tree, stmt_tree, body_tree};
 ghost use Rattle.py_check_names.specs.Walked.{trees};
 ghost use Rattle.py_typed.specs.Expressions.{typed_expr, exprs_of, comparisons_of, typed_comparison};
 ghost use Rattle.py_typed.specs.Statements.{typed_stmt, typed_suite, typed_arm, arms_of, maybe_typed, variable, typed_func, typed_module};
-ghost use Rattle.ir_builder_supported.specs.Statements.{uncompiled_form, is_function, def_line, def_lines, lines_held, function_lines, line_or_none};
-ghost use Rattle.ir_builder_supported.specs.Forms as form;
-ghost use Rattle.ir_builder_supported.specs.Least as find;
+ghost use Rattle.ir_builder_supported.specs.Expressions.{or_parts, expression_forms, row_forms, chain_forms};
+ghost use Rattle.ir_builder_supported.specs.Statements.{alone_forms, returned_forms, statement_forms, suite_forms, arms_forms, function_forms, functions_forms, class_form, uncompiled_form, def_line, def_lines, lines_held, function_lines, line_or_none};
 
 use crate::forms::{is_assigned, is_form, is_function, is_scalar, is_updated};
 use crate::naming::{assignment_form, expression_at, function_form, unbuilt, update_form};
@@ -38,46 +40,39 @@ pub fn uncompiled_form(
     Ok(in_functions(lines.as_slice(), checked.funcs.as_slice(), globals, found))
 }
 
-/// With something that is not compiled.
-fn with(here: Unbuilt, found: Option<Unbuilt>) -> Option<Unbuilt>
-    ensures { result ≡ Some (lesser here found) }
-{
-    Some(lesser(here, found))
-}
-
 /// In an expression.
 #[cycle(expression)]
 fn in_expression(e: &TExpr, found: Option<Unbuilt>) -> Option<Unbuilt>
-    ensures { result ≡ find.expression_least found (typed_expr e.now) }
+    ensures { result ≡ least found (expression_forms (typed_expr e.now)) }
 {
     if !is_form(e) {
-        return with(expression_at(e), found);
+        return Some(lesser(expression_at(e), found));
     }
     match &e.kind {
-        TKind::Neg(a) => in_expression(a, found),
-        TKind::Not(a) => in_expression(a, found),
-        TKind::Truth(a) => in_expression(a, found),
-        TKind::Arith(_, a, b) => in_expression(b, in_expression(a, found)),
-        TKind::Concat(a, b) => in_expression(b, in_expression(a, found)),
+        TKind::Neg(a)
+        | TKind::Not(a)
+        | TKind::Truth(a)
+        | TKind::Len(a)
+        | TKind::ToStr(a)
+        | TKind::Coerce(a) => in_expression(a, found),
+        TKind::Arith(_, a, b)
+        | TKind::Concat(a, b)
+        | TKind::And(a, b)
+        | TKind::Or(a, b)
+        | TKind::At(a, b) => in_expression(b, in_expression(a, found)),
         TKind::Compare(a, more) => in_chain(more.as_slice(), in_expression(a, found)),
-        TKind::And(a, b) => in_expression(b, in_expression(a, found)),
-        TKind::Or(a, b) => in_expression(b, in_expression(a, found)),
         TKind::Cond(a, test, b) => {
             let found = in_expression(test, in_expression(a, found));
             in_expression(b, found)
         }
-        TKind::At(a, b) => in_expression(b, in_expression(a, found)),
         TKind::Call(_, arguments) => in_row(arguments.as_slice(), found),
-        TKind::Len(a) => in_expression(a, found),
-        TKind::ToStr(a) => in_expression(a, found),
-        TKind::Coerce(a) => in_expression(a, found),
         _ => found,
     }
 }
 
 #[cycle(expression)]
 fn in_row(items: &[TExpr], found: Option<Unbuilt>) -> Option<Unbuilt>
-    ensures { result ≡ find.row_least found (exprs_of (map typed_expr items.now)) }
+    ensures { result ≡ least found (row_forms (exprs_of (map typed_expr items.now))) }
 {
     let mut found = found;
     for item in items {
@@ -88,7 +83,7 @@ fn in_row(items: &[TExpr], found: Option<Unbuilt>) -> Option<Unbuilt>
 
 #[cycle(expression)]
 fn in_chain(more: &[(CmpOp, TExpr)], found: Option<Unbuilt>) -> Option<Unbuilt>
-    ensures { result ≡ find.chain_least found (comparisons_of (map typed_comparison more.now)) }
+    ensures { result ≡ least found (chain_forms (comparisons_of (map typed_comparison more.now))) }
 {
     let mut found = found;
     for (_, operand) in more {
@@ -99,7 +94,7 @@ fn in_chain(more: &[(CmpOp, TExpr)], found: Option<Unbuilt>) -> Option<Unbuilt>
 
 /// In an expression that stands alone: `print` writes any number of values.
 fn in_alone(e: &TExpr, found: Option<Unbuilt>) -> Option<Unbuilt>
-    ensures { result ≡ find.alone_least found (typed_expr e.now) }
+    ensures { result ≡ least found (alone_forms (typed_expr e.now)) }
 {
     match &e.kind {
         TKind::Print(values) => in_row(values.as_slice(), found),
@@ -108,7 +103,7 @@ fn in_alone(e: &TExpr, found: Option<Unbuilt>) -> Option<Unbuilt>
 }
 
 fn in_returned(e: &Option<TExpr>, found: Option<Unbuilt>) -> Option<Unbuilt>
-    ensures { result ≡ find.returned_least found (maybe_typed e.now) }
+    ensures { result ≡ least found (returned_forms (maybe_typed e.now)) }
 {
     match e {
         None => found,
@@ -118,12 +113,12 @@ fn in_returned(e: &Option<TExpr>, found: Option<Unbuilt>) -> Option<Unbuilt>
 
 /// In an expression, where what it stands in is compiled; else that itself.
 fn in_part(compiled: bool, e: &TExpr, here: Unbuilt, found: Option<Unbuilt>) -> Option<Unbuilt>
-    ensures { result ≡ find.noted compiled here found (find.expression_least found (typed_expr e.now)) }
+    ensures { result ≡ least found (or_parts compiled here (expression_forms (typed_expr e.now))) }
 {
     if compiled {
         in_expression(e, found)
     } else {
-        with(here, found)
+        Some(lesser(here, found))
     }
 }
 
@@ -134,7 +129,7 @@ fn in_suite(
     globals: &[Var],
     found: Option<Unbuilt>,
 ) -> Option<Unbuilt>
-    ensures { result ≡ find.suite_least (map variable locals.now) (map variable globals.now) found (typed_suite body.now) }
+    ensures { result ≡ least found (suite_forms (map variable locals.now) (map variable globals.now) (typed_suite body.now)) }
 {
     let mut found = found;
     for s in body {
@@ -150,7 +145,7 @@ fn in_statement(
     globals: &[Var],
     found: Option<Unbuilt>,
 ) -> Option<Unbuilt>
-    ensures { result ≡ find.statement_least (map variable locals.now) (map variable globals.now) found (typed_stmt s.now) }
+    ensures { result ≡ least found (statement_forms (map variable locals.now) (map variable globals.now) (typed_stmt s.now)) }
 {
     match &s.kind {
         TStmtKind::Expr(e) => in_alone(e, found),
@@ -176,16 +171,14 @@ fn in_statement(
             in_suite(body.as_slice(), locals, globals, in_expression(test, found))
         }
         TStmtKind::Return(e) => in_returned(e, found),
-        TStmtKind::Break => found,
-        TStmtKind::Continue => found,
-        TStmtKind::Pass => found,
-        TStmtKind::Del(_, _) => with(unbuilt(s.line, Form::Del), found),
-        TStmtKind::ForRange(_, _, _, _) => with(unbuilt(s.line, Form::For), found),
-        TStmtKind::ForList(_, _, _) => with(unbuilt(s.line, Form::For), found),
-        TStmtKind::ForDict(_, _, _) => with(unbuilt(s.line, Form::For), found),
-        TStmtKind::Try(_, _, _) => with(unbuilt(s.line, Form::Try), found),
-        TStmtKind::Raise(_) => with(unbuilt(s.line, Form::Raise), found),
-        TStmtKind::Assert(_, _) => with(unbuilt(s.line, Form::Assert), found),
+        TStmtKind::Break | TStmtKind::Continue | TStmtKind::Pass => found,
+        TStmtKind::Del(_, _) => Some(lesser(unbuilt(s.line, Form::Del), found)),
+        TStmtKind::ForRange(_, _, _, _)
+        | TStmtKind::ForList(_, _, _)
+        | TStmtKind::ForDict(_, _, _) => Some(lesser(unbuilt(s.line, Form::For), found)),
+        TStmtKind::Try(_, _, _) => Some(lesser(unbuilt(s.line, Form::Try), found)),
+        TStmtKind::Raise(_) => Some(lesser(unbuilt(s.line, Form::Raise), found)),
+        TStmtKind::Assert(_, _) => Some(lesser(unbuilt(s.line, Form::Assert), found)),
     }
 }
 
@@ -196,7 +189,7 @@ fn in_arms(
     globals: &[Var],
     found: Option<Unbuilt>,
 ) -> Option<Unbuilt>
-    ensures { result ≡ find.arms_least (map variable locals.now) (map variable globals.now) found (arms_of (map typed_arm arms.now)) }
+    ensures { result ≡ least found (arms_forms (map variable locals.now) (map variable globals.now) (arms_of (map typed_arm arms.now))) }
 {
     let mut found = found;
     for (test, body) in arms {
@@ -207,18 +200,18 @@ fn in_arms(
 
 /// In the body of a function, where the function is compiled; else the function, on the line of its definition.
 fn in_function(f: &TFunc, line: usize, globals: &[Var], found: Option<Unbuilt>) -> Option<Unbuilt>
-    ensures { result ≡ find.noted (is_function (typed_func f.now)) (form.unbuilt line (form.function_form (typed_func f.now))) found (find.suite_least (typed_func f.now).locals (map variable globals.now) found (typed_func f.now).body) }
+    ensures { result ≡ least found (function_forms (map variable globals.now) line (typed_func f.now)) }
 {
     if is_function(f) {
         in_suite(f.body.as_slice(), f.locals.as_slice(), globals, found)
     } else {
-        with(unbuilt(line, function_form(f)), found)
+        Some(lesser(unbuilt(line, function_form(f)), found))
     }
 }
 
 /// In definitions, of which classes are not compiled.
 fn in_classes(definitions: &[&Stmt], found: Option<Unbuilt>) -> Option<Unbuilt>
-    ensures { result ≡ find.classes_least found (trees definitions.now) }
+    ensures { result ≡ least found (flat_map class_form (trees definitions.now)) }
 {
     let mut found = found;
     for s in definitions {
@@ -228,10 +221,10 @@ fn in_classes(definitions: &[&Stmt], found: Option<Unbuilt>) -> Option<Unbuilt>
 }
 
 fn in_class(s: &Stmt, found: Option<Unbuilt>) -> Option<Unbuilt>
-    ensures { result ≡ find.class_least found (stmt_tree s.now) }
+    ensures { result ≡ least found (class_form (stmt_tree s.now)) }
 {
     match &s.kind {
-        StmtKind::Class(_) => with(unbuilt(s.span.line, Form::Class), found),
+        StmtKind::Class(_) => Some(lesser(unbuilt(s.span.line, Form::Class), found)),
         _ => found,
     }
 }
@@ -300,7 +293,7 @@ fn in_functions(
     globals: &[Var],
     found: Option<Unbuilt>,
 ) -> Option<Unbuilt>
-    ensures { result ≡ find.functions_least (map variable globals.now) lines.now found 0 (map typed_func functions.now) }
+    ensures { result ≡ least found (functions_forms (map variable globals.now) lines.now 0 (map typed_func functions.now)) }
 {
     let mut found = found;
     for (n, f) in functions.iter().enumerate() {

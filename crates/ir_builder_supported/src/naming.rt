@@ -66,8 +66,7 @@ fn node_form(e: &TExpr) -> Form
     let value = Form::Value(kind(&e.ty));
     match &e.kind {
         TKind::Nothing => Form::NoneValue,
-        TKind::Local(_) => Form::Variable(kind(&e.ty)),
-        TKind::Global(_) => Form::Variable(kind(&e.ty)),
+        TKind::Local(_) | TKind::Global(_) => Form::Variable(kind(&e.ty)),
         TKind::Truth(a) => Form::Condition(kind(&a.ty)),
         TKind::Compare(first, more) => { chain_form(Form::Value(kind(&first.ty)), more.as_slice()) }
         TKind::List(_) => Form::ListDisplay,
@@ -84,27 +83,21 @@ fn node_form(e: &TExpr) -> Form
         TKind::Len(a) => Form::Length(kind(&a.ty)),
         TKind::Append(_, _) => Form::Append,
         TKind::Pop(_) => Form::Pop,
-        TKind::Int(_) => value,
-        TKind::Str(_) => value,
-        TKind::Bool(_) => value,
-        TKind::Neg(_) => value,
-        TKind::Not(_) => value,
-        TKind::Arith(_, _, _) => value,
-        TKind::Concat(_, _) => value,
-        TKind::And(_, _) => value,
-        TKind::Or(_, _) => value,
-        TKind::Cond(_, _, _) => value,
-        TKind::Print(_) => value,
-        TKind::Input => value,
-        TKind::ToStr(_) => value,
-        TKind::Coerce(_) => value,
+        TKind::Int(_)
+        | TKind::Str(_)
+        | TKind::Bool(_)
+        | TKind::Neg(_)
+        | TKind::Not(_)
+        | TKind::Arith(_, _, _)
+        | TKind::Concat(_, _)
+        | TKind::And(_, _)
+        | TKind::Or(_, _)
+        | TKind::Cond(_, _, _)
+        | TKind::Print(_)
+        | TKind::Input
+        | TKind::ToStr(_)
+        | TKind::Coerce(_) => value,
     }
-}
-
-fn expression_form(e: &TExpr) -> Form
-    ensures { result ≡ spec.expression_form (typed_expr e.now) }
-{
-    node_form(e)
 }
 
 /// An expression that is not compiled, on the line where it begins.
@@ -119,8 +112,7 @@ fn target_form(target: &Target, other: Form) -> Form
     ensures { result ≡ spec.target_form (typed_target target.now) other }
 {
     match target {
-        Target::Local(_) => other,
-        Target::Global(_) => other,
+        Target::Local(_) | Target::Global(_) => other,
         Target::Attr(_, _) => Form::Attribute,
         Target::At(e, _) => Form::Index(kind(&e.ty)),
     }
@@ -140,7 +132,7 @@ fn targets_form(targets: &[Target], other: Form) -> Form
 pub(crate) fn assignment_form(targets: &[Target], e: &TExpr) -> Form
     ensures { result ≡ spec.targets_form (map typed_target targets.now) (spec.expression_form (typed_expr e.now)) }
 {
-    targets_form(targets, expression_form(e))
+    targets_form(targets, node_form(e))
 }
 
 /// What an update is called that is not compiled, whose operation is done in this type.

@@ -1,8 +1,13 @@
-use Rattle.ir_builder_supported.proofs.Common.{rules, ◌≡◌, typed_expr, expression_least}
-use Rattle.ir_builder_supported.proofs.CodeLemmas.{comparison_found}
+use Rattle.ir_builder_supported.proofs.Common.{arith}
+use Rattle.py_typed.proofs.ExpressionLemmas.{typed_expr_at, typed_node-And, typed_node-Arith, typed_node-At, typed_node-Compare, typed_node-Concat, typed_node-Cond, typed_node-Or}
+use Rattle.ir_builder_supported.proofs.FormLemmas.{least_append}
 use Rattle.ir_builder_supported.proofs.lines.+expression.Goals as goal
 
+pub in_expression-returns-in-Arith : goal.in_expression-returns-in-Arith
+in_expression-returns-in-Arith t c = grind (arith, least_append, typed_expr_at c.args.e.now, typed_node-Arith, typed_node-Concat, typed_node-And, typed_node-Or, typed_node-At)
+
 pub in_expression-returns-in-Compare : goal.in_expression-returns-in-Compare
-in_expression-returns-in-Compare t c =
-    let first : c.in_expression-in-Compare.result ≡ expression_least c.args.found (typed_expr c.in-Compare.a.value) = search (rules, c.in_expression-in-Compare.ensures, c.deref-in-Compare.ensures) in
-    comparison_found c.args.e.now c.in-Compare.a c.in-Compare.more c.as_slice.result.now c.in-Compare.is c.as_slice.ensures c.is_form.result c.is_form.ensures (search (rules, c.if-not-is_form.false)) c.args.found _ _ first c.in_chain.ensures
+in_expression-returns-in-Compare t c = grind (arith, least_append, typed_expr_at c.args.e.now, typed_node-Compare)
+
+pub in_expression-returns-in-Cond : goal.in_expression-returns-in-Cond
+in_expression-returns-in-Cond t c = grind (arith, least_append, typed_expr_at c.args.e.now, typed_node-Cond c.in-Cond.a c.in-Cond.test c.in-Cond.b)
