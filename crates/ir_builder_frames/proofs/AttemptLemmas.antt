@@ -1,13 +1,14 @@
 -- Operations that may fail: what they leave in registers, and where their exceptions go.
-use Rattle.ir_builder_frames.proofs.Common.{◌&&◌, map, ◌≡◌, ℕ, ◌+◌, ◌<◌, ◌≤◌, true, false, cond, List, [], ◌∷◌, length, Option, Some, None, refl, sym, ap, ◌∙◌, subst, arith, le_refl, Thrown, Value, ExcVal, row_of, Primitive, Sort, State, Outcome, Gives, Raises, Stops, Stop, Does, on_to, RType, Reg, PArg, Var, Prim, Program, Do, Failing, NeverFails, MayFail, AlwaysFails, failing, Declared, type_of_reg, edge_of_kind, edge_of_prim, kind_by_result, type_given, Held, Holds, Regs, put, error_of, World, Argument, Given, Effect, Fails, effect, Building, Frame, Waiting, Config, Runs, Ended, Stuck, Strict, read, arguments, typed, applied, is_tested, is_asked, is_clear, away, registers_of, item_at, handler_at, failed, step, put_same, put_other, op_step, Setting, rtype_of, Has, Placed, where_it_may, Adds, world, running, Ends, HaveKinds, Matches, HasRoom, IsThrown, Showing, Meaning, Arrives, Computes, ShowAll, Attempts}
+use Rattle.ir_builder_frames.proofs.Common.{◌&&◌, map, ◌≡◌, ℕ, ◌+◌, ◌<◌, ◌≤◌, true, false, cond, List, [], ◌∷◌, length, Option, Some, None, refl, sym, ap, ◌∙◌, subst, arith, le_refl, ◌⊎◌, inl, inr, Thrown, Value, ExcVal, row_of, Primitive, Sort, State, Outcome, Gives, Raises, Stops, Stop, Does, on_to, RType, Reg, PArg, Var, Prim, Program, Do, Failing, NeverFails, MayFail, AlwaysFails, failing, Declared, type_of_reg, edge_of_kind, edge_of_prim, kind_by_result, type_given, Held, Holds, Regs, put, error_of, World, Argument, Given, Effect, Fails, effect, Building, Frame, Waiting, Config, Runs, Ended, Stuck, Strict, read, arguments, typed, applied, is_tested, is_asked, is_clear, away, registers_of, item_at, handler_at, failed, step, put_same, put_other, op_step, Setting, rtype_of, Has, Placed, where_it_may, Adds, world, running, Ends, HaveKinds, Matches, HasRoom, IsThrown, Showing, Meaning, Arrives, Computes, ShowAll, Attempts}
 use Rattle.value_core.specs.Ending.{Ending}
 use Rattle.source_meaning.specs.SourceRun.{ending_by}
+use Rattle.source_meaning.specs.State.{Stuck as Ill}
 use Rattle.ir_core.specs.declared.code.RType.TheVariants.{Int, I64, Bool as BoolType, Ref}
 use Rattle.ir_core.specs.Effects.{Gives as Giving, Ends as Finishing}
 use Rattle.ir_builder_frames.specs.Computing.{HaveTypes}
 use Rattle.ir_builder_frames.specs.Operands.{ActsOnAll}
 use Rattle.ir_builder_frames.proofs.HeldLemmas.{extends_refl, extends_trans, has_less, type_below, type_has, adds_has, placed_part, guard_at}
-use Rattle.ir_builder_frames.proofs.ComingLemmas.{leads_step, ends_so, ends_of, ends_map}
+use Rattle.ir_builder_frames.proofs.ComingLemmas.{leads_step, ends_so, ends_of, ends_map, ends_stuck}
 use Rattle.ir_builder_frames.proofs.StepLemmas.{read_is}
 use Rattle.ir_builder_frames.proofs.MatchLemmas.{room_on, match_kept, thrown_now, thrown_from, computes_then}
 
@@ -160,13 +161,22 @@ prim_ends K b c r t q args a p fn h placed x room regs below s match res d =
 
 -- ---- on any number of registers
 
--- what a primitive does with these arguments is what a part of the source does, in any state
+-- the source is stuck, as that of no well typed module is
+abbrev pub IsStuck : Outcome Value → Type 0
+IsStuck res = (s : State) × (res ≡ Stops Ill s)
+
+-- what a primitive does with these arguments is what a part of the source does, in any state in which that is not stuck
 abbrev pub Performs : Showing → Primitive → List Argument → Does Value → Type 0
-Performs K q values go = (p : Program) (s : State) → ActsAs K q (effect p q values (world None s)) s (go s)
+Performs K q values go = (p : Program) (s : State) → IsStuck (go s) ⊎ ActsAs K q (effect p q values (world None s)) s (go s)
+
+-- of a source that is stuck nothing is asked
+pub unless_stuck : {A : Type 0} (p : Program) (t : ℕ) (c : Config) (res : Outcome Value) (R E : Value → State → Config → Type 0) → (A → Ends p t c res R E) → (IsStuck res ⊎ A) → Ends p t c res R E
+unless_stuck p t c res R E f (inl h) = ends_of p t c res (Stops Ill h.0) R E h.1 (ends_stuck p t c h.0 R E)
+unless_stuck p t c res R E f (inr a) = f a
 
 -- one that only answers
 pub performs : (K : Showing) (q : Primitive) (values : List Argument) (go : Does Value) (a : Answer) → Allows (failing q) a → ((p : Program) (w : World) → effect p q values w ≡ effect_of a w) → ShownIfGiven K a → ((s : State) → go s ≡ outcome_of a s) → Performs K q values go
-performs K q values go a allowed effects shown does p s = record { answer = a; behind = s; leaves = leaves_all s; allowed = allowed; effects = effects p (world None s); shown = shown; does = does s }
+performs K q values go a allowed effects shown does p s = inr record { answer = a; behind = s; leaves = leaves_all s; allowed = allowed; effects = effects p (world None s); shown = shown; does = does s }
 
 -- no register's kind is asked for
 typed_answer : (declared : Declared) (to : Option Reg) (args : List PArg) (a : Answer) (w : World) → typed declared to args (effect_of a w) ≡ effect_of a w
@@ -218,12 +228,14 @@ all_perform ts K go b c r t rs q types a by = record {
   extends = a.extends;
   type = a.type;
   runs = λ p fn h placed x room regs below s match res on.
-      let P : Outcome Value → Type 0 = λ z. ActsAs K q (effect p q (all_given on.values) (world None s)) s z in
+      let P : Outcome Value → Type 0 = λ z. IsStuck z ⊎ ActsAs K q (effect p q (all_given on.values) (world None s)) s z in
+      unless_stuck p s.turns _ res _ _ (λ acts.
       prim_ends K b c r t q (all_registers rs) a p fn h placed x room regs below s match res record {
         values = all_given on.values;
         given = registers_given p fn b (has_less p fn b c a.extends placed.has) ts on.values regs rs types on.shows;
-        acts = acts_typed K q _ s res (registers_of p fn) (Some record { 0 = r }) (all_registers rs) (subst P (sym on.does) (by on.values (kinds_shown ts on.values regs rs on.shows) p s));
-      };
+        acts = acts_typed K q _ s res (registers_of p fn) (Some record { 0 = r }) (all_registers rs) acts;
+      })
+      (subst P (sym on.does) (by on.values (kinds_shown ts on.values regs rs on.shows) p s));
 }
 
 -- ---- behind the code of two values

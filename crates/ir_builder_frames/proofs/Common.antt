@@ -1,12 +1,12 @@
 -- The names that most proofs of this crate cite, passed on from one place. Declares nothing.
 pub use Rattle.c_core.proofs.NameLemmas.{bytes_eq-sym}
-pub use Rattle.c_core.specs.Primitives.{Borrows, Is, Lent, Nothing, OfGlobal, OfSlot, Owned, Parameter, TakesDecimal, TakesText, row_of}
+pub use Rattle.c_core.specs.Primitives.{Borrows, Is, Lent, MaySteal, Nothing, OfGlobal, OfSlot, Owned, Parameter, Steals, TakesDecimal, TakesNumber, TakesText, row_of}
 pub use Rattle.c_core.specs.WellFormed.{names_differ}
 pub use Rattle.c_core.specs.declared.primitive.Primitive.{Primitive}
 pub use Rattle.ir_builder_frames.specs.Calling.{Adds, Closes, Declares, Open, Patches, Pushes}
 pub use Rattle.ir_builder_frames.specs.Coming.{Ends, Leads, running, world}
 pub use Rattle.ir_builder_frames.specs.Computing.{Arrives, ArrivesAll, Attempts, Computes, ComputesAll, Makes, Itself, Meaning, ShowAll, Showing, Shows}
-pub use Rattle.ir_builder_frames.specs.Kinds.{Answers, AreArguments, BlocksKinds, Calls, HasKinds, IsGlobal, IsOf, LastKinds, LiteralFits, OpKinds, OpsKinds, ReadsGlobal, Reports, Take, WritesGlobal, temporary_name}
+pub use Rattle.ir_builder_frames.specs.Kinds.{Answers, AreArguments, BlocksKinds, Calls, HasKinds, IsGlobal, IsOf, IsOfKind, LastKinds, LiteralFits, OpKinds, OpsKinds, ReadsGlobal, Reports, Take, WritesGlobal, temporary_name}
 pub use Rattle.ir_builder_frames.specs.Among.{IsAmong, Surrounding}
 pub use Rattle.ir_builder_frames.specs.Matching.{BackBelow, CallsWork, HasGlobals, HasKind, HasRoom, HaveKinds, IsThrown, Keeps, Matches, SameIn, Stands, flag_in, flag_of}
 pub use Rattle.ir_builder_frames.specs.Placing.{Has, HasType, Placed, Within, or_other, where_it_may}

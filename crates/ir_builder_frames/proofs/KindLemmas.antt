@@ -1,8 +1,9 @@
 -- Operations and ends fit their registers where there are more of them, and behind others.
-use Rattle.ir_builder_frames.proofs.Common.{◌≡◌, ℕ, zero, suc, List, [], ◌∷◌, ◌++◌, Some, None, ◌⊎◌, inl, inr, slice_get, Primitive, Is, Parameter, Borrows, TakesText, TakesDecimal, RType, Reg, PArg, Op, Move, Lit, Prim, Call, Virtual, TraitCall, Turn, Inc, Dec, XDec, Last, Goto, If, IfError, Return, Unreachable, Block, Declared, Building, with_last, Extends, Declares, Surrounding, IsOf, AreArguments, Take, Answers, Reports, ReadsGlobal, WritesGlobal, Calls, LiteralFits, OpKinds, OpsKinds, LastKinds, BlocksKinds}
+use Rattle.ir_builder_frames.proofs.Common.{◌≡◌, ℕ, zero, suc, List, [], ◌∷◌, ◌++◌, Some, None, ◌⊎◌, inl, inr, slice_get, Primitive, Is, Parameter, Borrows, Steals, MaySteal, TakesNumber, TakesText, TakesDecimal, RType, Reg, PArg, Op, Move, Lit, Prim, Call, Virtual, TraitCall, Turn, Inc, Dec, XDec, Last, Goto, If, IfError, Return, Unreachable, Block, Declared, Building, with_last, Extends, Declares, Surrounding, IsOf, IsOfKind, AreArguments, Take, Answers, Reports, ReadsGlobal, WritesGlobal, Calls, LiteralFits, OpKinds, OpsKinds, LastKinds, BlocksKinds}
 use Rattle.ir_core.specs.declared.code.RType.TheVariants as rtype
 use Rattle.ir_core.specs.declared.code.Lit.{Lit as Literal}
 use Rattle.ir_core.specs.declared.code.PArg.TheVariants as arg
+use Rattle.c_core.specs.declared.code.Kind.{Kind}
 use Rattle.ir_builder_frames.proofs.HeldLemmas.{type_kept}
 
 -- ---- more registers
@@ -15,9 +16,16 @@ pub extends_more : (b c : Building) → Extends b c → HasMore b.regs c.regs
 extends_more b c x r t e = type_kept b c r.0 t x e
 
 module _ (regs more : Declared) (up : HasMore regs more) where
+  of_kind_more : (r : Reg) (k : Kind) → IsOfKind regs r k → IsOfKind more r k
+  of_kind_more r k h = record { type = h.type; is = up r h.type h.is; same = h.same }
+
   pub arguments_more : (ps : List Parameter) (args : List PArg) → AreArguments regs ps args → AreArguments more ps args
   arguments_more [] [] h = tt
-  arguments_more (Borrows (Is k) holding ∷ ps) (arg.Var r ∷ rest) h = (h.0, up r h.0 h.1, h.2, arguments_more ps rest h.3)
+  arguments_more (Borrows (Is k) holding ∷ ps) (arg.Var r ∷ rest) h = (of_kind_more r k h.0, arguments_more ps rest h.1)
+  arguments_more (Steals (Is k) holding ∷ ps) (arg.Var r ∷ rest) h = (of_kind_more r k h.0, arguments_more ps rest h.1)
+  arguments_more (MaySteal (Is k) holding ∷ ps) (arg.Var r ∷ rest) h = (of_kind_more r k h.0, arguments_more ps rest h.1)
+  arguments_more (MaySteal k holding ∷ ps) [] h = h
+  arguments_more (TakesNumber ∷ ps) (arg.Number n ∷ rest) h = (h.0, arguments_more ps rest h.1)
   arguments_more (TakesText ∷ ps) (arg.Text text ∷ rest) h = (h.0, arguments_more ps rest h.1)
   arguments_more (TakesDecimal ∷ ps) (arg.Text text ∷ rest) h = (h.0, h.1, arguments_more ps rest h.2)
   arguments_more ps args h = absurd h

@@ -1,6 +1,7 @@
 -- Where ends go, while code is added and ends are written.
-use Rattle.ir_builder_frames.proofs.Common.{◌≡◌, ℕ, zero, suc, ◌+◌, ◌≤◌, List, [], ◌∷◌, ◌++◌, length, Some, Option, None, refl, sym, subst, arith, Block, Op, Last, Goto, If, IfError, Return, Unreachable, Reg, PArg, Var, Text, Prim, Primitive, Parameter, Is, Borrows, TakesText, TakesDecimal, RType, Declared, Surrounding, row_of, Bool, true, false, ne_eqb, IsTrue, ◌&&◌, ◌||◌, not, list_any, ap, ◌∙◌, ◌⊎◌, inl, inr, Do, End, in_block, ended_block, held_in, with_last, IsOf, AreArguments, Take, Answers, ReadsGlobal}
+use Rattle.ir_builder_frames.proofs.Common.{◌≡◌, ℕ, zero, suc, ◌+◌, ◌≤◌, List, [], ◌∷◌, ◌++◌, length, Some, Option, None, refl, sym, subst, arith, Block, Op, Last, Goto, If, IfError, Return, Unreachable, Reg, PArg, Var, Text, Prim, Number, Primitive, Parameter, Is, Borrows, Steals, MaySteal, TakesNumber, TakesText, TakesDecimal, RType, Declared, Surrounding, row_of, Bool, true, false, ne_eqb, IsTrue, ◌&&◌, ◌||◌, not, list_any, ap, ◌∙◌, ◌⊎◌, inl, inr, Do, End, in_block, ended_block, held_in, with_last, IsOf, IsOfKind, AreArguments, Take, Answers, ReadsGlobal}
 use Rattle.c_core.specs.Primitives.{Outcome}
+use Rattle.c_core.specs.declared.code.Kind.{Kind}
 use Rattle.c_core.specs.declared.primitive.Primitive.TheVariants as prim
 use Rattle.c_core.specs.declared.primitive.GlobalPrim.TheVariants as global
 use Rattle.ir_core.specs.Items.{handler_of}
@@ -75,9 +76,16 @@ module _ (regs : Declared) (r : Reg) (new : r.0 ≡ length regs) where
   other_than : (x : Reg) (t : RType) → IsOf regs x t → is_register r x ≡ false
   other_than x t e = let lt = declared_below regs x.0 t e in ne_eqb r.0 x.0 (λ same. omega (arith, new))
 
+  none_before : (x : Reg) (k : Kind) (args : List PArg) → IsOfKind regs x k → list_any (is_argument r) args ≡ false → list_any (is_argument r) (Var x ∷ args) ≡ false
+  none_before x k args h rest = ap (λ b. b || list_any (is_argument r) args) (other_than x h.type h.is) ∙ rest
+
   none_is : (ps : List Parameter) (args : List PArg) → AreArguments regs ps args → list_any (is_argument r) args ≡ false
   none_is [] [] h = refl
-  none_is (Borrows (Is k) holding ∷ ps) (Var x ∷ args) h = ap (λ b. b || list_any (is_argument r) args) (other_than x h.0 h.1) ∙ none_is ps args h.3
+  none_is (Borrows (Is k) holding ∷ ps) (Var x ∷ args) h = none_before x k args h.0 (none_is ps args h.1)
+  none_is (Steals (Is k) holding ∷ ps) (Var x ∷ args) h = none_before x k args h.0 (none_is ps args h.1)
+  none_is (MaySteal (Is k) holding ∷ ps) (Var x ∷ args) h = none_before x k args h.0 (none_is ps args h.1)
+  none_is (MaySteal k holding ∷ ps) [] h = refl
+  none_is (TakesNumber ∷ ps) (Number n ∷ args) h = none_is ps args h.1
   none_is (TakesText ∷ ps) (Text text ∷ args) h = none_is ps args h.1
   none_is (TakesDecimal ∷ ps) (Text text ∷ args) h = none_is ps args h.2
   none_is ps args h = absurd h

@@ -1,10 +1,11 @@
 -- What is known of a value that was looked at.
-use Rattle.ir_builder_frames.proofs.Common.{Value, Sort, State, Outcome, Gives, Raises, Stops, on_to, true, ◌≡◌, ℕ, List, Held, RType, Building, Program, Config, Setting, Ends, HasKind, Showing, Meaning, Computes, Itself, Shows, rtype_of}
+use Rattle.ir_builder_frames.proofs.Common.{Value, Sort, State, Outcome, Gives, Raises, Stops, on_to, true, false, ◌≡◌, refl, inl, inr, Bool, Does, needs, ℕ, List, Held, RType, Building, Program, Config, Setting, Ends, HasKind, Showing, Meaning, Computes, Itself, Shows, rtype_of}
 use Rattle.py_syntax.specs.declared.token.Span.{Span}
 use Rattle.py_typed.specs.Expressions.{TypedNode, typed}
 use Rattle.ir_builder_frames.specs.Computing.{means, means_node}
 use Rattle.value_core.specs.Value.{Store}
-use Rattle.py_typed.specs.Sorts.{Int, I64, Bool, Str, Nothing}
+use Rattle.py_typed.specs.Sorts.{Int, I64, Bool as BoolSort, Str, Nothing, Optional}
+use Rattle.value_core.specs.Value.{NoneVal}
 use Rattle.py_typed.specs.Classes.{ClassEntry}
 use Rattle.py_typed.specs.Statements.{TypedModule}
 use Rattle.source_soundness.specs.Shapes.{has_shape}
@@ -15,9 +16,11 @@ use Rattle.ir_builder_frames.proofs.ComingLemmas.{ends_stuck}
 kind_of_shape : (classes : List ClassEntry) (store : Store) (t : Sort) (v : Value) → has_shape classes store t v ≡ true → HasKind t v
 kind_of_shape classes store Int v h = let k = int_shape classes store v h in (k.0, k.1)
 kind_of_shape classes store I64 v h = native_shape classes store v h
-kind_of_shape classes store Bool v h = bool_shape classes store v h
+kind_of_shape classes store BoolSort v h = bool_shape classes store v h
 kind_of_shape classes store Str v h = text_shape classes store v h
 kind_of_shape classes store Nothing v h = none_shape classes store v h
+kind_of_shape classes store (Optional t) NoneVal h = inl refl
+kind_of_shape classes store (Optional t) v h = inr (kind_of_shape classes store t v h)
 kind_of_shape classes store t v h = tt
 
 -- it has what its type says of it, or the source is stuck
@@ -40,3 +43,15 @@ watched x K L u t m b c r f q = record {
 -- an expression whose node's value is in a register, at least where it has what the type says
 pub looked_at : (x : Setting) (K : Showing) (k : TypedNode) (t : Sort) (place : Span) (b c : Building) (r : ℕ) → ((v : Value) (h : Held) → HasKind t v → K v h → Itself v h) → Computes x K (rtype_of t) (means_node x k t) b c r → Computes x (Shows t) (rtype_of t) (means x (typed k t place)) b c r
 looked_at x K k t place b c r f q = watched x K (Shows t) (rtype_of t) t (means_node x k t) b c r (λ v h kind s. (f v h kind s, kind)) q
+
+-- ---- what is done with a value that was looked at
+
+-- where two parts do the same with each value that has the shape of a type, they do so behind a look at it
+needed_as : {A B : Type 0} (a : A) (s : State) (f g : A → Does B) (b : Bool) → (b ≡ true → f a s ≡ g a s) → on_to (needs b (λ z. Gives a z) s) f ≡ on_to (needs b (λ z. Gives a z) s) g
+needed_as a s f g true h = h refl
+needed_as a s f g false h = refl
+
+pub watched_as : {B : Type 0} (m : TypedModule) (t : Sort) (res : Outcome Value) (f g : Value → Does B) → ((v : Value) (s : State) → has_shape m.classes.classes s.store t v ≡ true → f v s ≡ g v s) → on_to (on_to res (watch m t)) f ≡ on_to (on_to res (watch m t)) g
+watched_as m t (Gives v s) f g h = needed_as v s f g (has_shape m.classes.classes s.store t v) (h v s)
+watched_as m t (Raises v s) f g h = refl
+watched_as m t (Stops w s) f g h = refl

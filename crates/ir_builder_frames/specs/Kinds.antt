@@ -6,7 +6,8 @@ use Rattle.value_core.specs.Arithmetic.{lies_within}
 use Rattle.c_core.specs.declared.primitive.Primitive.{Primitive}
 use Rattle.c_core.specs.declared.primitive.Primitive.TheVariants as prim
 use Rattle.c_core.specs.declared.primitive.GlobalPrim.TheVariants as global
-use Rattle.c_core.specs.Primitives.{Is, Parameter, Borrows, TakesText, TakesDecimal, Nothing, Owned, row_of}
+use Rattle.c_core.specs.declared.code.Kind.{Kind}
+use Rattle.c_core.specs.Primitives.{Is, Parameter, Borrows, Steals, MaySteal, TakesNumber, TakesText, TakesDecimal, Nothing, Owned, may_end, row_of}
 use Rattle.c_core.specs.Strings.{is_long_decimal}
 use Rattle.ir_core.specs.declared.code.RType.{RType}
 use Rattle.ir_core.specs.declared.code.RType.TheVariants as rtype
@@ -36,12 +37,21 @@ module _ (regs : Declared) where
   abbrev pub IsOf : Reg → RType → Type 0
   IsOf r t = type_of_reg regs r ≡ Some t
 
-  -- arguments for the parameters of a primitive that borrows them: registers of its kinds, and texts, among them the decimals of `int`s
-  -- that are not short
+  -- a register of a kind
+  pub record IsOfKind (r : Reg) (k : Kind) : Type 0 where
+    pub type : RType
+    pub is : IsOf r type
+    pub same : kind_of_type type ≡ k
+
+  -- arguments for the parameters of a primitive: registers of its kinds, which it borrows or takes over, the last of them as many as
+  -- there are; numbers in the range of an `i64`; and texts, among them the decimals of `int`s that are not short
   abbrev pub AreArguments : List Parameter → List PArg → Type 0
   AreArguments [] [] = Unit {0}
-  AreArguments (Borrows (Is k) h ∷ ps) (arg.Var r ∷ rest) =
-      (t : RType) × IsOf r t × (kind_of_type t ≡ k) × AreArguments ps rest
+  AreArguments (Borrows (Is k) h ∷ ps) (arg.Var r ∷ rest) = IsOfKind r k × AreArguments ps rest
+  AreArguments (Steals (Is k) h ∷ ps) (arg.Var r ∷ rest) = IsOfKind r k × AreArguments ps rest
+  AreArguments (MaySteal (Is k) h ∷ ps) (arg.Var r ∷ rest) = IsOfKind r k × AreArguments ps rest
+  AreArguments (MaySteal k h ∷ ps) [] = may_end ps ≡ true
+  AreArguments (TakesNumber ∷ ps) (arg.Number n ∷ rest) = (lies_within 63 n ≡ true) × AreArguments ps rest
   AreArguments (TakesText ∷ ps) (arg.Text text ∷ rest) = (is_utf8 text ≡ true) × AreArguments ps rest
   AreArguments (TakesDecimal ∷ ps) (arg.Text text ∷ rest) =
       (is_utf8 text ≡ true) × (is_long_decimal text ≡ true) × AreArguments ps rest

@@ -1,5 +1,5 @@
 -- How registers stand for the source's variables, and what calls do.
-use Rattle.std.specs.Prelude.{◌≡◌, ◌≢◌, ℕ, ◌+◌, ◌-◌, ◌<◌, ◌≤◌, nat_lt, Bool, true, if◌then◌else◌, ℤ, List, [], ◌∷◌, length, map, Option, Some, None, slice_get}
+use Rattle.std.specs.Prelude.{◌≡◌, ◌≢◌, ◌⊎◌, ℕ, ◌+◌, ◌-◌, ◌<◌, ◌≤◌, nat_lt, Bool, true, if◌then◌else◌, ℤ, List, [], ◌∷◌, length, map, Option, Some, None, slice_get}
 use Rattle.value_core.specs.Arithmetic.{lies_within}
 use Rattle.value_core.specs.Exceptions.{Thrown}
 use Rattle.value_core.specs.Value.{Value, IntVal, BoolVal, NoneVal, StrVal, ExcVal}
@@ -24,13 +24,15 @@ use Rattle.ir_builder_frames.specs.Watching.{calls_in}
 use Rattle.ir_builder_frames.specs.Placing.{HasType}
 use Rattle.ir_builder_frames.specs.Coming.{world, running, Escapes, returning, Ends}
 
--- what the shape of a type says of a number, a text, a bool or None; of an object it says nothing here
+-- what the shape of a type says of a number, a text, a bool or None, and of what is one of these or None; of an object it says nothing
+-- here
 abbrev pub HasKind : Sort → Value → Type 0
 HasKind sort.I64 v = (n : ℤ) × (v ≡ IntVal n) × (lies_within 63 n ≡ true)
 HasKind sort.Int v = (n : ℤ) × (v ≡ IntVal n)
 HasKind sort.Str v = (text : List ℕ) × (v ≡ StrVal text)
 HasKind sort.Bool v = (b : Bool) × (v ≡ BoolVal b)
 HasKind sort.Nothing v = v ≡ NoneVal
+HasKind (sort.Optional t) v = (v ≡ NoneVal) ⊎ HasKind t v
 HasKind _ v = Unit {0}
 
 abbrev pub HaveKinds : List Sort → List Value → Type 0

@@ -2,7 +2,7 @@
 pub use Rattle.c_core.proofs.NameLemmas.{bytes_eq-sym}
 pub use Rattle.c_core.specs.Arguments.{kind_of_global}
 pub use Rattle.c_core.specs.Functions.{function_named, label_places, parameter_kinds}
-pub use Rattle.c_core.specs.Primitives.{Borrows, Is, Owned, Parameter, TakesDecimal, TakesText, primitive_named, row_of}
+pub use Rattle.c_core.specs.Primitives.{Borrows, Is, Owned, Parameter, MaySteal, Steals, TakesDecimal, TakesNumber, TakesText, primitive_named, row_of}
 pub use Rattle.c_core.specs.WellFormed.{args_fit, begins_right, call_fits, class_fits, classes_fit, function_call_fits, function_fits, functions_fit, has_kind, is_call_name, is_char, is_declared, is_identifier, is_leaving, is_spelled, is_turn_at, jumps_fit, kind_at, kinds_agree, line_fits, lines_lead_on, literal_fits, names_differ, other_words, passes, same_kinds, spelled_arg, spelled_body, spelled_class, spelled_function, spelled_functions, spelled_globals, spelled_label, spelled_line, spelled_literal, spelled_top, target_fits, well_formed}
 pub use Rattle.c_core.specs.declared.code.CFunc.{CFunc}
 pub use Rattle.c_core.specs.declared.code.Kind.{Kind}

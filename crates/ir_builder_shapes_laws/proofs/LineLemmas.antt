@@ -1,6 +1,8 @@
 -- Lines of operations and ends that fit their registers are spelled, and fit the declarations of their variables.
-use Rattle.ir_builder_shapes_laws.proofs.Common.{◌≡◌, ◌⊎◌, inl, inr, refl, sym, ◌∙◌, ap, subst, ℕ, zero, suc, ◌+◌, ◌^◌, ◌/◌, ◌%◌, ◌<◌, arith, Bool, true, false, cond, List, [], ◌∷◌, ◌++◌, length, Option, Some, None, take, ℤ, pos, negsuc, slice_get, map, ◌&&◌, is_some, codes, ◌==◌, option_map, list_all, and_from, lt-ltb, length-map, slice_get_within, slice_get-map, Kind, Line, CFunc, Primitive, kind_of_global, function_named, parameter_kinds, Is, Parameter, Borrows, TakesText, TakesDecimal, Owned, row_of, primitive_named, is_identifier, is_call_name, is_declared, kind_at, spelled_arg, spelled_label, spelled_line, spelled_literal, has_kind, same_kinds, kinds_agree, literal_fits, passes, args_fit, target_fits, function_call_fits, call_fits, line_fits, RType, Op, Move, Lit, Prim, Call, Virtual, TraitCall, Turn, Inc, Dec, XDec, Last, Goto, If, IfError, Return, Unreachable, Block, Func, Program, kind_of_type, variable_of, literal_in, argument_in, register_in, called_as, line_of, op_lines, label_before, label_of, end_lines, block_lines, lines_from, lowered_as, lower, Declared, LastFits, BlocksFit, FunctionType, Surrounding, IsOf, AreArguments, Take, Answers, Reports, ReadsGlobal, WritesGlobal, LiteralFits, OpKinds, OpsKinds, LastKinds, BlocksKinds, head_of_code}
+use Rattle.ir_builder_shapes_laws.proofs.Common.{◌≡◌, ◌⊎◌, inl, inr, refl, sym, ◌∙◌, ap, subst, ℕ, zero, suc, ◌+◌, ◌^◌, ◌/◌, ◌%◌, ◌<◌, arith, Bool, true, false, cond, List, [], ◌∷◌, ◌++◌, length, Option, Some, None, take, ℤ, pos, negsuc, slice_get, map, ◌&&◌, is_some, codes, ◌==◌, option_map, list_all, and_from, lt-ltb, length-map, slice_get_within, slice_get-map, Kind, Line, CFunc, Primitive, kind_of_global, function_named, parameter_kinds, Is, Parameter, Borrows, Steals, MaySteal, TakesNumber, TakesText, TakesDecimal, Owned, row_of, primitive_named, is_identifier, is_call_name, is_declared, kind_at, spelled_arg, spelled_label, spelled_line, spelled_literal, has_kind, same_kinds, kinds_agree, literal_fits, passes, args_fit, target_fits, function_call_fits, call_fits, line_fits, RType, Op, Move, Lit, Prim, Call, Virtual, TraitCall, Turn, Inc, Dec, XDec, Last, Goto, If, IfError, Return, Unreachable, Block, Func, Program, kind_of_type, variable_of, literal_in, argument_in, register_in, called_as, line_of, op_lines, label_before, label_of, end_lines, block_lines, lines_from, lowered_as, lower, Declared, LastFits, BlocksFit, FunctionType, Surrounding, IsOf, AreArguments, Take, Answers, Reports, ReadsGlobal, WritesGlobal, LiteralFits, OpKinds, OpsKinds, LastKinds, BlocksKinds, head_of_code}
+use Rattle.value_core.specs.Arithmetic.{lies_within}
 use Rattle.value_core.specs.Value.{IntVal}
+use Rattle.ir_builder_frames.specs.Kinds.{IsOfKind}
 use Rattle.c_core.specs.declared.code.CArg.{CArg}
 use Rattle.c_core.specs.declared.primitive.Primitive.TheVariants as prim
 use Rattle.c_core.specs.declared.primitive.GlobalPrim.TheVariants as global
@@ -81,10 +83,17 @@ module _ (regs : Declared) where
       ap (λ o. same_kinds o (kind_at vars s.0)) (stands r t h).kind ∙ has s t k
 
   -- ---- arguments
+  spelled_before : (r : Reg) (k : Kind) (rest : List PArg) → IsOfKind regs r k → list_all (spelled_arg vars) (map argument_in rest) ≡ true → list_all (spelled_arg vars) (map argument_in (arg.Var r ∷ rest)) ≡ true
+  spelled_before r k rest h more = and_from (is_declared vars r.0) (list_all (spelled_arg vars) (map argument_in rest)) (stands r h.type h.is).declared more
+
   arguments_spelled : (ps : List Parameter) (args : List PArg) → AreArguments regs ps args → list_all (spelled_arg vars) (map argument_in args) ≡ true
   arguments_spelled [] [] h = refl
-  arguments_spelled (Borrows (Is k) holding ∷ ps) (arg.Var r ∷ rest) h =
-      and_from (is_declared vars r.0) (list_all (spelled_arg vars) (map argument_in rest)) (stands r h.0 h.1).declared (arguments_spelled ps rest h.3)
+  arguments_spelled (Borrows (Is k) holding ∷ ps) (arg.Var r ∷ rest) h = spelled_before r k rest h.0 (arguments_spelled ps rest h.1)
+  arguments_spelled (Steals (Is k) holding ∷ ps) (arg.Var r ∷ rest) h = spelled_before r k rest h.0 (arguments_spelled ps rest h.1)
+  arguments_spelled (MaySteal (Is k) holding ∷ ps) (arg.Var r ∷ rest) h = spelled_before r k rest h.0 (arguments_spelled ps rest h.1)
+  arguments_spelled (MaySteal k holding ∷ ps) [] h = refl
+  arguments_spelled (TakesNumber ∷ ps) (arg.Number n ∷ rest) h =
+      and_from (lies_within 63 n) (list_all (spelled_arg vars) (map argument_in rest)) h.0 (arguments_spelled ps rest h.1)
   arguments_spelled (TakesText ∷ ps) (arg.Text text ∷ rest) h =
       and_from (spelled_arg vars (argument_in (arg.Text text))) (list_all (spelled_arg vars) (map argument_in rest)) h.0 (arguments_spelled ps rest h.1)
   arguments_spelled (TakesDecimal ∷ ps) (arg.Text text ∷ rest) h =
@@ -110,11 +119,17 @@ module _ (regs : Declared) where
       (has r d.1 h.0) (registers_pass n ds rs h.1)
 
   module _ (p : Program) where
+    fit_before : (all : List CArg) (r : Reg) (k : Kind) (ps : List Parameter) (rest : List PArg) → IsOfKind regs r k → args_fit (lower p) vars all ps (map argument_in rest) ≡ true → (has_kind k (kind_at vars r.0) && args_fit (lower p) vars all ps (map argument_in rest)) ≡ true
+    fit_before all r k ps rest h more =
+        and_from (has_kind k (kind_at vars r.0)) (args_fit (lower p) vars all ps (map argument_in rest)) (ap (λ x. has_kind x (kind_at vars r.0)) (sym h.same) ∙ has r h.type h.is) more
+
     arguments_fit : (all : List CArg) (ps : List Parameter) (args : List PArg) → AreArguments regs ps args → args_fit (lower p) vars all ps (map argument_in args) ≡ true
     arguments_fit all [] [] h = refl
-    arguments_fit all (Borrows (Is k) holding ∷ ps) (arg.Var r ∷ rest) h =
-        and_from (has_kind k (kind_at vars r.0)) (args_fit (lower p) vars all ps (map argument_in rest))
-        (ap (λ x. has_kind x (kind_at vars r.0)) (sym h.2) ∙ has r h.0 h.1) (arguments_fit all ps rest h.3)
+    arguments_fit all (Borrows (Is k) holding ∷ ps) (arg.Var r ∷ rest) h = fit_before all r k ps rest h.0 (arguments_fit all ps rest h.1)
+    arguments_fit all (Steals (Is k) holding ∷ ps) (arg.Var r ∷ rest) h = fit_before all r k ps rest h.0 (arguments_fit all ps rest h.1)
+    arguments_fit all (MaySteal (Is k) holding ∷ ps) (arg.Var r ∷ rest) h = fit_before all r k ps rest h.0 (arguments_fit all ps rest h.1)
+    arguments_fit all (MaySteal k holding ∷ ps) [] h = h
+    arguments_fit all (TakesNumber ∷ ps) (arg.Number n ∷ rest) h = arguments_fit all ps rest h.1
     arguments_fit all (TakesText ∷ ps) (arg.Text text ∷ rest) h = arguments_fit all ps rest h.1
     arguments_fit all (TakesDecimal ∷ ps) (arg.Text text ∷ rest) h =
         and_from (is_long_decimal text) (args_fit (lower p) vars all ps (map argument_in rest)) h.1 (arguments_fit all ps rest h.2)
