@@ -37,7 +37,7 @@ module _ (p : Program) (fn : ℕ) (below : List Waiting) where
       step_leads b c (writes_of (record { 0 = r })) regs regs (world None s) (world None (written s text)) q.at q.blocks q.ops has (write_does _ _ r text regs s t is)
 
 pub write_may_come : (b : Building) (r : Reg) (args : List PArg) → args ≡ Var r ∷ [] → HasType b r.0 Ref → MayCome b (Prim None (prim.Io io.Write) args)
-write_may_come b r args is type = subst (λ (z : List PArg). MayCome b (Prim None (prim.Io io.Write) z)) (sym is) (refl, inl (refl, (Ref, type, refl, tt)))
+write_may_come b r args is type = subst (λ (z : List PArg). MayCome b (Prim None (prim.Io io.Write) z)) (sym is) (refl, inl (refl, (record { type = Ref; is = type; same = refl }, tt)))
 
 -- ---- single texts
 

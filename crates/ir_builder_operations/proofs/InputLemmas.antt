@@ -1,5 +1,5 @@
 -- A line of input is read as the source reads it: it is a value, an exception is raised, or the run ends.
-use Rattle.ir_builder_operations.proofs.Common.{refl, [], codes, ValueError, EOFError, thrown, StrVal, State, look, set_items, next_line, line_read, world, Shows, Answers, Throws, Finishes, leaves_all, ActsAs, Performs}
+use Rattle.ir_builder_operations.proofs.Common.{refl, [], codes, ValueError, EOFError, thrown, StrVal, State, look, set_items, next_line, line_read, world, Shows, Answers, Throws, Finishes, leaves_all, ActsAs, Performs, inr}
 use Rattle.value_core.specs.Ending.{Over, Broken}
 use Rattle.value_core.specs.Items as item
 use Rattle.value_core.specs.Items.{Items}
@@ -18,4 +18,4 @@ line_acts s (item.Line text next) = record { answer = Answers (StrVal text); beh
 line_acts s (item.Bad next) = record { answer = Throws (thrown ValueError (codes "input is not UTF-8")); behind = set_items next s; leaves = record { locals = refl; turns = refl }; allowed = tt; effects = refl; shown = tt; does = refl }
 
 pub line_performs : Performs (Shows sort.Str) (prim.Io io.Input) [] (look (λ s. s.items) next_line)
-line_performs p s = line_acts s s.items
+line_performs p s = inr (line_acts s s.items)

@@ -8,6 +8,10 @@ pub mod CoercionLemmas
 pub mod ComparisonLemmas
 pub mod WrittenLemmas
 pub mod InputLemmas
+pub mod ObjectLemmas
+pub mod BoxLemmas
+pub mod ConversionLemmas
 pub mod OperationLemmas
 pub mod ThenLemmas
+pub mod ContainerLemmas
 pub mod Common

@@ -1,10 +1,10 @@
 -- Each operation does with its operands' values what the source does, and its primitive takes registers of their types.
-use Rattle.ir_builder_operations.proofs.Common.{◌≡◌, refl, sym, subst, ℕ, true, List, [], ◌∷◌, Some, map, Value, Primitive, Sort, Reg, RType, PArg, Var, Prim, Declared, Building, Adds, Shows, HaveTypes, Attempts, ActsOnAll, AreArguments, HaveKinds, rtype_of, all_given, Performs, all_perform, Operation, IntArithmetic, NativeArithmetic, IntNegation, NativeNegation, Comparison, Inversion, Concatenation, Length, Letter, IntText, NativeText, BoolText, BoolToInt, BoolToNative, NativeToInt, IntToNative, Line, Ints, Natives, Texts, Equal, Less, AtMost, is_known, operands_of, result_of, primitive_of, goes}
-use Rattle.c_core.specs.Primitives.{Is, Parameter, Borrows, Owned, row_of}
+use Rattle.ir_builder_operations.proofs.Common.{◌≡◌, refl, sym, subst, ℕ, true, List, [], ◌∷◌, Some, map, Value, Primitive, Sort, Reg, RType, PArg, Var, Prim, Declared, Building, Adds, Shows, HaveTypes, Attempts, ActsOnAll, AreArguments, HaveKinds, rtype_of, all_given, Performs, all_perform, Operation, IntArithmetic, NativeArithmetic, IntNegation, NativeNegation, Comparison, Inversion, Concatenation, Length, Letter, IntText, NativeText, BoolText, BoolToInt, BoolToNative, NativeToInt, IntToNative, Boxing, Unboxing, Absence, EmptyList, ListLength, TupleLength, Item, ItemChange, LastItem, Line, Ints, Natives, Texts, Equal, Less, AtMost, is_known, operands_of, result_of, primitive_of, goes, boxed}
+use Rattle.c_core.specs.Primitives.{Is, Parameter, Borrows, Steals, Owned, row_of}
 use Rattle.py_syntax.specs.declared.expression.BinOp.TheVariants as bin
 use Rattle.ir_core.specs.Lower.{kind_of_type}
 use Rattle.ir_builder_frames.specs.Kinds.{Answers}
-use Rattle.ir_builder_operations.proofs.KindLemmas.{on_none, on_one, on_two, by_int, by_native, by_bool, by_text, native_value}
+use Rattle.ir_builder_operations.proofs.KindLemmas.{on_none, on_one, on_two, on_three, by_int, by_native, by_bool, by_text, by_any, native_value}
 use Rattle.py_typed.specs.Sorts.{Int, I64, Bool, Str}
 use Rattle.value_core.specs.Value.{IntVal, BoolVal, StrVal}
 use Rattle.ir_builder_operations.proofs.NumberLemmas as int
@@ -13,6 +13,8 @@ use Rattle.ir_builder_operations.proofs.CoercionLemmas.{int_of_bool, native_of_b
 use Rattle.ir_builder_operations.proofs.ComparisonLemmas.{ints_compared, natives_compared, texts_compared, inversion_performs}
 use Rattle.ir_builder_operations.proofs.WrittenLemmas.{concat_performs, length_performs, item_performs, int_written, native_written, flag_written}
 use Rattle.ir_builder_operations.proofs.InputLemmas.{line_performs}
+use Rattle.ir_builder_operations.proofs.ObjectLemmas.{int_boxed, native_boxed, flag_boxed, int_unboxed, native_unboxed, flag_unboxed, absence_performs, empty_list_performs, list_length_performs, tuple_length_performs, item_performs as list_item_performs, change_performs, pop_performs}
+use Rattle.ir_builder_operations.specs.declared.operation.Unboxed.TheVariants as unboxed
 
 -- ---- what it does
 
@@ -38,6 +40,19 @@ operation_performs BoolToInt e = on_one Bool BoolVal by_bool (Does BoolToInt) in
 operation_performs BoolToNative e = on_one Bool BoolVal by_bool (Does BoolToNative) native_of_bool
 operation_performs NativeToInt e = on_one I64 native_value by_native (Does NativeToInt) (λ n. int_of_native n.0)
 operation_performs IntToNative e = on_one Int IntVal by_int (Does IntToNative) native_of_int
+operation_performs (Boxing unboxed.Int) e = on_one Int IntVal by_int (Does (Boxing unboxed.Int)) int_boxed
+operation_performs (Boxing unboxed.Native) e = on_one I64 native_value by_native (Does (Boxing unboxed.Native)) (λ n. native_boxed n.0 n.1)
+operation_performs (Boxing unboxed.Bool) e = on_one Bool BoolVal by_bool (Does (Boxing unboxed.Bool)) flag_boxed
+operation_performs (Unboxing unboxed.Int) e = on_one boxed (λ v. v) by_any (Does (Unboxing unboxed.Int)) int_unboxed
+operation_performs (Unboxing unboxed.Native) e = on_one boxed (λ v. v) by_any (Does (Unboxing unboxed.Native)) native_unboxed
+operation_performs (Unboxing unboxed.Bool) e = on_one boxed (λ v. v) by_any (Does (Unboxing unboxed.Bool)) flag_unboxed
+operation_performs Absence e = on_one boxed (λ v. v) by_any (Does Absence) absence_performs
+operation_performs EmptyList e = on_none (Does EmptyList) empty_list_performs
+operation_performs ListLength e = on_one boxed (λ v. v) by_any (Does ListLength) list_length_performs
+operation_performs TupleLength e = on_one boxed (λ v. v) by_any (Does TupleLength) tuple_length_performs
+operation_performs Item e = on_two boxed Int (λ v. v) IntVal by_any by_int (Does Item) list_item_performs
+operation_performs ItemChange e = on_three boxed Int boxed (λ v. v) IntVal (λ v. v) by_any by_int by_any (Does ItemChange) change_performs
+operation_performs LastItem e = on_one boxed (λ v. v) by_any (Does LastItem) pop_performs
 operation_performs Line e = on_none (Does Line) line_performs
 
 module _ (op : Operation) (rs : List Reg) (t : RType) (q : Primitive) (args : List PArg) (type : t ≡ rtype_of (result_of op)) (does : q ≡ primitive_of op) (given : args ≡ map Var rs) where
@@ -53,6 +68,7 @@ module _ (op : Operation) (rs : List Reg) (t : RType) (q : Primitive) (args : Li
 abbrev Takes : List Parameter → List Sort → Type 0
 Takes [] [] = Unit {0}
 Takes (Borrows (Is k) h ∷ ps) (t ∷ ts) = (kind_of_type (rtype_of t) ≡ k) × Takes ps ts
+Takes (Steals (Is k) h ∷ ps) (t ∷ ts) = (kind_of_type (rtype_of t) ≡ k) × Takes ps ts
 Takes ps ts = ⊥
 
 abbrev Row : Operation → Type 0
@@ -97,13 +113,28 @@ row BoolToInt = (refl, (refl, tt))
 row BoolToNative = (refl, (refl, tt))
 row NativeToInt = (refl, (refl, tt))
 row IntToNative = (refl, (refl, tt))
+row (Boxing unboxed.Int) = (refl, (refl, tt))
+row (Boxing unboxed.Native) = (refl, (refl, tt))
+row (Boxing unboxed.Bool) = (refl, (refl, tt))
+row (Unboxing unboxed.Int) = (refl, (refl, tt))
+row (Unboxing unboxed.Native) = (refl, (refl, tt))
+row (Unboxing unboxed.Bool) = (refl, (refl, tt))
+row Absence = (refl, (refl, tt))
+row EmptyList = (refl, tt)
+row ListLength = (refl, (refl, tt))
+row TupleLength = (refl, (refl, tt))
+row Item = (refl, (refl, (refl, tt)))
+row ItemChange = (refl, (refl, (refl, (refl, tt))))
+row LastItem = (refl, (refl, tt))
 row Line = (refl, tt)
 
 taken : (regs : Declared) (ps : List Parameter) (ts : List Sort) (rs : List Reg) → Takes ps ts → HaveTypes regs ts rs → AreArguments regs ps (map Var rs)
 taken regs [] [] [] k h = tt
 taken regs [] [] (r ∷ rs) k h = absurd h
-taken regs (Borrows (Is k) g ∷ ps) (t ∷ ts) (r ∷ rs) k' h = (rtype_of t, h.0, k'.0, taken regs ps ts rs k'.1 h.1)
+taken regs (Borrows (Is k) g ∷ ps) (t ∷ ts) (r ∷ rs) k' h = (record { type = rtype_of t; is = h.0; same = k'.0 }, taken regs ps ts rs k'.1 h.1)
 taken regs (Borrows (Is k) g ∷ ps) (t ∷ ts) [] k' h = absurd h
+taken regs (Steals (Is k) g ∷ ps) (t ∷ ts) (r ∷ rs) k' h = (record { type = rtype_of t; is = h.0; same = k'.0 }, taken regs ps ts rs k'.1 h.1)
+taken regs (Steals (Is k) g ∷ ps) (t ∷ ts) [] k' h = absurd h
 taken regs ps ts rs k h = absurd k
 
 pub operation_answers : (op : Operation) (rs : List Reg) (t : RType) (q : Primitive) (args : List PArg) → t ≡ rtype_of (result_of op) → q ≡ primitive_of op → args ≡ map Var rs → (regs : Declared) → HaveTypes regs (operands_of op) rs → Answers t regs q args

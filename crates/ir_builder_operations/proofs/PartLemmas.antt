@@ -1,5 +1,5 @@
 -- Operations on registers, what is in its register already, and what a primitive makes of a written text.
-use Rattle.ir_builder_operations.proofs.Common.{◌≡◌, ℕ, ◌+◌, ◌<◌, List, [], ◌∷◌, length, Some, None, refl, sym, ◌∙◌, subst, arith, le_refl, Value, Primitive, Sort, State, Gives, Does, give, Reg, RType, Text, Prim, NeverFails, failing, Holds, Regs, put, World, Written, effect, Program, Building, rtype_of, HasType, Adds, world, running, HasKind, IsThrown, Shows, ShowAll, HaveTypes, Arrives, Makes, Attempts, ActsOnAll, extends_refl, type_has, type_below, adds_has, leads_step, ends_of, ends_now, makes_arrives, prim_step, Acts, ActsOn, ActsOnTwo, of_none, of_one, of_two}
+use Rattle.ir_builder_operations.proofs.Common.{◌⊎◌, inr, IsStuck, unless_stuck, Outcome, ◌≡◌, ℕ, ◌+◌, ◌<◌, List, [], ◌∷◌, length, Some, None, refl, sym, ◌∙◌, subst, arith, le_refl, Value, Primitive, Sort, State, Gives, Does, give, Reg, RType, Text, Prim, NeverFails, failing, Holds, Regs, put, World, Written, effect, Program, Building, rtype_of, HasType, Adds, world, running, HasKind, IsThrown, Shows, ShowAll, HaveTypes, Arrives, Makes, Attempts, ActsOnAll, extends_refl, type_has, type_below, adds_has, leads_step, ends_of, ends_now, makes_arrives, prim_step, Acts, ActsOn, ActsOnTwo, of_none, of_one, of_two}
 use Rattle.ir_core.specs.Effects.{Gives as Giving}
 use Rattle.ir_core.proofs.StepLemmas.{put_same, put_other}
 use Rattle.ir_builder_operations.proofs.ThenLemmas.{attempts_as}
@@ -17,17 +17,28 @@ pub as_two : (t t' u : Sort) (go : Value → Value → Does Value) (b c : Buildi
 as_two t t' u go b c r x y a =
     attempts_as (Shows u) b c r (rtype_of u) (ActsOnAll (t ∷ t' ∷ []) (x ∷ y ∷ []) (of_two go)) (ActsOnTwo t t' x.0 y.0 go) (λ regs s res f. record { values = f.v ∷ f.w ∷ []; shows = (f.left, (f.right, tt)); does = f.does }) a
 
+-- what a value becomes is itself, of another type, unless the source is stuck
+abbrev pub IsItself : Sort → Value → State → Outcome Value → Type 0
+IsItself u v s res = IsStuck res ⊎ ((res ≡ Gives v s) × HasKind u v)
+
 -- where the value is in its register already
-pub stays : (t : Sort) (go : Value → Does Value) (b : Building) (r : ℕ) (type : RType) → HasType b r type → ((v : Value) (s : State) → HasKind t v → go v s ≡ Gives v s) → Attempts (Shows t) b b r type (ActsOn t r go)
-stays t go b r type is same = record {
+pub stays_as : (t u : Sort) (go : Value → Does Value) (b : Building) (r : ℕ) (type : RType) → HasType b r type → ((v : Value) (s : State) → HasKind t v → IsItself u v s (go v s)) → Attempts (Shows u) b b r type (ActsOn t r go)
+stays_as t u go b r type is same = record {
   extends = extends_refl b;
   type = is;
   runs = λ p fn h placed x room regs below s match res needs.
-      let R = Arrives (Shows t) fn (length b.blocks) (length b.ops) below (length b.regs) regs s r in
+      let R = Arrives (Shows u) fn (length b.blocks) (length b.ops) below (length b.regs) regs s r in
       let T = IsThrown fn h below x (length b.regs) regs in
-      ends_of p s.turns _ res (Gives needs.v s) R T (needs.does ∙ same needs.v s needs.shows.1)
-      (ends_now p needs.v s _ R T record { now = regs; is = refl; shows = needs.shows; kept = λ j lt. refl; same = refl });
+      let c = running fn (length b.blocks) (length b.ops) regs below (world None s) in
+      ends_of p s.turns c res (go needs.v s) R T needs.does
+      (unless_stuck p s.turns c (go needs.v s) R T
+      (λ h. ends_of p s.turns c (go needs.v s) (Gives needs.v s) R T h.0
+      (ends_now p needs.v s c R T record { now = regs; is = refl; shows = (needs.shows.0, h.1); kept = λ j lt. refl; same = refl }))
+      (same needs.v s needs.shows.1));
 }
+
+pub stays : (t : Sort) (go : Value → Does Value) (b : Building) (r : ℕ) (type : RType) → HasType b r type → ((v : Value) (s : State) → HasKind t v → go v s ≡ Gives v s) → Attempts (Shows t) b b r type (ActsOn t r go)
+stays t go b r type is same = stays_as t t go b r type is (λ v s k. inr (same v s k, k))
 
 -- a value that is made of nothing
 pub made_attempts : (t : Sort) (v : Value) (b c : Building) (r : ℕ) (u : RType) → HasKind t v → Makes b c r u (λ regs h. h ≡ Holds v) → Attempts (Shows t) b c r u (Acts (give v))

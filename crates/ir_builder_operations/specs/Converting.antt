@@ -1,7 +1,11 @@
 -- Which operation makes a value of one type of one of another type, where the value is not the same.
-use Rattle.std.specs.Prelude.{Option, Some, None}
+use Rattle.std.specs.Prelude.{◌≡◌, Bool, true, false, List, Option, Some, None}
+use Rattle.py_typed.specs.Classes.{ClassEntry}
+use Rattle.py_typed.specs.Fits.{fits}
 use Rattle.py_typed.specs.Sorts as sort
 use Rattle.py_typed.specs.Sorts.{Sort}
+use Rattle.ir_builder_operations.specs.declared.operation.Unboxed.{Unboxed}
+use Rattle.ir_builder_operations.specs.declared.operation.Unboxed.TheVariants as unboxed
 use Rattle.ir_builder_operations.specs.declared.operation.Operation.{Operation}
 use Rattle.ir_builder_operations.specs.declared.operation.Operation.TheVariants.{IntText, NativeText, BoolText, BoolToInt, BoolToNative, NativeToInt, IntToNative}
 
@@ -19,3 +23,23 @@ text_operation sort.Int = Some IntText
 text_operation sort.I64 = Some NativeText
 text_operation sort.Bool = Some BoolText
 text_operation _ = None
+
+-- what a type's values are that are no objects
+abbrev pub unboxed_in : Sort → Option Unboxed
+unboxed_in sort.Int = Some unboxed.Int
+unboxed_in sort.I64 = Some unboxed.Native
+unboxed_in sort.Bool = Some unboxed.Bool
+unboxed_in _ = None
+
+-- a type whose values may be None, and one under which no other such type stands at once
+abbrev pub is_optional : Sort → Bool
+is_optional (sort.Optional t) = true
+is_optional _ = false
+
+abbrev pub is_flat : Sort → Bool
+is_flat (sort.Optional (sort.Optional t)) = false
+is_flat t = true
+
+-- a value of the first type fits the second, among some classes
+abbrev pub Converts : Sort → Sort → Type 0
+Converts s t = (classes : List ClassEntry) × (fits classes s t ≡ true) × (is_flat t ≡ true)

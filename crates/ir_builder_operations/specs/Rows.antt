@@ -1,7 +1,7 @@
 -- Each operation that one primitive does: the types of its operands and of its result, its primitive, and what the source does with
 -- the operands' values.
-use Rattle.std.specs.Prelude.{Bool, true, not, List, [], ◌∷◌}
-use Rattle.value_core.specs.Value.{Value, BoolVal, StrVal}
+use Rattle.std.specs.Prelude.{Bool, true, not, List, [], ◌∷◌, length}
+use Rattle.value_core.specs.Value.{Value, BoolVal, StrVal, TupleVal, listed, ListObj}
 use Rattle.c_core.specs.declared.primitive.Primitive.{Primitive}
 use Rattle.c_core.specs.declared.primitive.Primitive.TheVariants as prim
 use Rattle.c_core.specs.declared.primitive.Int64Prim.TheVariants as int64
@@ -9,15 +9,21 @@ use Rattle.c_core.specs.declared.primitive.TaggedPrim.TheVariants as tagged
 use Rattle.c_core.specs.declared.primitive.BoolPrim.TheVariants as bool
 use Rattle.c_core.specs.declared.primitive.StrPrim.TheVariants as str
 use Rattle.c_core.specs.declared.primitive.IoPrim.TheVariants as io
-use Rattle.py_typed.specs.Sorts.{Sort, Int, I64, Bool as BoolSort, Str}
-use Rattle.source_meaning.specs.State.{Does, ◌>>=◌, give, needs, look, stop, Stuck}
-use Rattle.source_meaning.specs.Operations.{arithmetic, negated, coerced, is_equal, is_less, are_alike, truth_of, joined, length_of, letter, text_of, next_line}
+use Rattle.c_core.specs.declared.primitive.ListPrim.TheVariants as list
+use Rattle.c_core.specs.declared.primitive.ObjectPrim.TheVariants as object
+use Rattle.c_core.specs.declared.primitive.TuplePrim.TheVariants as tuple
+use Rattle.py_typed.specs.Sorts.{Sort, Int, I64, Bool as BoolSort, Str, Optional}
+use Rattle.source_meaning.specs.State.{Does, ◌>>=◌, ◌>>◌, give, needs, look, make, stop, Stuck}
+use Rattle.source_meaning.specs.Operations.{arithmetic, negated, coerced, is_equal, is_less, are_alike, truth_of, joined, length_of, letter, text_of, next_line, is_none, with_list, length_value, list_item, set_list_item, pop_item}
 use Rattle.ir_builder_operations.specs.declared.operation.Operation.{Operation}
-use Rattle.ir_builder_operations.specs.declared.operation.Operation.TheVariants.{IntArithmetic, NativeArithmetic, IntNegation, NativeNegation, Comparison, Inversion, Concatenation, Length, Letter, IntText, NativeText, BoolText, BoolToInt, BoolToNative, NativeToInt, IntToNative, Line}
+use Rattle.ir_builder_operations.specs.declared.operation.Operation.TheVariants.{IntArithmetic, NativeArithmetic, IntNegation, NativeNegation, Comparison, Inversion, Concatenation, Length, Letter, IntText, NativeText, BoolText, BoolToInt, BoolToNative, NativeToInt, IntToNative, Boxing, Unboxing, Absence, EmptyList, ListLength, TupleLength, Item, ItemChange, LastItem, Line}
+use Rattle.ir_builder_operations.specs.declared.operation.Unboxed.{Unboxed}
+use Rattle.ir_builder_operations.specs.declared.operation.Unboxed.TheVariants as unboxed
 use Rattle.ir_builder_operations.specs.declared.operation.Compared.{Compared}
 use Rattle.ir_builder_operations.specs.declared.operation.Compared.TheVariants.{Ints, Natives, Texts}
 use Rattle.ir_builder_operations.specs.declared.operation.Test.{Test}
 use Rattle.ir_builder_operations.specs.declared.operation.Test.TheVariants.{Equal, Less, AtMost}
+use Rattle.ir_builder_operations.specs.Boxes.{boxed, taken_as}
 use Rattle.ir_builder_operations.specs.Selecting.{is_arithmetic, int_primitive, native_primitive, test_primitive}
 
 -- an operator of arithmetic, where there is one
@@ -31,6 +37,12 @@ abbrev pub compared_sort : Compared → Sort
 compared_sort Ints = Int
 compared_sort Natives = I64
 compared_sort Texts = Str
+
+-- the types whose values are no objects
+abbrev pub unboxed_sort : Unboxed → Sort
+unboxed_sort unboxed.Int = Int
+unboxed_sort unboxed.Native = I64
+unboxed_sort unboxed.Bool = BoolSort
 
 abbrev pub operands_of : Operation → List Sort
 operands_of (IntArithmetic op) = Int ∷ Int ∷ []
@@ -49,6 +61,15 @@ operands_of BoolToInt = BoolSort ∷ []
 operands_of BoolToNative = BoolSort ∷ []
 operands_of NativeToInt = I64 ∷ []
 operands_of IntToNative = Int ∷ []
+operands_of (Boxing u) = unboxed_sort u ∷ []
+operands_of (Unboxing u) = boxed ∷ []
+operands_of Absence = boxed ∷ []
+operands_of EmptyList = []
+operands_of ListLength = boxed ∷ []
+operands_of TupleLength = boxed ∷ []
+operands_of Item = boxed ∷ Int ∷ []
+operands_of ItemChange = boxed ∷ Int ∷ boxed ∷ []
+operands_of LastItem = boxed ∷ []
 operands_of Line = []
 
 abbrev pub result_of : Operation → Sort
@@ -63,7 +84,27 @@ result_of BoolToInt = Int
 result_of BoolToNative = I64
 result_of NativeToInt = Int
 result_of IntToNative = I64
+result_of (Boxing u) = Optional (unboxed_sort u)
+result_of (Unboxing u) = unboxed_sort u
+result_of Absence = BoolSort
+result_of EmptyList = boxed
+result_of ListLength = Int
+result_of TupleLength = Int
+result_of Item = boxed
+result_of ItemChange = BoolSort
+result_of LastItem = boxed
 result_of _ = Str
+
+-- the primitive that makes an object of a value, and the one that takes it out again
+abbrev pub box_primitive : Unboxed → Primitive
+box_primitive unboxed.Int = prim.Tagged tagged.Box
+box_primitive unboxed.Native = prim.Int64 int64.Box
+box_primitive unboxed.Bool = prim.Bool bool.Box
+
+abbrev pub unbox_primitive : Unboxed → Primitive
+unbox_primitive unboxed.Int = prim.Tagged tagged.Unbox
+unbox_primitive unboxed.Native = prim.Int64 int64.Unbox
+unbox_primitive unboxed.Bool = prim.Bool bool.Unbox
 
 abbrev pub primitive_of : Operation → Primitive
 primitive_of (IntArithmetic op) = prim.Tagged (int_primitive op)
@@ -82,9 +123,18 @@ primitive_of BoolToInt = prim.Tagged tagged.FromBool
 primitive_of BoolToNative = prim.Int64 int64.FromBool
 primitive_of NativeToInt = prim.Tagged tagged.FromInt64
 primitive_of IntToNative = prim.Tagged tagged.AsInt64
+primitive_of (Boxing u) = box_primitive u
+primitive_of (Unboxing u) = unbox_primitive u
+primitive_of Absence = prim.Object object.IsNone
+primitive_of EmptyList = prim.List list.New
+primitive_of ListLength = prim.List list.Len
+primitive_of TupleLength = prim.Tuple tuple.Len
+primitive_of Item = prim.List list.GetItem
+primitive_of ItemChange = prim.List list.SetItem
+primitive_of LastItem = prim.List list.Pop
 primitive_of Line = prim.Io io.Input
 
--- ---- what the source does with no value, with one, and with two
+-- ---- what the source does with no value, with one, with two, and with three
 
 abbrev pub of_none : Does Value → List Value → Does Value
 of_none go [] = go
@@ -97,6 +147,10 @@ of_one go _ = stop Stuck
 abbrev pub of_two : (Value → Value → Does Value) → List Value → Does Value
 of_two go (v ∷ w ∷ []) = go v w
 of_two go _ = stop Stuck
+
+abbrev pub of_three : (Value → Value → Value → Does Value) → List Value → Does Value
+of_three go (u ∷ v ∷ w ∷ []) = go u v w
+of_three go _ = stop Stuck
 
 -- the text of a value
 abbrev pub written : Value → Does Value
@@ -120,6 +174,22 @@ compares test v w = as_value (needs (are_alike v w) (give (test v w)))
 abbrev pub inverts : Value → Does Value
 inverts v = truth_of v >>= λ h. give (BoolVal (not h))
 
+-- the number of the items of a list, and of the parts of a tuple
+abbrev pub list_length : Value → Does Value
+list_length l = with_list l (λ k vs. give (length_value (length vs)))
+
+abbrev pub tuple_length : Value → Does Value
+tuple_length (TupleVal parts) = give (length_value (length (listed parts)))
+tuple_length _ = stop Stuck
+
+-- whether a value is None
+abbrev pub is_absent : Value → Does Value
+is_absent v = give (BoolVal (is_none v))
+
+-- another item of a list
+abbrev pub item_changed : Value → Value → Value → Does Value
+item_changed l i v = set_list_item l i v >> give (BoolVal true)
+
 abbrev pub goes : Operation → List Value → Does Value
 goes (IntArithmetic op) = of_two (arithmetic Int op)
 goes (NativeArithmetic op) = of_two (arithmetic I64 op)
@@ -137,4 +207,13 @@ goes BoolToInt = of_one (coerced Int)
 goes BoolToNative = of_one (coerced I64)
 goes NativeToInt = of_one (coerced Int)
 goes IntToNative = of_one (coerced I64)
+goes (Boxing u) = of_one give
+goes (Unboxing u) = of_one (taken_as (unboxed_sort u))
+goes Absence = of_one is_absent
+goes EmptyList = of_none (make (ListObj []))
+goes ListLength = of_one list_length
+goes TupleLength = of_one tuple_length
+goes Item = of_two list_item
+goes ItemChange = of_three item_changed
+goes LastItem = of_one pop_item
 goes Line = of_none (look (λ s. s.items) next_line)

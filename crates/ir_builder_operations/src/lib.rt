@@ -6,16 +6,22 @@
 //! operand have functions of their own. `proofs/ThenLemmas.antt` has what two operations do together, one behind the other.
 #![tactic(auto)]
 
+mod boxes;
 mod coercions;
+mod containers;
+mod conversions;
 mod input;
 mod numbers;
 mod operation;
 mod parts;
 mod texts;
 
+pub use boxes::{emit_boxed, emit_unboxed};
 pub use coercions::emit_coercion;
+pub use containers::{emit_append, emit_list, emit_tuple, emit_tuple_part};
+pub use conversions::emit_conversion;
 pub use input::emit_input;
 pub use numbers::{emit_int, emit_native};
-pub use operation::{Compared, Operation, Test, emit_operation};
+pub use operation::{Compared, Operation, Test, Unboxed, emit_operation};
 pub use parts::emit_written;
 pub use texts::{emit_text, emit_text_of};

@@ -5,10 +5,12 @@ ghost use Rattle.ir_builder_frames.specs.Computing.{Shows, HaveTypes, Attempts};
 ghost use Rattle.ir_builder_frames.specs.Operands.{ActsOnAll};
 ghost use Rattle.ir_builder_frames.specs.Settings.{rtype_of};
 ghost use Rattle.ir_builder_frames.specs.Lines.{OwnLines};
-ghost use Rattle.ir_builder_operations.specs.Rows.{is_known, operands_of, result_of, primitive_of, goes};
+ghost use Rattle.ir_builder_operations.specs.Rows.{is_known, operands_of, result_of, primitive_of, goes, unboxed_sort, box_primitive, unbox_primitive};
 ghost use Rattle.ir_builder_operations.specs.Selecting.{int_primitive, native_primitive, test_primitive};
 
-use c_core::{BoolPrim, Int64Prim, IoPrim, Prim, StrPrim, TaggedPrim};
+use c_core::{
+    BoolPrim, Int64Prim, IoPrim, ListPrim, ObjectPrim, Prim, StrPrim, TaggedPrim, TuplePrim,
+};
 use ir_builder_frames::Emitter;
 use ir_core::{PArg, RType, Reg};
 use py_syntax::BinOp;
@@ -29,6 +31,15 @@ pub enum Test {
     Equal,
     Less,
     AtMost,
+}
+
+/// A type whose values are held in registers of their own kind, and in an object where one is asked for (mypyc's developer guide,
+/// "Boxed and unboxed representations").
+#[derive(Clone, Copy)]
+pub enum Unboxed {
+    Int,
+    Native,
+    Bool,
 }
 
 /// An operation that one primitive does (Python Language Reference, "Expressions"; mypyc's "Native integer types").
@@ -66,6 +77,23 @@ pub enum Operation {
     NativeToInt,
     /// An `int` as a native integer. At run time OverflowError is raised where it has no place in 64 bits.
     IntToNative,
+    /// A number or a bool as an object, and an object that holds one as that.
+    Boxing(Unboxed),
+    Unboxing(Unboxed),
+    /// Whether a value is None.
+    Absence,
+    /// A new list without items.
+    EmptyList,
+    /// The number of a list's items, and of a tuple's parts.
+    ListLength,
+    TupleLength,
+    /// The item of a list at an index, which counts from the end where it is negative. At run time an index out of range raises
+    /// IndexError.
+    Item,
+    /// Another item of a list at an index; the result is true. At run time an index out of range raises IndexError.
+    ItemChange,
+    /// The last item of a list, which is taken out. At run time IndexError is raised where there is none.
+    LastItem,
     /// The next line of input, without its line feed. At run time the end of the input raises EOFError, and a line that is not
     /// UTF-8 ValueError. The run ends at a line that ends too far along, and where the input cannot be read.
     Line,
@@ -118,6 +146,27 @@ fn primitive_to_test(compared: Compared, test: Test) -> Prim
     }
 }
 
+// The primitive that makes an object of a value, and the one that takes it out again.
+fn boxing_primitive(unboxed: Unboxed) -> Prim
+    ensures { result ≡ box_primitive unboxed }
+{
+    match unboxed {
+        Unboxed::Int => Prim::Tagged(TaggedPrim::Box),
+        Unboxed::Native => Prim::Int64(Int64Prim::Box),
+        Unboxed::Bool => Prim::Bool(BoolPrim::Box),
+    }
+}
+
+fn unboxing_primitive(unboxed: Unboxed) -> Prim
+    ensures { result ≡ unbox_primitive unboxed }
+{
+    match unboxed {
+        Unboxed::Int => Prim::Tagged(TaggedPrim::Unbox),
+        Unboxed::Native => Prim::Int64(Int64Prim::Unbox),
+        Unboxed::Bool => Prim::Bool(BoolPrim::Unbox),
+    }
+}
+
 // The primitive that does an operation.
 fn primitive(op: Operation) -> Prim
     ensures { result ≡ primitive_of op }
@@ -139,7 +188,27 @@ fn primitive(op: Operation) -> Prim
         Operation::BoolToNative => Prim::Int64(Int64Prim::FromBool),
         Operation::NativeToInt => Prim::Tagged(TaggedPrim::FromInt64),
         Operation::IntToNative => Prim::Tagged(TaggedPrim::AsInt64),
+        Operation::Boxing(unboxed) => boxing_primitive(unboxed),
+        Operation::Unboxing(unboxed) => unboxing_primitive(unboxed),
+        Operation::Absence => Prim::Object(ObjectPrim::IsNone),
+        Operation::EmptyList => Prim::List(ListPrim::New),
+        Operation::ListLength => Prim::List(ListPrim::Len),
+        Operation::TupleLength => Prim::Tuple(TuplePrim::Len),
+        Operation::Item => Prim::List(ListPrim::GetItem),
+        Operation::ItemChange => Prim::List(ListPrim::SetItem),
+        Operation::LastItem => Prim::List(ListPrim::Pop),
         Operation::Line => Prim::Io(IoPrim::Input),
+    }
+}
+
+// The type of the registers for values of a type.
+fn unboxed_register(unboxed: Unboxed) -> RType
+    ensures { result ≡ rtype_of (unboxed_sort unboxed) }
+{
+    match unboxed {
+        Unboxed::Int => RType::Int,
+        Unboxed::Native => RType::I64,
+        Unboxed::Bool => RType::Bool,
     }
 }
 
@@ -151,19 +220,25 @@ fn result_type(op: Operation) -> RType
         Operation::IntArithmetic(_)
         | Operation::IntNegation
         | Operation::Length
+        | Operation::ListLength
+        | Operation::TupleLength
         | Operation::BoolToInt
         | Operation::NativeToInt => RType::Int,
         Operation::NativeArithmetic(_)
         | Operation::NativeNegation
         | Operation::BoolToNative
         | Operation::IntToNative => RType::I64,
-        Operation::Comparison(_, _) | Operation::Inversion => RType::Bool,
+        Operation::Comparison(_, _)
+        | Operation::Inversion
+        | Operation::Absence
+        | Operation::ItemChange => RType::Bool,
+        Operation::Unboxing(unboxed) => unboxed_register(unboxed),
         _ => RType::Ref,
     }
 }
 
 // Registers as arguments.
-fn arguments(alloc: Global, operands: &[Reg]) -> Result<Many<PArg>, Memory>
+pub(crate) fn arguments(alloc: Global, operands: &[Reg]) -> Result<Many<PArg>, Memory>
     ensures { IfOk result (λ args. args ≡ map PArg.Var operands.now) }
 {
     let mut args = Many::new(alloc);
