@@ -1,8 +1,10 @@
 -- An expression that is an operation on parts: what it asks of them, what its code does, and what it weighs.
-use Rattle.ir_builder_expressions.proofs.Common.{◌≡◌, refl, sym, ◌∙◌, ap, subst, ℕ, ◌+◌, true, List, Option, Some, None, is_some, TExpr, Sort, TypedNode, typed, type_of, typed_expr, Neg, Not, Truth, Arith, Concat, At, Len, ToStr, Coerce, TypedModule, Variable, typed_expr_of, type_at, Building, Setting, Unary, Negated, Inverted, Tested, Counted, Written, Coerced, Binary, Arithmetic, Joined, Indexed, UnarySuits, BinarySuits, Applied, one, two, applied_in, node_in, Suits, NodeSuits, Emits, EmitsOne, EmitsTwo, EmitsNode}
+use Rattle.ir_builder_expressions.proofs.Common.{◌≡◌, refl, sym, ◌∙◌, ap, subst, ℕ, ◌+◌, true, List, Option, Some, None, is_some, TExpr, Sort, TypedNode, typed, type_of, typed_expr, Neg, Not, Truth, Arith, Concat, At, TupleAt, Len, ToStr, Append, Pop, Coerce, Shows, looked_at, TypedModule, Variable, typed_expr_of, type_at, Building, Setting, Unary, Negated, Inverted, Tested, Counted, Written, Coerced, Popped, Part, Binary, Arithmetic, Joined, Appended, sized_of, index_of, UnarySuits, BinarySuits, Applied, one, two, applied_in, node_in, Suits, NodeSuits, Emits, EmitsOne, EmitsTwo, EmitsNode}
 use Rattle.py_typed.specs.Sorts.{sort as sort_of}
-use Rattle.ir_builder_expressions.proofs.ArmLemmas.{Is, asked, emits_node}
-use Rattle.ir_builder_expressions.proofs.PieceLemmas.{item_emits}
+use Rattle.ir_builder_expressions.proofs.ArmLemmas.{Is, asked, emits_as}
+use Rattle.ir_builder_expressions.proofs.LookedLemmas.{one_taken, at_emits, sized_emits}
+use Rattle.py_syntax.specs.declared.token.Span.{Span}
+use Rattle.source_meaning.specs.Operations.{pop_item, tuple_part}
 use Rattle.ir_builder_expressions.proofs.WeightLemmas.{weight, node_weight, weight_of}
 
 -- ---- what the parts are to be, and what their code does
@@ -22,22 +24,29 @@ weight_in (two op a b) = weight a + weight b
 -- an operation has these
 pub record Fits (x : Setting) (n : TypedNode) (t : Sort) (a : Applied) : Type 0 where
   pub suits : AppliedSuits x.source x.variables t a
-  pub emits : (b c : Building) (r : ℕ) → EmitsApplied x t b c r a → EmitsNode x n t b c r
+  pub emits : (b c : Building) (r : ℕ) (place : Span) → EmitsApplied x t b c r a → Emits x (typed n t place) b c r
   pub weighs : node_weight n ≡ weight_in a + 1
 
 by_some : {A : Type 0} (P : A → Type 0) (x a : A) → Some x ≡ Some a → P x → P a
 by_some P x a e h = let same : x ≡ a = cc in subst P same h
 
+-- what its node gives is looked at
+looked : (x : Setting) (n : TypedNode) (t : Sort) (b c : Building) (r : ℕ) (place : Span) → EmitsNode x n t b c r → Emits x (typed n t place) b c r
+looked x n t b c r place q = looked_at x (Shows t) n t place b c r (λ v h kind k. k.0) q
+
 fits : (x : Setting) (n : TypedNode) (t : Sort) (a : Applied) → applied_in n ≡ Some a → NodeSuits x.source x.variables n t → Fits x n t a
-fits x (Neg e) t a is h = by_some (Fits x (Neg e) t) (one Negated e) a is record { suits = h; emits = λ b c r q. q; weighs = refl }
-fits x (Not e) t a is h = by_some (Fits x (Not e) t) (one Inverted e) a is record { suits = h; emits = λ b c r q. q; weighs = refl }
-fits x (Truth e) t a is h = by_some (Fits x (Truth e) t) (one Tested e) a is record { suits = h; emits = λ b c r q. q; weighs = refl }
-fits x (Len e) t a is h = by_some (Fits x (Len e) t) (one Counted e) a is record { suits = h; emits = λ b c r q. q; weighs = refl }
-fits x (ToStr e) t a is h = by_some (Fits x (ToStr e) t) (one Written e) a is record { suits = h; emits = λ b c r q. q; weighs = refl }
-fits x (Coerce e) t a is h = by_some (Fits x (Coerce e) t) (one Coerced e) a is record { suits = h; emits = λ b c r q. q; weighs = refl }
-fits x (Arith op e f) t a is h = by_some (Fits x (Arith op e f) t) (two (Arithmetic op) e f) a is record { suits = h; emits = λ b c r q. q; weighs = refl }
-fits x (Concat e f) t a is h = by_some (Fits x (Concat e f) t) (two Joined e f) a is record { suits = h; emits = λ b c r q. q; weighs = refl }
-fits x (At e f) t a is h = by_some (Fits x (At e f) t) (two Indexed e f) a is record { suits = h; emits = λ b c r q. item_emits x e f t b c r h.0.1 q; weighs = refl }
+fits x (Neg e) t a is h = by_some (Fits x (Neg e) t) (one Negated e) a is record { suits = h; emits = looked x (Neg e) t; weighs = refl }
+fits x (Not e) t a is h = by_some (Fits x (Not e) t) (one Inverted e) a is record { suits = h; emits = looked x (Not e) t; weighs = refl }
+fits x (Truth e) t a is h = by_some (Fits x (Truth e) t) (one Tested e) a is record { suits = h; emits = looked x (Truth e) t; weighs = refl }
+fits x (Len e) t a is h = by_some (Fits x (Len e) t) (one (Counted (sized_of (type_of e))) e) a is record { suits = h; emits = λ b c r place q. looked x (Len e) t b c r place (sized_emits x e t b c r q); weighs = refl }
+fits x (ToStr e) t a is h = by_some (Fits x (ToStr e) t) (one Written e) a is record { suits = h; emits = looked x (ToStr e) t; weighs = refl }
+fits x (Coerce e) t a is h = by_some (Fits x (Coerce e) t) (one Coerced e) a is record { suits = h; emits = looked x (Coerce e) t; weighs = refl }
+fits x (Pop e) t a is h = by_some (Fits x (Pop e) t) (one Popped e) a is record { suits = h; emits = λ b c r place q. one_taken x Popped pop_item (Pop e) t e place b c r (λ k s. refl) (λ v. refl) q; weighs = refl }
+fits x (TupleAt e i) t a is h = by_some (Fits x (TupleAt e i) t) (one (Part i) e) a is record { suits = h; emits = λ b c r place q. one_taken x (Part i) (tuple_part i) (TupleAt e i) t e place b c r (λ k s. refl) (λ v. refl) q; weighs = refl }
+fits x (Arith op e f) t a is h = by_some (Fits x (Arith op e f) t) (two (Arithmetic op) e f) a is record { suits = h; emits = looked x (Arith op e f) t; weighs = refl }
+fits x (Concat e f) t a is h = by_some (Fits x (Concat e f) t) (two Joined e f) a is record { suits = h; emits = looked x (Concat e f) t; weighs = refl }
+fits x (At e f) t a is h = by_some (Fits x (At e f) t) (two (index_of (type_of e)) e f) a is record { suits = h; emits = λ b c r place q. at_emits x e f t (type_of e) place b c r refl h.0 q; weighs = refl }
+fits x (Append e f) t a is h = by_some (Fits x (Append e f) t) (two Appended e f) a is record { suits = h; emits = looked x (Append e f) t; weighs = refl }
 fits x n t a is h = let f : None ≡ Some a = is in absurd (cc)
 
 -- ---- of a declared expression
@@ -70,7 +79,7 @@ module _ (x : Setting) (e : TExpr) (suits : Suits x.source x.variables (typed_ex
       (subst (λ s. BinarySuits op (sort_of e.ty) (sort_of p.ty) s) (type_at q) left, h.1, h.2)
 
   pub applied_emits : (a : Applied) (b c : Building) (r : ℕ) → Some a ≡ applied_in node → EmitsApplied x (sort_of e.ty) b c r a → Emits x (typed_expr e) b c r
-  applied_emits a b c r is q = emits_node x e node (sort_of e.ty) b c r (own_node e) refl ((own_fits a is).emits b c r q)
+  applied_emits a b c r is q = emits_as x e node (sort_of e.ty) b c r (own_node e) refl ((own_fits a is).emits b c r e.span q)
 
   -- it weighs something
   some_weight : (o : Option Applied) → o ≡ applied_in node → is_some o ≡ true → (k : ℕ) × (weight_of e ≡ k + 1)
@@ -79,12 +88,3 @@ module _ (x : Setting) (e : TExpr) (suits : Suits x.source x.variables (typed_ex
 
   pub applied_above : is_some (applied_in node) ≡ true → (k : ℕ) × (weight_of e ≡ k + 1)
   applied_above h = some_weight (applied_in node) refl h
-
--- ---- the operation that the program finds
-
-pub one_found : (e : TExpr) (op : Unary) (n : TypedNode) (a p : TExpr) → Is e n → applied_in n ≡ Some (one op (typed_expr a)) → p ≡ a → Some (one op (typed_expr p)) ≡ applied_in (node_in (typed_expr e))
-one_found e op n a p is at same = ap (λ z. Some (one op (typed_expr z))) same ∙ sym at ∙ ap applied_in (sym (ap node_in is))
-
-pub two_found : (e : TExpr) (op : Binary) (n : TypedNode) (a b p q : TExpr) → Is e n → applied_in n ≡ Some (two op (typed_expr a) (typed_expr b)) → p ≡ a → q ≡ b → Some (two op (typed_expr p) (typed_expr q)) ≡ applied_in (node_in (typed_expr e))
-two_found e op n a b p q is at same same' =
-    ap (λ z. Some (two op (typed_expr z) (typed_expr q))) same ∙ ap (λ z. Some (two op (typed_expr a) (typed_expr z))) same' ∙ sym at ∙ ap applied_in (sym (ap node_in is))

@@ -1,10 +1,16 @@
 -- An operation on one or two parts does with their values what it is to do, whichever it is.
-use Rattle.ir_builder_expressions.proofs.Common.{◌≡◌, refl, sym, ap, ◌∙◌, subst, ℕ, false, [], ◌∷◌, Option, None, ℤ, Value, StrVal, TExpr, Sort, typed_expr, type_of, give, needs, joined, letter, length_of, has_text, text_of, type_at, Building, rtype_of, Shows, Attempts, ActsOnAll, ActsOn, ActsOnTwo, of_one, of_two, inverts, as_one, as_two, Unary, Binary, native_in, sort_by, part_sort, is_i64, literal_in, unary_goes, binary_goes, UnarySuits, BinarySuits, FindsTruth, Does, ends_of, ends_needed}
+use Rattle.ir_builder_expressions.proofs.Common.{◌≡◌, refl, sym, ap, ◌∙◌, subst, ℕ, false, [], ◌∷◌, Option, None, ℤ, Value, StrVal, TExpr, Sort, typed_expr, type_of, give, needs, joined, letter, length_of, has_text, text_of, type_at, Building, rtype_of, Shows, Attempts, ActsOnAll, ActsOn, ActsOnTwo, of_one, of_two, inverts, as_one, as_two, operands_of, result_of, goes, Unary, Binary, native_in, sort_by, part_sort, one_sort, two_sort, is_i64, literal_in, unary_goes, binary_goes, UnarySuits, BinarySuits, FindsTruth, Does, ends_of, ends_needed, boxed}
 use Rattle.py_typed.specs.Sorts as sort
 use Rattle.py_typed.specs.Sorts.{sort as sort_of}
 use Rattle.ir_core.specs.declared.code.RType.TheVariants as rtype
+use Rattle.source_meaning.specs.Operations.{append_item}
+use Rattle.ir_builder_operations.specs.Rows.{list_length, tuple_length}
+use Rattle.ir_builder_expressions.specs.Applying.{counting_of}
+use Rattle.ir_builder_expressions.specs.declared.applying.Sized.{Sized}
+use Rattle.ir_builder_expressions.specs.declared.applying.Sized.TheVariants as sized
 use Rattle.ir_builder_expressions.specs.declared.applying.Unary.TheVariants as unary
 use Rattle.ir_builder_expressions.specs.declared.applying.Binary.TheVariants as binary
+use Rattle.ir_builder_expressions.proofs.TakenLemmas.{object_acts, object_acts_first}
 
 -- ---- the type of a part
 
@@ -12,11 +18,15 @@ none_native : (t : Sort) (o : Option ℤ) → is_i64 t ≡ false → native_in t
 none_native sort.I64 o e = absurd (cc)
 none_native t o e = refl
 
--- where the operation is not on native integers it is the part's own
+-- where no native integers are asked for it is the part's own
 pub own_sort : (t u : Sort) (e : TExpr) → t ≡ u → is_i64 u ≡ false → part_sort t (typed_expr e) ≡ sort_of e.ty
 own_sort t u e is other =
     let o = literal_in (typed_expr e) in
     ap (λ z. sort_by z (type_of (typed_expr e))) (ap (λ z. native_in z o) is ∙ none_native u o other) ∙ type_at e
+
+-- and so it is where the type of a part is asked for that is not one of native integers
+own_sort_of : (u : Sort) (left e : TExpr) → sort_of left.ty ≡ u → is_i64 u ≡ false → part_sort (type_of (typed_expr left)) (typed_expr e) ≡ sort_of e.ty
+own_sort_of u left e is other = own_sort (type_of (typed_expr left)) u e (type_at left ∙ is) other
 
 -- ---- one part
 
@@ -33,41 +43,64 @@ written_attempts u b c r x a = record {
 
 module _ (t : Sort) (e : TExpr) (b c : Building) (r x : ℕ) where
   abbrev Applies : Unary → Type 0
-  Applies op = Attempts (Shows t) b c r (rtype_of t) (ActsOn (part_sort t (typed_expr e)) x (unary_goes op t))
+  Applies op = Attempts (Shows t) b c r (rtype_of t) (ActsOn (one_sort op t (typed_expr e)) x (unary_goes op t))
 
-  applies : (op : Unary) (t' u : Sort) → t ≡ t' → is_i64 t' ≡ false → sort_of e.ty ≡ u → Attempts (Shows t') b c r (rtype_of t') (ActsOn u x (unary_goes op t')) → Applies op
-  applies op t' u is other is_u a =
-      let P : Sort → Type 0 = λ z. Attempts (Shows z) b c r (rtype_of z) (ActsOn (part_sort t (typed_expr e)) x (unary_goes op z)) in
+  applies : (op : Unary) (t' u : Sort) → t ≡ t' → one_sort op t (typed_expr e) ≡ u → Attempts (Shows t') b c r (rtype_of t') (ActsOn u x (unary_goes op t')) → Applies op
+  applies op t' u is part a =
+      let P : Sort → Type 0 = λ z. Attempts (Shows z) b c r (rtype_of z) (ActsOn (one_sort op t (typed_expr e)) x (unary_goes op z)) in
       let Q : Sort → Type 0 = λ z. Attempts (Shows t') b c r (rtype_of t') (ActsOn z x (unary_goes op t')) in
-      subst P (sym is) (subst Q (sym (own_sort t t' e is other ∙ is_u)) a)
+      subst P (sym is) (subst Q (sym part) a)
 
   pub applies_inverted : UnarySuits unary.Inverted t (sort_of e.ty) → Attempts (Shows sort.Bool) b c r rtype.Bool (ActsOnAll (sort.Bool ∷ []) (record { 0 = x } ∷ []) (of_one inverts)) → Applies unary.Inverted
-  applies_inverted h a = applies unary.Inverted sort.Bool sort.Bool h.0 refl h.1 (as_one sort.Bool sort.Bool inverts b c r (record { 0 = x }) a)
+  applies_inverted h a = applies unary.Inverted sort.Bool sort.Bool h.0 (own_sort t sort.Bool e h.0 refl ∙ h.1) (as_one sort.Bool sort.Bool inverts b c r (record { 0 = x }) a)
 
   pub applies_tested : UnarySuits unary.Tested t (sort_of e.ty) → FindsTruth b c x r (sort_of e.ty) → Applies unary.Tested
-  applies_tested h tests = applies unary.Tested sort.Bool (sort_of e.ty) h.0 refl refl tests
+  applies_tested h tests = applies unary.Tested sort.Bool (sort_of e.ty) h.0 (own_sort t sort.Bool e h.0 refl) tests
 
-  pub applies_counted : UnarySuits unary.Counted t (sort_of e.ty) → Attempts (Shows sort.Int) b c r rtype.Int (ActsOnAll (sort.Str ∷ []) (record { 0 = x } ∷ []) (of_one length_of)) → Applies unary.Counted
-  applies_counted h a = applies unary.Counted sort.Int sort.Str h.0 refl h.1 (as_one sort.Str sort.Int length_of b c r (record { 0 = x }) a)
+  -- how many a text, a list or a tuple has
+  pub applies_counted : (z : Sized) → UnarySuits (unary.Counted z) t (sort_of e.ty) → Attempts (Shows (result_of (counting_of z))) b c r (rtype_of (result_of (counting_of z))) (ActsOnAll (operands_of (counting_of z)) (record { 0 = x } ∷ []) (goes (counting_of z))) → Applies (unary.Counted z)
+  applies_counted sized.Text h a = applies (unary.Counted sized.Text) sort.Int sort.Str h.0 (own_sort t sort.Int e h.0 refl ∙ h.1) (as_one sort.Str sort.Int length_of b c r (record { 0 = x }) a)
+  applies_counted sized.List h a =
+      let u = one_sort (unary.Counted sized.List) t (typed_expr e) in
+      applies (unary.Counted sized.List) sort.Int u h.0 refl (object_acts u (Shows sort.Int) b c r rtype.Int x list_length (as_one boxed sort.Int list_length b c r (record { 0 = x }) a))
+  applies_counted sized.Tuple h a =
+      let u = one_sort (unary.Counted sized.Tuple) t (typed_expr e) in
+      applies (unary.Counted sized.Tuple) sort.Int u h.0 refl (object_acts u (Shows sort.Int) b c r rtype.Int x tuple_length (as_one boxed sort.Int tuple_length b c r (record { 0 = x }) a))
 
   pub applies_written : UnarySuits unary.Written t (sort_of e.ty) → Attempts (Shows sort.Str) b c r rtype.Ref (ActsOn (sort_of e.ty) x (λ v. give (StrVal (text_of v)))) → Applies unary.Written
-  applies_written h a = applies unary.Written sort.Str (sort_of e.ty) h.0 refl refl (written_attempts (sort_of e.ty) b c r x a)
+  applies_written h a = applies unary.Written sort.Str (sort_of e.ty) h.0 (own_sort t sort.Str e h.0 refl) (written_attempts (sort_of e.ty) b c r x a)
+
+  -- what is done with any object is done with the part's value, whatever more is known of it
+  pub applies_object : (op : Unary) → Attempts (Shows t) b c r (rtype_of t) (ActsOn boxed x (unary_goes op t)) → Applies op
+  applies_object op a = object_acts (one_sort op t (typed_expr e)) (Shows t) b c r (rtype_of t) x (unary_goes op t) a
 
 -- ---- two parts
 
 module _ (t : Sort) (left right : TExpr) (b c : Building) (r x y : ℕ) where
   abbrev AppliesTwo : Binary → Type 0
-  AppliesTwo op = Attempts (Shows t) b c r (rtype_of t) (ActsOnTwo (part_sort t (typed_expr left)) (part_sort t (typed_expr right)) x y (binary_goes op t))
+  AppliesTwo op = Attempts (Shows t) b c r (rtype_of t) (ActsOnTwo (two_sort op t (typed_expr left) (typed_expr left)) (two_sort op t (typed_expr left) (typed_expr right)) x y (binary_goes op t))
 
-  applies_two : (op : Binary) (u w : Sort) → t ≡ sort.Str → sort_of left.ty ≡ u → sort_of right.ty ≡ w → Attempts (Shows sort.Str) b c r rtype.Ref (ActsOnTwo u w x y (binary_goes op sort.Str)) → AppliesTwo op
-  applies_two op u w is is_u is_w a =
-      let P : Sort → Type 0 = λ z. Attempts (Shows z) b c r (rtype_of z) (ActsOnTwo (part_sort t (typed_expr left)) (part_sort t (typed_expr right)) x y (binary_goes op z)) in
-      let Q : Sort → Type 0 = λ z. Attempts (Shows sort.Str) b c r rtype.Ref (ActsOnTwo z (part_sort t (typed_expr right)) x y (binary_goes op sort.Str)) in
-      let R : Sort → Type 0 = λ z. Attempts (Shows sort.Str) b c r rtype.Ref (ActsOnTwo u z x y (binary_goes op sort.Str)) in
-      subst P (sym is) (subst Q (sym (own_sort t sort.Str left is refl ∙ is_u)) (subst R (sym (own_sort t sort.Str right is refl ∙ is_w)) a))
+  applies_two : (op : Binary) (t' u w : Sort) → t ≡ t' → two_sort op t (typed_expr left) (typed_expr left) ≡ u → two_sort op t (typed_expr left) (typed_expr right) ≡ w → Attempts (Shows t') b c r (rtype_of t') (ActsOnTwo u w x y (binary_goes op t')) → AppliesTwo op
+  applies_two op t' u w is is_u is_w a =
+      let P : Sort → Type 0 = λ z. Attempts (Shows z) b c r (rtype_of z) (ActsOnTwo (two_sort op t (typed_expr left) (typed_expr left)) (two_sort op t (typed_expr left) (typed_expr right)) x y (binary_goes op z)) in
+      let Q : Sort → Type 0 = λ z. Attempts (Shows t') b c r (rtype_of t') (ActsOnTwo z (two_sort op t (typed_expr left) (typed_expr right)) x y (binary_goes op t')) in
+      let R : Sort → Type 0 = λ z. Attempts (Shows t') b c r (rtype_of t') (ActsOnTwo u z x y (binary_goes op t')) in
+      subst P (sym is) (subst Q (sym is_u) (subst R (sym is_w) a))
 
   pub applies_joined : BinarySuits binary.Joined t (sort_of left.ty) (sort_of right.ty) → Attempts (Shows sort.Str) b c r rtype.Ref (ActsOnAll (sort.Str ∷ sort.Str ∷ []) (record { 0 = x } ∷ record { 0 = y } ∷ []) (of_two joined)) → AppliesTwo binary.Joined
-  applies_joined h a = applies_two binary.Joined sort.Str sort.Str h.0 h.1 h.2 (as_two sort.Str sort.Str sort.Str joined b c r (record { 0 = x }) (record { 0 = y }) a)
+  applies_joined h a =
+      applies_two binary.Joined sort.Str sort.Str sort.Str h.0 (own_sort t sort.Str left h.0 refl ∙ h.1) (own_sort t sort.Str right h.0 refl ∙ h.2) (as_two sort.Str sort.Str sort.Str joined b c r (record { 0 = x }) (record { 0 = y }) a)
 
   pub applies_indexed : BinarySuits binary.Indexed t (sort_of left.ty) (sort_of right.ty) → Attempts (Shows sort.Str) b c r rtype.Ref (ActsOnAll (sort.Str ∷ sort.Int ∷ []) (record { 0 = x } ∷ record { 0 = y } ∷ []) (of_two letter)) → AppliesTwo binary.Indexed
-  applies_indexed h a = applies_two binary.Indexed sort.Str sort.Int h.0 h.1 h.2 (as_two sort.Str sort.Int sort.Str letter b c r (record { 0 = x }) (record { 0 = y }) a)
+  applies_indexed h a =
+      applies_two binary.Indexed sort.Str sort.Str sort.Int h.0 (own_sort t sort.Str left h.0 refl ∙ h.1) (own_sort t sort.Str right h.0 refl ∙ h.2) (as_two sort.Str sort.Int sort.Str letter b c r (record { 0 = x }) (record { 0 = y }) a)
+
+  pub applies_item : BinarySuits binary.Item t (sort_of left.ty) (sort_of right.ty) → Attempts (Shows t) b c r (rtype_of t) (ActsOnTwo boxed sort.Int x y (binary_goes binary.Item t)) → AppliesTwo binary.Item
+  applies_item h a =
+      let u = two_sort binary.Item t (typed_expr left) (typed_expr left) in
+      applies_two binary.Item t u sort.Int refl refl (own_sort_of (sort.ListOf t) left right h.0 refl ∙ h.1) (object_acts_first u sort.Int (Shows t) b c r (rtype_of t) x y (binary_goes binary.Item t) a)
+
+  pub applies_appended : BinarySuits binary.Appended t (sort_of left.ty) (sort_of right.ty) → Attempts (Shows sort.Nothing) b c r rtype.Ref (ActsOnTwo boxed (sort_of right.ty) x y append_item) → AppliesTwo binary.Appended
+  applies_appended h a =
+      let u = two_sort binary.Appended t (typed_expr left) (typed_expr left) in
+      applies_two binary.Appended sort.Nothing u (sort_of right.ty) h.0 refl (own_sort t sort.Nothing right h.0 refl) (object_acts_first u (sort_of right.ty) (Shows sort.Nothing) b c r rtype.Ref x y append_item a)

@@ -1,5 +1,5 @@
 -- What is asked of an expression is asked of its parts, and what its parts promise it promises.
-use Rattle.ir_builder_expressions.proofs.Common.{◌≡◌, sym, ◌∙◌, ap, subst, ℕ, Bool, List, map, Some, None, ℤ, Box, Global, CmpOp, TExpr, TKind, Sort, TypedExpr, TypedNode, typed, typed_expr, typed_node, exprs_of, comparisons_of, typed_comparison, TypedModule, Variable, typed_expr_of, typed_node-Bool, typed_node-Local, typed_node-Global, typed_expr-Compare, typed_node-And, typed_node-Or, typed_node-Cond, typed_node-Call, typed_node-Int, typed_node-Str, typed_node-Input, Building, Setting, Suits, NodeSuits, is_scalar, ChoiceSuits, Emits, looked_at, Shows, EmitsNode}
+use Rattle.ir_builder_expressions.proofs.Common.{◌≡◌, sym, ◌∙◌, ap, subst, ℕ, Bool, List, map, Some, None, ℤ, Box, Global, CmpOp, TExpr, TKind, Sort, TypedExpr, TypedNode, typed, typed_expr, typed_node, exprs_of, comparisons_of, typed_comparison, TypedModule, Variable, typed_expr_of, typed_node-Bool, typed_node-Local, typed_node-Global, typed_expr-Compare, typed_node-And, typed_node-Or, typed_node-Cond, typed_node-Call, typed_node-Int, typed_node-Str, typed_node-Input, typed_node-Nothing, typed_node-List, typed_node-Tuple, Building, Setting, Suits, NodeSuits, is_scalar, ChoiceSuits, Emits, looked_at, Shows, EmitsNode}
 use Rattle.py_typed.specs.declared.expression.TKind as kind
 use Rattle.py_typed.specs.Sorts.{sort as sort_of}
 use Rattle.py_typed.specs.Expressions as tree
@@ -45,6 +45,15 @@ is_int e n is = is_node e _ _ (typed_node-Int n) is
 pub is_text : (e : TExpr) (text : List ℕ) → e.kind ≡ kind.Str text → Is e (tree.Str text)
 is_text e text is = is_node e _ _ (typed_node-Str text) is
 
+pub is_nothing : (e : TExpr) → e.kind ≡ kind.Nothing → Is e tree.Nothing
+is_nothing e is = is_node e _ _ typed_node-Nothing is
+
+pub is_list : (e : TExpr) (es fs : List TExpr) → e.kind ≡ kind.List es → fs ≡ es → Is e (tree.ListOf (exprs_of (map typed_expr fs)))
+is_list e es fs is same = rw same (is_node e _ _ (typed_node-List es) is)
+
+pub is_tuple : (e : TExpr) (es fs : List TExpr) → e.kind ≡ kind.Tuple es → fs ≡ es → Is e (tree.TupleOf (exprs_of (map typed_expr fs)))
+is_tuple e es fs is same = rw same (is_node e _ _ (typed_node-Tuple es) is)
+
 pub is_input : (e : TExpr) → e.kind ≡ kind.Input → Is e tree.Input
 is_input e is = is_node e _ _ typed_node-Input is
 
@@ -67,7 +76,7 @@ module _ (m : TypedModule) (vs : List Variable) where
   pub cond_asked : (e : TExpr) (a test b : TypedExpr) → Is e (tree.Cond a test b) → Suits m vs (typed_expr e) → ChoiceSuits m vs (sort_of e.ty) test (Some a) (Some b)
   cond_asked e a test b is s =
       let h = asked e (tree.Cond a test b) is s in
-      record { tested = ap is_scalar h.2; test_suits = h.5; body_type = h.1; other_type = h.3; body_suits = h.4; other_suits = h.6 }
+      record { tested = ap is_scalar h.1; test_suits = h.4; body_type = h.0; other_type = h.2; body_suits = h.3; other_suits = h.5 }
 
 -- what it promises
 pub emits_as : (x : Setting) (e : TExpr) (n : TypedNode) (t : Sort) (b c : Building) (r : ℕ) → Is e n → sort_of e.ty ≡ t → Emits x (typed n t e.span) b c r → Emits x (typed_expr e) b c r

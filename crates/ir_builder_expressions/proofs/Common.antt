@@ -3,20 +3,20 @@ pub use Rattle.ir_builder_choices.proofs.ChoiceLemmas.{Beside, Told, any_from, c
 pub use Rattle.ir_builder_choices.specs.Choices.{Brings, Meets, Opens}
 pub use Rattle.ir_builder_choices.specs.Choosing.{Behind, ComputesFrom, HasValue, by_truth}
 pub use Rattle.ir_builder_comparisons.specs.Comparing.{Compares, FindsTruth, is_ordering, ordered}
-pub use Rattle.ir_builder_expressions.specs.Applying.{Applied, BinarySuits, UnarySuits, applied_in, arithmetic_of, binary_goes, negation_of, node_in, one, seen, two, unary_goes}
+pub use Rattle.ir_builder_expressions.specs.Applying.{Applied, BinarySuits, IsSized, UnarySuits, applied_in, arithmetic_of, binary_goes, index_of, negation_of, node_in, one, one_sort, seen, size_of, sized_of, two, two_sort, unary_goes, wanted_one, wanted_two}
 pub use Rattle.ir_builder_expressions.specs.Arms.{ArmSuits, ChoiceSuits, EmitsArm, EmitsChoice, arm_of, arm_sort, means_arm}
 pub use Rattle.ir_builder_expressions.specs.Comparing.{compared_in, holds_as, is_brought, is_shown_as, kind_sort}
 pub use Rattle.ir_builder_expressions.specs.Emitting.{Emits, EmitsAll, EmitsChain, EmitsOne, EmitsPart, EmitsSide, EmitsTwo, means_all, means_chain, EmitsNode}
 pub use Rattle.ir_builder_expressions.specs.Linking.{Begins, Ended, Linked, Met, Pending}
 pub use Rattle.ir_builder_expressions.specs.Literals.{literal_of_truth}
 pub use Rattle.ir_builder_expressions.specs.Parts.{fitting_in, is_i64, is_pair, is_scalar, is_text, literal_in, native_in, part_sort, sort_by}
-pub use Rattle.ir_builder_expressions.specs.Reading.{EmitsRead, TestsSet, reports_unbound}
+pub use Rattle.ir_builder_expressions.specs.Reading.{EmitsRead, ReadsLocal, Takes, TakesLocal, TestsSet, reports_unbound}
 pub use Rattle.ir_builder_expressions.specs.Site.{setting_of}
-pub use Rattle.ir_builder_expressions.specs.Suiting.{ArgumentsSuit, ComparisonsSuit, IsSimpleAt, NodeSuits, SomeSuit, Suits}
+pub use Rattle.ir_builder_expressions.specs.Suiting.{AllSuit, ArgumentsSuit, ComparisonsSuit, NodeSuits, ReadsAs, SomeSuit, Suits, count_of}
 pub use Rattle.ir_builder_expressions.specs.declared.applying.Binary.{Binary}
-pub use Rattle.ir_builder_expressions.specs.declared.applying.Binary.TheVariants.{Arithmetic, Indexed, Joined}
+pub use Rattle.ir_builder_expressions.specs.declared.applying.Binary.TheVariants.{Appended, Arithmetic, Indexed, Item, Joined}
 pub use Rattle.ir_builder_expressions.specs.declared.applying.Unary.{Unary}
-pub use Rattle.ir_builder_expressions.specs.declared.applying.Unary.TheVariants.{Coerced, Counted, Inverted, Negated, Tested, Written}
+pub use Rattle.ir_builder_expressions.specs.declared.applying.Unary.TheVariants.{Coerced, Counted, Inverted, Negated, Part, Popped, Tested, Written}
 pub use Rattle.ir_builder_expressions.specs.declared.chain.Link.{Link}
 pub use Rattle.ir_builder_expressions.specs.declared.comparing.Side.{Side}
 pub use Rattle.ir_builder_frames.proofs.AttemptLemmas.{both_attempt, failed_off}
@@ -38,7 +38,7 @@ pub use Rattle.ir_builder_frames.specs.Placing.{Has, HasType, Placed, or_other}
 pub use Rattle.ir_builder_frames.specs.Settings.{Setting, rtype_of}
 pub use Rattle.ir_builder_frames.specs.declared.frame.Vars.{Vars}
 pub use Rattle.ir_builder_operations.proofs.KindLemmas.{by_bool}
-pub use Rattle.ir_builder_operations.proofs.PartLemmas.{as_one, as_two, show_kept, stays}
+pub use Rattle.ir_builder_operations.proofs.PartLemmas.{as_one, as_two, show_kept, stays, stays_as}
 pub use Rattle.ir_builder_operations.proofs.ThenLemmas.{attempts_as, attempts_then, two_attempts}
 pub use Rattle.ir_builder_operations.specs.Operating.{Acts, ActsOn, ActsOnTwo, is_written}
 pub use Rattle.ir_builder_operations.specs.Selecting.{is_arithmetic, is_whole}
@@ -59,8 +59,8 @@ pub use Rattle.ir_core.specs.declared.code.Reg.{Reg}
 pub use Rattle.py_syntax.specs.declared.expression.BinOp.{BinOp}
 pub use Rattle.py_syntax.specs.declared.expression.CmpOp.{CmpOp}
 pub use Rattle.py_syntax.specs.declared.token.Span.{Span}
-pub use Rattle.py_typed.proofs.ExpressionLemmas.{type_at, typed_expr-Compare, typed_expr_of, typed_node-And, typed_node-Arith, typed_node-At, typed_node-Bool, typed_node-Call, typed_node-Coerce, typed_node-Concat, typed_node-Cond, typed_node-Global, typed_node-Input, typed_node-Int, typed_node-Len, typed_node-Local, typed_node-Neg, typed_node-Not, typed_node-Or, typed_node-Str, typed_node-ToStr, typed_node-Truth}
-pub use Rattle.py_typed.specs.Expressions.{And, Arith, At, Call, Coerce, Compare, Comparisons, Concat, Cond, Len, Local, Neg, Not, Or, ToStr, Truth, TypedExpr, TypedExprs, TypedNode, comparison_then, comparisons_of, expr_step, expr_then, exprs_of, no_comparisons, no_exprs, node_step, type_of, typed, typed_comparison, typed_expr, typed_node}
+pub use Rattle.py_typed.proofs.ExpressionLemmas.{type_at, typed_expr-Compare, typed_expr_of, typed_node-And, typed_node-Append, typed_node-Arith, typed_node-At, typed_node-Bool, typed_node-Call, typed_node-Coerce, typed_node-Concat, typed_node-Cond, typed_node-Global, typed_node-Input, typed_node-Int, typed_node-Len, typed_node-List, typed_node-Local, typed_node-Neg, typed_node-Not, typed_node-Nothing, typed_node-Or, typed_node-Pop, typed_node-Str, typed_node-ToStr, typed_node-Truth, typed_node-Tuple, typed_node-TupleAt}
+pub use Rattle.py_typed.specs.Expressions.{And, Append, Arith, At, Call, Coerce, Compare, Comparisons, Concat, Cond, Len, ListOf, Local, Neg, Not, Or, Pop, ToStr, Truth, TupleAt, TupleOf, TypedExpr, TypedExprs, TypedNode, comparison_then, comparisons_of, expr_step, expr_then, exprs_of, no_comparisons, no_exprs, node_step, type_of, typed, typed_comparison, typed_expr, typed_node}
 pub use Rattle.py_typed.specs.Fits.{is_number}
 pub use Rattle.py_typed.specs.Sorts.{Sort, sort}
 pub use Rattle.py_typed.specs.Statements.{TypedFunc, TypedModule, Variable, typed_module, variable}
@@ -72,7 +72,7 @@ pub use Rattle.source_meaning.specs.Operations.{are_alike, arithmetic, coerced, 
 pub use Rattle.source_meaning.specs.State.{Does, Gives, Outcome, Raises, State, Stops, give, look, needs, on_to, raise_new, ◌>>=◌}
 pub use Rattle.std.proofs.Common.{Bool, IfOk, List, None, Option, Some, [], add-one, ap, arith, drop, false, get_or, inl, inr, le_refl, length, map, refl, rules, subst, suc, sym, take, true, zero, ℕ, ◌*◌, ◌++◌, ◌+◌, ◌-◌, ◌<◌, ◌∙◌, ◌∷◌, ◌≡◌, ◌≤◌, ◌⊎◌}
 pub use Rattle.std.proofs.lemmas.Bool.Decides.{nat_tests}
-pub use Rattle.std.proofs.lemmas.List.{drop_all, drop_more, length-map, map_push, take_all}
+pub use Rattle.std.proofs.lemmas.List.{drop_all, drop_more, length-append, length-map, map_push, take_all}
 pub use Rattle.std.specs.Borrow.{Bor}
 pub use Rattle.std.specs.Int.{w128}
 pub use Rattle.std.specs.Option.{option_and_then, option_map}
@@ -82,3 +82,4 @@ pub use Rattle.std.specs.declared.boxed.Box.{Box}
 pub use Rattle.value_core.specs.Arithmetic.{lies_within}
 pub use Rattle.value_core.specs.Value.{BoolVal, IntVal, StrVal, Value}
 pub use Rattle.value_core.specs.declared.exception.ExcClass.TheVariants.{UnboundLocalError}
+pub use Rattle.ir_builder_operations.specs.Boxes.{boxed, objects, is_of, taken_as}

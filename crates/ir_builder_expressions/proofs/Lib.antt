@@ -6,12 +6,15 @@ pub mod NumberLemmas
 pub mod PieceLemmas
 pub mod PairLemmas
 pub mod SideLemmas
+pub mod TakenLemmas
 pub mod ApplyLemmas
 pub mod LinkLemmas
 pub mod ChosenLemmas
+pub mod LookedLemmas
 pub mod ReadingLemmas
 pub mod ChainLemmas
 pub mod GoingLemmas
+pub mod FoundLemmas
 pub mod UnsuitedLemmas
 pub mod WeightLemmas
 pub mod AppliedLemmas

@@ -88,6 +88,8 @@ applied_parts (tree.Compare e more) o is = let f : None ≡ Some o = is in absur
 applied_parts (tree.And a b) o is = let f : None ≡ Some o = is in absurd (cc)
 applied_parts (tree.Or a b) o is = let f : None ≡ Some o = is in absurd (cc)
 applied_parts (tree.Cond a test b) o is = let f : None ≡ Some o = is in absurd (cc)
+applied_parts (tree.ListOf es) o is = let f : None ≡ Some o = is in absurd (cc)
+applied_parts (tree.TupleOf es) o is = let f : None ≡ Some o = is in absurd (cc)
 applied_parts (tree.Call g es) o is = let f : None ≡ Some o = is in absurd (cc)
 applied_parts (tree.Print es) o is = let f : None ≡ Some o = is in absurd (cc)
 applied_parts n o is = ap parts_applied is
@@ -107,7 +109,7 @@ rest_start x l es b = record { make = λ c h. h }
 rest_next : (x : Setting) (l : ℕ) (whole es : List TypedExpr) (e : TypedExpr) (start b c d : Building) → LinedRest x l whole (e ∷ es) start b → Around l b c → IsCodeOf x e c d → Lined x e c d → LinedRest x l whole es start d
 rest_next x l whole es e start b c d g p code one = record { make = λ f h. g.make f (part p code one h) }
 
-rest_own : (x : Setting) (l : ℕ) (whole es : List TypedExpr) (start b c : Building) → LinedRest x l whole es start b → Around l b c → LinedRest x l whole es start c
+pub rest_own : (x : Setting) (l : ℕ) (whole es : List TypedExpr) (start b c : Building) → LinedRest x l whole es start b → Around l b c → LinedRest x l whole es start c
 rest_own x l whole es start b c g p = record { make = λ f h. g.make f (lined_behind p h) }
 
 abbrev pub listed_of : List TExpr → List TypedExpr

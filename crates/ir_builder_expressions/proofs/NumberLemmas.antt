@@ -1,5 +1,6 @@
 -- Parts that are brought to a type of numbers, and what operators make of them there.
 use Rattle.ir_builder_expressions.proofs.Common.{◌≡◌, refl, sym, ap, ◌∙◌, subst, ℕ, true, false, [], ◌∷◌, Option, Some, None, ℤ, Value, BinOp, is_number, Sort, TypedExpr, type_of, State, Does, on_to, coerced, with_number, of_numbers, arithmetic, negated_as, negated, Reg, Declared, type_of_reg, Building, rtype_of, HasType, HasKind, Shows, HaveTypes, Attempts, ActsOnAll, type_below, is_arithmetic, is_whole, ActsOn, ActsOnTwo, is_known, operands_of, result_of, goes, arithmetic_of, negation_of, stays, as_one, as_two, attempts_as, attempts_then, two_attempts, native_in, sort_by, part_sort, literal_in}
+use borrow.Author.Tests.{clash}
 use Rattle.py_typed.specs.Sorts as sort
 use Rattle.ir_core.specs.declared.code.RType.TheVariants as rtype
 use Rattle.ir_builder_operations.proofs.CoercionLemmas.{kept_as}
@@ -7,7 +8,7 @@ use Rattle.ir_builder_operations.proofs.CoercionLemmas.{kept_as}
 pub whole_numeric : (t : Sort) → is_whole t ≡ true → is_number t ≡ true
 whole_numeric sort.Int e = refl
 whole_numeric sort.I64 e = refl
-whole_numeric t e = let f : false ≡ true = e in absurd (cc)
+whole_numeric t e = absurd (clash e)
 
 -- a native number is asked for only where the operation is on native integers
 pub native_only : (t : Sort) (o : Option ℤ) (n : ℤ) → native_in t o ≡ Some n → sort.I64 ≡ t
@@ -30,22 +31,22 @@ native_stays t e n b x is type =
 pub arithmetic_ready : (t : Sort) (op : BinOp) (regs : Declared) (x y : Reg) → is_whole t ≡ true → is_arithmetic op ≡ true → type_of_reg regs x ≡ Some (rtype_of t) → type_of_reg regs y ≡ Some (rtype_of t) → (is_known (arithmetic_of t op) ≡ true) × HaveTypes regs (operands_of (arithmetic_of t op)) (x ∷ y ∷ [])
 arithmetic_ready sort.Int op regs x y e o k l = (o, (k, (l, tt)))
 arithmetic_ready sort.I64 op regs x y e o k l = (o, (k, (l, tt)))
-arithmetic_ready t op regs x y e o k l = let g : false ≡ true = e in absurd (cc)
+arithmetic_ready t op regs x y e o k l = absurd (clash e)
 
 pub arithmetic_attempts : (t : Sort) (op : BinOp) (b c : Building) (r : ℕ) (x y : Reg) → is_whole t ≡ true → Attempts (Shows (result_of (arithmetic_of t op))) b c r (rtype_of (result_of (arithmetic_of t op))) (ActsOnAll (operands_of (arithmetic_of t op)) (x ∷ y ∷ []) (goes (arithmetic_of t op))) → Attempts (Shows t) b c r (rtype_of t) (ActsOnTwo t t x.0 y.0 (arithmetic t op))
 arithmetic_attempts sort.Int op b c r x y e a = as_two sort.Int sort.Int sort.Int (arithmetic sort.Int op) b c r x y a
 arithmetic_attempts sort.I64 op b c r x y e a = as_two sort.I64 sort.I64 sort.I64 (arithmetic sort.I64 op) b c r x y a
-arithmetic_attempts t op b c r x y e a = let g : false ≡ true = e in absurd (cc)
+arithmetic_attempts t op b c r x y e a = absurd (clash e)
 
 pub negation_ready : (t : Sort) (regs : Declared) (x : Reg) → is_whole t ≡ true → type_of_reg regs x ≡ Some (rtype_of t) → (is_known (negation_of t) ≡ true) × HaveTypes regs (operands_of (negation_of t)) (x ∷ [])
 negation_ready sort.Int regs x e k = (refl, (k, tt))
 negation_ready sort.I64 regs x e k = (refl, (k, tt))
-negation_ready t regs x e k = let g : false ≡ true = e in absurd (cc)
+negation_ready t regs x e k = absurd (clash e)
 
 pub negation_attempts : (t : Sort) (b c : Building) (r : ℕ) (x : Reg) → is_whole t ≡ true → Attempts (Shows (result_of (negation_of t))) b c r (rtype_of (result_of (negation_of t))) (ActsOnAll (operands_of (negation_of t)) (x ∷ []) (goes (negation_of t))) → Attempts (Shows t) b c r (rtype_of t) (ActsOn t x.0 (negated t))
 negation_attempts sort.Int b c r x e a = as_one sort.Int sort.Int (negated sort.Int) b c r x a
 negation_attempts sort.I64 b c r x e a = as_one sort.I64 sort.I64 (negated sort.I64) b c r x a
-negation_attempts t b c r x e a = let g : false ≡ true = e in absurd (cc)
+negation_attempts t b c r x e a = absurd (clash e)
 
 -- ---- the other sign
 

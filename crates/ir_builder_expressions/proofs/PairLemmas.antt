@@ -1,6 +1,7 @@
 -- Two operands are compared as the source compares them.
 use Rattle.ir_builder_expressions.proofs.Common.{◌≡◌, refl, sym, ap, ◌∙◌, subst, ℕ, Bool, true, false, ℤ, pos, not, if◌then◌else◌, Value, IntVal, BoolVal, CmpOp, is_number, Sort, State, Outcome, Gives, Raises, Stops, Does, ◌>>=◌, on_to, give, needs, coerced, are_alike, is_equal, is_less, compared_as, compared, holds, Building, rtype_of, HasType, HasKind, Shows, Attempts, type_below, is_whole, ActsOn, ActsOnTwo, compared_sort, compares, by_bool, stays, attempts_as, two_attempts, is_ordering, ordered, Compares, is_text, is_pair, is_shown_as, compared_in, is_brought, holds_as}
 use Rattle.py_syntax.specs.declared.expression.CmpOp.TheVariants as cmp
+use borrow.Author.Tests.{clash}
 use Rattle.py_typed.specs.Sorts as sort
 use Rattle.ir_core.specs.declared.code.RType.TheVariants as rtype
 use Rattle.ir_builder_operations.specs.declared.operation.Compared.{Compared}
@@ -28,7 +29,7 @@ holds_is cmp.Lt s t v w st e = refl
 holds_is cmp.Le s t v w st e = refl
 holds_is cmp.Gt s t v w st e = refl
 holds_is cmp.Ge s t v w st e = refl
-holds_is op s t v w st e = let f : false ≡ true = e in absurd (cc)
+holds_is op s t v w st e = absurd (clash e)
 
 split : (op : CmpOp) (s t : Sort) (v w : Value) (st : State) → is_ordering op ≡ true → holds_as op s t v w st ≡ Brought (compared_as s t) op v w st
 split op s t v w st ordering =
@@ -78,11 +79,11 @@ shown_number s u e f = absurd (cc)
 
 shown_bool : (u : Sort) (v : Value) → is_shown_as sort.Bool u ≡ true → HasKind u v → HasKind sort.Bool v
 shown_bool sort.Bool v f k = k
-shown_bool u v f k = absurd (cc)
+shown_bool u v f k = absurd (clash f)
 
 shown_text : (u : Sort) → is_shown_as sort.Str u ≡ true → is_text u ≡ true
 shown_text sort.Str f = refl
-shown_text u f = absurd (cc)
+shown_text u f = absurd (clash f)
 
 -- what two operands are that are compared
 by_pair : (P : Sort → Sort → Type 0) → P sort.Int sort.Int → P sort.Int sort.I64 → P sort.Int sort.Bool → P sort.I64 sort.Int → P sort.I64 sort.I64 → P sort.I64 sort.Bool → P sort.Bool sort.Int → P sort.Bool sort.I64 → P sort.Bool sort.Bool → P sort.Str sort.Str → (s t : Sort) → is_pair s t ≡ true → P s t
@@ -96,7 +97,7 @@ by_pair P a b c d e f g h i j sort.Bool sort.Int is = g
 by_pair P a b c d e f g h i j sort.Bool sort.I64 is = h
 by_pair P a b c d e f g h i j sort.Bool sort.Bool is = i
 by_pair P a b c d e f g h i j sort.Str sort.Str is = j
-by_pair P a b c d e f g h i j s t is = absurd (cc)
+by_pair P a b c d e f g h i j s t is = absurd (clash is)
 
 abbrev AreBrought : Sort → Sort → Type 0
 AreBrought s t = (u w : Sort) → is_shown_as s u ≡ true → is_shown_as t w ≡ true → (is_brought (compared_in (compared_as s t)) u ≡ true) × (is_brought (compared_in (compared_as s t)) w ≡ true)
@@ -121,7 +122,7 @@ are_compared op o =
 
 is_str : (s : Sort) → is_text s ≡ true → sort.Str ≡ s
 is_str sort.Str e = refl
-is_str s e = let f : false ≡ true = e in absurd (cc)
+is_str s e = absurd (clash e)
 
 abbrev Brings : Compared → Sort → Building → Building → ℕ → ℕ → Type 0
 Brings c s b0 b1 r x = Attempts (Shows (compared_sort c)) b0 b1 r (rtype_of (compared_sort c)) (ActsOn s x (coerced (compared_sort c)))

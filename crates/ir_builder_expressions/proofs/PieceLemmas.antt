@@ -1,10 +1,8 @@
 -- The code of literals, of a part of an operation, and of an operation on its parts.
-use Rattle.ir_builder_expressions.proofs.Common.{◌≡◌, refl, sym, ap, subst, ℕ, arith, Bool, true, false, Option, Some, None, nat_tests, ℤ, pos, negsuc, FitsSigned, if◌then◌else◌, w128, lies_within, IntVal, Span, Sort, TypedExpr, typed, type_of, on_to, State, Number, Lit, Holds, Building, Setting, rtype_of, Adds, HasRoom, means, Shows, Computes, Attempts, literal_makes, computes_of, made_computes, both_attempt, ActsOn, ActsOnTwo, Unary, Binary, fitting_in, native_in, sort_by, part_sort, literal_in, unary_goes, binary_goes, Emits, EmitsPart, EmitsOne, EmitsTwo, Meaning, give, watch, watched, Value, means_node, EmitsNode}
+use Rattle.ir_builder_expressions.proofs.Common.{◌≡◌, refl, sym, ap, subst, ℕ, arith, Bool, true, false, Option, Some, None, nat_tests, ℤ, pos, negsuc, FitsSigned, if◌then◌else◌, w128, lies_within, IntVal, Span, Sort, TypedExpr, typed, type_of, State, Number, Lit, Holds, Building, Setting, rtype_of, Adds, HasRoom, means, Shows, Computes, Attempts, literal_makes, computes_of, made_computes, both_attempt, ActsOn, ActsOnTwo, Unary, Binary, fitting_in, native_in, sort_by, part_sort, literal_in, unary_goes, binary_goes, Emits, EmitsPart, EmitsOne, EmitsTwo, Meaning, give, watch, watched, Value}
 use Rattle.py_typed.specs.Sorts as sort
 use Rattle.py_typed.specs.Expressions as tree
-use Rattle.source_meaning.specs.Operations.{item_at}
 use Rattle.ir_core.specs.declared.code.RType.TheVariants as rtype
-use Rattle.ir_builder_expressions.specs.declared.applying.Binary.TheVariants as binary
 use Rattle.ir_builder_expressions.proofs.FollowLemmas.{part_attempts}
 
 -- ---- literals
@@ -53,20 +51,18 @@ own_part x t e b c r is q =
     let P : Sort → Type 0 = λ u. Computes x (Shows u) (rtype_of u) (means x e) b c r in
     subst P part q
 
+-- the code of a part by what is wanted of it
+pub wanted_part : (x : Setting) (w u : Sort) (e : TypedExpr) (b c : Building) (r : ℕ) → w ≡ u → EmitsPart x w e b c r → EmitsPart x u e b c r
+wanted_part x w u e b c r is q = subst (λ z. EmitsPart x z e b c r) is q
+
 -- ---- an operation on parts
 
-pub one_emits : (x : Setting) (op : Unary) (t : Sort) (e : TypedExpr) (b0 b1 b2 : Building) (q r : ℕ) → HasRoom x b0 → EmitsPart x t e b0 b1 q → Attempts (Shows t) b1 b2 r (rtype_of t) (ActsOn (part_sort t e) q (unary_goes op t)) → EmitsOne x op t e b0 b2 r
-one_emits x op t e b0 b1 b2 q r room c made =
-    part_attempts x (Shows (part_sort t e)) (Shows t) (rtype_of (part_sort t e)) (rtype_of t) (means x e) (unary_goes op t) (ActsOn (part_sort t e) q (unary_goes op t)) b0 b1 b2 q r room c made
+pub one_emits : (x : Setting) (op : Unary) (u t : Sort) (e : TypedExpr) (b0 b1 b2 : Building) (q r : ℕ) → HasRoom x b0 → EmitsPart x u e b0 b1 q → Attempts (Shows t) b1 b2 r (rtype_of t) (ActsOn (part_sort u e) q (unary_goes op t)) → EmitsOne x op t e b0 b2 r
+one_emits x op u t e b0 b1 b2 q r room c made =
+    part_attempts x (Shows (part_sort u e)) (Shows t) (rtype_of (part_sort u e)) (rtype_of t) (means x e) (unary_goes op t) (ActsOn (part_sort u e) q (unary_goes op t)) b0 b1 b2 q r room c made
     (λ v s regs k. record { v = v; shows = k; does = refl })
 
-pub two_emit : (x : Setting) (op : Binary) (t : Sort) (a b : TypedExpr) (b0 b1 b2 b3 : Building) (q q' r : ℕ) → HasRoom x b0 → EmitsPart x t a b0 b1 q → EmitsPart x t b b1 b2 q' → Attempts (Shows t) b2 b3 r (rtype_of t) (ActsOnTwo (part_sort t a) (part_sort t b) q q' (binary_goes op t)) → EmitsTwo x op t a b b0 b3 r
-two_emit x op t a b b0 b1 b2 b3 q q' r room c d made =
-    both_attempt x (Shows (part_sort t a)) (Shows (part_sort t b)) (Shows t) (rtype_of (part_sort t a)) (rtype_of (part_sort t b)) (rtype_of t) (means x a) (means x b) (binary_goes op t) (ActsOnTwo (part_sort t a) (part_sort t b) q q' (binary_goes op t)) b0 b1 b2 b3 q q' r room c d made
+pub two_emit : (x : Setting) (op : Binary) (u t : Sort) (a b : TypedExpr) (b0 b1 b2 b3 : Building) (q q' r : ℕ) → HasRoom x b0 → EmitsPart x u a b0 b1 q → EmitsPart x u b b1 b2 q' → Attempts (Shows t) b2 b3 r (rtype_of t) (ActsOnTwo (part_sort u a) (part_sort u b) q q' (binary_goes op t)) → EmitsTwo x op t a b b0 b3 r
+two_emit x op u t a b b0 b1 b2 b3 q q' r room c d made =
+    both_attempt x (Shows (part_sort u a)) (Shows (part_sort u b)) (Shows t) (rtype_of (part_sort u a)) (rtype_of (part_sort u b)) (rtype_of t) (means x a) (means x b) (binary_goes op t) (ActsOnTwo (part_sort u a) (part_sort u b) q q' (binary_goes op t)) b0 b1 b2 b3 q q' r room c d made
     (λ v w s regs k l. record { v = v; left = k; w = w; right = l; does = refl })
-
--- a letter of a text
-pub item_emits : (x : Setting) (a b : TypedExpr) (t : Sort) (b0 b1 : Building) (r : ℕ) → type_of a ≡ sort.Str → EmitsTwo x binary.Indexed t a b b0 b1 r → EmitsNode x (tree.At a b) t b0 b1 r
-item_emits x a b t b0 b1 r is q =
-    computes_of x (Shows t) (rtype_of t) (λ n s. on_to (means x a n s) (λ v s1. on_to (means x b n s1) (binary_goes binary.Indexed t v))) (means_node x (tree.At a b) t) b0 b1 r
-    (λ n s. ap (λ u. on_to (means x a n s) (λ v s1. on_to (means x b n s1) (item_at u v))) is) q

@@ -1,5 +1,5 @@
 -- Reading a variable that may be unset, of the function or of the module.
-use Rattle.ir_builder_expressions.proofs.Common.{◌≡◌, ℕ, zero, suc, ◌<◌, ◌≤◌, ◌++◌, true, false, List, [], ◌∷◌, length, Option, Some, None, refl, sym, ap, ◌∙◌, subst, arith, le_refl, slice_get, pos, nat_lt, if◌then◌else◌, codes, nat_tests, length-map, Value, BoolVal, UnboundLocalError, Span, Sort, sort, State, Gives, Raises, raise_new, Var, Variable, variable, typed, Local, name_at, value_in, read_global, Lit, Prim, PArg, RType, Number, Program, Held, Unset, Holds, Regs, is_error, Building, with_last, held, Extends, Waiting, Strict, away, item_at, handler_at, registers_of, step, op_step, goto_step, error_step, Vars, Adds, Pushes, Closes, Patches, Setting, rtype_of, HasType, Has, Placed, or_other, world, running, Leads, Ends, Arrives, Computes, IsAmong, Surrounding, ReadsGlobal, flag_of, flag_in, Matches, HasRoom, IsThrown, leads_refl, leads_step, leads_trans, ends_of, ends_lead, extends_refl, extends_trans, get_below, has_less, type_kept, type_has, pushes_has, adds_has, placed_part, guard_at, thrown_at, Emits, IsSimpleAt, reports_unbound, TestsSet, EmitsRead, means_node, looked_at, Itself}
+use Rattle.ir_builder_expressions.proofs.Common.{◌≡◌, ℕ, zero, suc, ◌<◌, ◌≤◌, ◌++◌, true, false, List, [], ◌∷◌, length, Option, Some, None, refl, sym, ap, ◌∙◌, subst, arith, le_refl, slice_get, pos, nat_lt, if◌then◌else◌, codes, nat_tests, Value, BoolVal, UnboundLocalError, Sort, sort as sort_of, State, Gives, Raises, raise_new, Var, Variable, variable, Local, name_at, value_in, read_global, Lit, Prim, PArg, RType, Number, Program, Held, Unset, Holds, Regs, is_error, Building, with_last, held, Extends, Waiting, Strict, away, item_at, handler_at, registers_of, step, op_step, goto_step, error_step, Vars, Adds, Pushes, Closes, Patches, Setting, rtype_of, HasType, Has, Placed, or_other, world, running, Leads, Ends, Arrives, Computes, IsAmong, Surrounding, ReadsGlobal, flag_of, flag_in, Matches, HasRoom, IsThrown, leads_refl, leads_step, leads_trans, ends_of, ends_lead, extends_refl, extends_trans, has_less, type_kept, type_has, pushes_has, adds_has, placed_part, guard_at, thrown_at, reports_unbound, TestsSet, EmitsRead, Takes, TakesLocal, ReadsAs, taken_as, boxed, Reg, Shows, Attempts, ActsOn, attempts_as, stays_as, inl, inr, means_node, Itself}
 use Rattle.std.proofs.lemmas.Option.{slice_get-get_or}
 use Rattle.std.specs.Prelude.{get_or, map}
 use Rattle.c_core.specs.declared.primitive.Primitive.TheVariants as prim
@@ -16,6 +16,10 @@ use Rattle.ir_builder_frames.specs.Settings.{setting}
 use Rattle.ir_builder_frames.specs.Sound.{MayPatch}
 use Rattle.ir_builder_frames.specs.Matching.{Keeps}
 use Rattle.ir_builder_frames.proofs.PatchLemmas.{patches}
+use Rattle.py_typed.specs.Sorts as sort
+use Rattle.ir_builder_operations.specs.Converting.{is_optional}
+use Rattle.ir_builder_operations.proofs.BoxLemmas.{taken_itself}
+use Rattle.ir_builder_expressions.proofs.FollowLemmas.{part_attempts}
 use Rattle.ir_builder_frames.proofs.GlobalLemmas.{get_map, global_computes, global_there}
 
 -- ---- the test
@@ -119,7 +123,7 @@ set_flag f regs j lt = let e : nat_lt j f.params ≡ true = grind (arith, nat_te
 other_flag : (f : Vars) (regs : Regs) (j : ℕ) → f.params ≤ j → flag_in f regs j ≡ regs (flag_of f j)
 other_flag f regs j le = let e : nat_lt j f.params ≡ false = grind (arith, nat_tests) in ap (λ b. if b then Holds (BoolVal true) else regs (flag_of f j)) e
 
-module _ (x : Setting) (i : ℕ) (w : Variable) (t : Sort) (place : Span) (b c : Building) (at : slice_get x.variables i ≡ Some w) (is : w.1 ≡ t) (tests : TestsSet b c (λ now. flag_in x.frame.locals now i) w.0) (p : Program) (fn : ℕ) (h : Option ℕ) (placed : Placed p fn b c h) (n : ℕ) (regs : Regs) (below : List Waiting) (s : State) (match : Matches x regs s) where
+module _ (x : Setting) (i : ℕ) (w : Variable) (t : Sort) (b c : Building) (at : slice_get x.variables i ≡ Some w) (tests : TestsSet b c (λ now. flag_in x.frame.locals now i) w.0) (p : Program) (fn : ℕ) (h : Option ℕ) (placed : Placed p fn b c h) (n : ℕ) (regs : Regs) (below : List Waiting) (s : State) (match : Matches x regs s) where
   abbrev Good : Value → State → Rattle.ir_core.specs.Meaning.Config → Type 0
   Good = Arrives Itself fn (length c.blocks) (length c.ops) below (length b.regs) regs s i
 
@@ -139,11 +143,11 @@ module _ (x : Setting) (i : ℕ) (w : Variable) (t : Sort) (place : Span) (b c :
       ends_of p s.turns _ _ _ Good Bad gives
       (ends_lead p v s _ _ Good Bad (tests.set p fn placed.has regs below s (BoolVal true) k.1) record { now = regs; is = refl; shows = k.0; kept = λ j lt. refl; same = refl })
 
-variable_emits : (x : Setting) (i : ℕ) (w : Variable) (t : Sort) (place : Span) (b c : Building) → slice_get x.variables i ≡ Some w → w.1 ≡ t → HasRoom x b → TestsSet b c (λ now. flag_in x.frame.locals now i) w.0 → Emits x (typed (Local i) t place) b c i
-variable_emits x i w t place b c at is room tests = looked_at x Itself (Local i) t place b c i (λ v h kind k. k) record {
+variable_emits : (x : Setting) (i : ℕ) (w : Variable) (t : Sort) (b c : Building) → slice_get x.variables i ≡ Some w → HasRoom x b → TestsSet b c (λ now. flag_in x.frame.locals now i) w.0 → Computes x Itself (rtype_of w.1) (means_node x (Local i) t) b c i
+variable_emits x i w t b c at room tests = record {
   extends = tests.extends;
-  type = type_kept b c i (rtype_of t) tests.extends (subst (λ z. HasType b i (rtype_of z)) is (room.declared i w at));
-  runs = λ p fn h placed n calls regs below s match le. let m = match.each i w at in reads x i w t place b c at is tests p fn h placed n regs below s match m.0 m.1 m.2;
+  type = type_kept b c i (rtype_of w.1) tests.extends (room.declared i w at);
+  runs = λ p fn h placed n calls regs below s match le. let m = match.each i w at in reads x i w t b c at tests p fn h placed n regs below s match m.0 m.1 m.2;
 }
 
 -- ---- of a declared variable
@@ -152,42 +156,64 @@ get_there : {A : Type 0} (xs : List A) (i : ℕ) (d x : A) → i < length xs →
 get_there xs i d x lt e = slice_get-get_or xs i d lt ∙ ap Some (sym e)
 
 -- a parameter needs no code
-pub parameter_read : (x : Setting) (i : ℕ) (b : Building) → i < x.frame.locals.params → HasRoom x b → EmitsRead x (Local i) b b i
-parameter_read x i b low room t place suits = variable_emits x i suits.1 t place b b suits.2 suits.3 room record {
+pub parameter_read : (x : Setting) (i : ℕ) (b : Building) → i < x.frame.locals.params → HasRoom x b → EmitsRead x x.variables i (Local i) b b i
+parameter_read x i b low room v t at = variable_emits x i v t b b at room record {
   extends = extends_refl b;
   set = λ p fn has regs below s v is. leads_refl p _;
   unset = λ p fn h placed regs below s is. let f : Holds (BoolVal true) ≡ Unset = sym (set_flag x.frame.locals regs i low) ∙ is in absurd (cc);
 }
 
-pub variable_read : (m : Checked) (vs : List Var) (frame : Frame) (i : ℕ) (v : Var) (b c : Building) (flag : ℕ) (name : List ℕ) → i < length vs → v ≡ get_or vs i v → frame.locals.params ≤ i → flag ≡ flag_of frame.locals i → name ≡ v.name → HasRoom (setting m vs frame) b → TestsSet b c (λ now. now flag) name → EmitsRead (setting m vs frame) (Local i) b c i
-variable_read m vs frame i v b c flag name lt e other flag_is name_is room tests t place suits =
+pub variable_read : (m : Checked) (vs : List Var) (frame : Frame) (i : ℕ) (v : Var) (b c : Building) (flag : ℕ) (name : List ℕ) → i < length vs → v ≡ get_or vs i v → frame.locals.params ≤ i → flag ≡ flag_of frame.locals i → name ≡ v.name → HasRoom (setting m vs frame) b → TestsSet b c (λ now. now flag) name → EmitsRead (setting m vs frame) (map variable vs) i (Local i) b c i
+variable_read m vs frame i v b c flag name lt e other flag_is name_is room tests w t there =
     let at : slice_get (map variable vs) i ≡ Some (variable v) = get_map variable vs i v (get_there vs i v v lt e) in
-    let same : suits.1 ≡ variable v = (let z : Some suits.1 ≡ Some (variable v) = sym suits.2 ∙ at in cc) in
-    let name_at_is : name ≡ suits.1.0 = name_is ∙ sym (ap (λ (z : Variable). z.0) same) in
+    let same : w ≡ variable v = (let z : Some w ≡ Some (variable v) = sym there ∙ at in cc) in
+    let name_at_is : name ≡ w.0 = name_is ∙ sym (ap (λ (z : Variable). z.0) same) in
     let flags : (λ (now : Regs). now flag) ≡ (λ now. flag_in frame.locals now i) = λ k now. (ap now flag_is ∙ sym (other_flag frame.locals now i other)) k in
-    variable_emits (setting m vs frame) i suits.1 t place b c suits.2 suits.3 room (subst (λ z. TestsSet b c z suits.1.0) flags (subst (λ z. TestsSet b c (λ now. now flag) z) name_at_is tests))
+    variable_emits (setting m vs frame) i w t b c there room (subst (λ z. TestsSet b c z w.0) flags (subst (λ z. TestsSet b c (λ now. now flag) z) name_at_is tests))
+
+-- a value that is taken as one of another type
+pub taken_boxed : (t : Sort) (b c : Building) (r : ℕ) (x : Reg) → Attempts (Shows t) b c r (rtype_of t) (ActsOn boxed x.0 (taken_as t)) → Attempts (Shows t) b c r (rtype_of t) (Takes t x.0)
+taken_boxed t b c r x a = attempts_as (Shows t) b c r (rtype_of t) (ActsOn boxed x.0 (taken_as t)) (Takes t x.0) (λ regs s res f. record { v = f.0; shows = (f.1, tt); does = f.2 }) a
+
+optional_read : (s t : Sort) → is_optional s ≡ true → ReadsAs s t → rtype_of s ≡ rtype.Ref
+optional_read (sort.Optional u) t e h = refl
+optional_read s t e h = absurd (cc)
+
+pub taken_value : (s t : Sort) (b : Building) (x : Reg) → is_optional s ≡ true → ReadsAs s t → HasType b x.0 (rtype_of s) → HasType b x.0 rtype.Ref
+taken_value s t b x e h type = subst (HasType b x.0) (optional_read s t e h) type
+
+own_read : (s t : Sort) → is_optional s ≡ false → ReadsAs s t → s ≡ t
+own_read s t e (inl is) = is
+own_read s t e (inr is) = absurd (let f : true ≡ false = ap is_optional (sym is) ∙ e in cc)
+
+pub taken_stays : (s t : Sort) (b : Building) (x : Reg) → is_optional s ≡ false → ReadsAs s t → HasType b x.0 (rtype_of s) → Attempts (Shows t) b b x.0 (rtype_of t) (Takes t x.0)
+taken_stays s t b x e h type =
+    taken_boxed t b b x.0 x (stays_as boxed t (taken_as t) b x.0 (rtype_of t) (subst (λ z. HasType b x.0 (rtype_of z)) (own_read s t e h) type) (λ v u k. taken_itself t v u))
+
+-- both together
+pub local_there : (vs : List Var) (i : ℕ) (v : Var) → i < length vs → v ≡ get_or vs i v → slice_get (map variable vs) i ≡ Some (variable v)
+local_there vs i v lt is = get_map variable vs i v (get_there vs i v v lt is)
+
+pub read_taken : (x : Setting) (i : ℕ) (v : Variable) (t : Sort) (b c d : Building) (q r : ℕ) → slice_get x.variables i ≡ Some v → HasRoom x b → EmitsRead x x.variables i (Local i) b c q → Attempts (Shows t) c d r (rtype_of t) (Takes t q) → TakesLocal x i t b d r
+read_taken x i v t b c d q r there room reads taken =
+    part_attempts x Itself (Shows t) (rtype_of v.1) (rtype_of t) (means_node x (Local i) t) (taken_as t) (Takes t q) b c d q r room (reads v t there) taken (λ w s regs k. (w, k, refl))
 
 -- ---- a variable of the module
 
--- the variable of a number is there
-pub simple_below : (vs : List Var) (i : ℕ) → IsSimpleAt (map variable vs) i → i < length vs
-simple_below vs i h = let lt = get_below (map variable vs) i h.0 h.1 in omega (arith, length-map vs variable)
-
-module _ (x : Setting) (vs : List Var) (are : x.source.globals ≡ map variable vs) (i : ℕ) (v : Var) (t : RType) (name : List ℕ) (args : List PArg) (lt : i < length vs) (is : v ≡ get_or vs i v) (type : t ≡ rtype_of (sort v.ty)) (named : name ≡ v.name) (args_are : args ≡ arg.Global name ∷ []) where
+module _ (x : Setting) (vs : List Var) (are : x.source.globals ≡ map variable vs) (i : ℕ) (v : Var) (t : RType) (name : List ℕ) (args : List PArg) (lt : i < length vs) (is : v ≡ get_or vs i v) (type : t ≡ rtype_of (sort_of v.ty)) (named : name ≡ v.name) (args_are : args ≡ arg.Global name ∷ []) where
   global_at : slice_get x.source.globals i ≡ Some (variable v)
   global_at = ap (λ gs. slice_get gs i) are ∙ get_map variable vs i v (get_there vs i v v lt is)
 
   args_name : args ≡ arg.Global v.name ∷ []
   args_name = args_are ∙ ap (λ z. arg.Global z ∷ []) named
 
-  pub global_emits : {line : ℕ} (b c : Building) (r : ℕ) → HasRoom x b → Adds b c r t (Prim (Some record { 0 = r }) (prim.Global global.Get) args) line → EmitsRead x (tree.Global i) b c r
-  global_emits {line} b c r room a u place suits =
-      let same : variable v ≡ suits.1 = (let z : Some (variable v) ≡ Some suits.1 = sym global_at ∙ suits.2 in cc) in
-      let sort_is : sort v.ty ≡ u = ap (λ (z : Variable). z.1) same ∙ suits.3 in
-      let P : Sort → Type 0 = λ z. Computes x Itself (rtype_of z) (λ n. read_global x.source.globals i) b c r in
-      let typed_add : Adds b c r (rtype_of (sort v.ty)) (Prim (Some record { 0 = r }) (prim.Global global.Get) args) line = subst (λ z. Adds b c r z (Prim (Some record { 0 = r }) (prim.Global global.Get) args) line) type a in
-      let add : Adds b c r (rtype_of (sort v.ty)) (Prim (Some record { 0 = r }) (prim.Global global.Get) (arg.Global v.name ∷ [])) line = subst (λ z. Adds b c r (rtype_of (sort v.ty)) (Prim (Some record { 0 = r }) (prim.Global global.Get) z) line) args_name typed_add in
-      looked_at x Itself (tree.Global i) u place b c r (λ w h kind k. k) (subst P sort_is (global_computes x i (variable v) b c r room global_at add))
+  pub global_emits : {line : ℕ} (b c : Building) (r : ℕ) → HasRoom x b → Adds b c r t (Prim (Some record { 0 = r }) (prim.Global global.Get) args) line → EmitsRead x x.source.globals i (tree.Global i) b c r
+  global_emits {line} b c r room a w u there =
+      let same : variable v ≡ w = (let z : Some (variable v) ≡ Some w = sym global_at ∙ there in cc) in
+      let P : Variable → Type 0 = λ z. Computes x Itself (rtype_of z.1) (λ n. read_global x.source.globals i) b c r in
+      let typed_add : Adds b c r (rtype_of (sort_of v.ty)) (Prim (Some record { 0 = r }) (prim.Global global.Get) args) line = subst (λ z. Adds b c r z (Prim (Some record { 0 = r }) (prim.Global global.Get) args) line) type a in
+      let add : Adds b c r (rtype_of (sort_of v.ty)) (Prim (Some record { 0 = r }) (prim.Global global.Get) (arg.Global v.name ∷ [])) line = subst (λ z. Adds b c r (rtype_of (sort_of v.ty)) (Prim (Some record { 0 = r }) (prim.Global global.Get) z) line) args_name typed_add in
+      subst P same (global_computes x i (variable v) b c r room global_at add)
 
   -- its global is there
   pub global_fits : (g : Surrounding) → IsAmong x.source g → ReadsGlobal g t (prim.Global global.Get) args

@@ -1,6 +1,7 @@
 -- An expression that suits is one of the forms that are built: an operation on parts, where it is none of the others.
 use Rattle.ir_builder_expressions.proofs.Common.{◌≡◌, refl, sym, ◌∙◌, ap, ℕ, Bool, true, List, ℤ, is_some, Box, Global, BinOp, CmpOp, TExpr, TKind, roll-TKind, out-TKind, roll-out-TKind, fold-roll-TKind, TypedExpr, TypedNode, node_step, expr_step, typed_node, typed, typed_expr, TypedModule, Variable, typed_expr_of, applied_in, node_in, Suits, NodeSuits}
 use Rattle.py_typed.specs.declared.expression.TKind as kind
+use borrow.Author.Tests.{clash}
 use Rattle.py_typed.specs.declared.expression.TKind.TheVariants as variant
 use Rattle.py_typed.specs.declared.expression.TKind.TheOpen.{TKind-F}
 use Rattle.py_typed.specs.Sorts.{sort as sort_of}
@@ -20,7 +21,7 @@ module _ (e : TExpr) where
   found : (k : TKind-F TKind TExpr) → roll-TKind k ≡ e.kind → is_some (applied_in (node_as k)) ≡ true → is_some (applied_in (node_in (typed_expr e))) ≡ true
   found k is h = ap is_some (ap applied_in (ap node_in (has_node k is))) ∙ h
 
-  module _ (some : is_some (applied_in (node_in (typed_expr e))) ≡ true) (no_neg : (a : Part) → e.kind ≡ kind.Neg a → ⊥) (no_inverted : (a : Part) → e.kind ≡ kind.Not a → ⊥) (no_truth : (a : Part) → e.kind ≡ kind.Truth a → ⊥) (no_arith : (o : BinOp) (a b : Part) → e.kind ≡ kind.Arith o a b → ⊥) (no_concat : (a b : Part) → e.kind ≡ kind.Concat a b → ⊥) (no_at : (a b : Part) → e.kind ≡ kind.At a b → ⊥) (no_len : (a : Part) → e.kind ≡ kind.Len a → ⊥) (no_written : (a : Part) → e.kind ≡ kind.ToStr a → ⊥) (no_coerce : (a : Part) → e.kind ≡ kind.Coerce a → ⊥) where
+  module _ (some : is_some (applied_in (node_in (typed_expr e))) ≡ true) (no_neg : (a : Part) → e.kind ≡ kind.Neg a → ⊥) (no_inverted : (a : Part) → e.kind ≡ kind.Not a → ⊥) (no_truth : (a : Part) → e.kind ≡ kind.Truth a → ⊥) (no_arith : (o : BinOp) (a b : Part) → e.kind ≡ kind.Arith o a b → ⊥) (no_concat : (a b : Part) → e.kind ≡ kind.Concat a b → ⊥) (no_at : (a b : Part) → e.kind ≡ kind.At a b → ⊥) (no_len : (a : Part) → e.kind ≡ kind.Len a → ⊥) (no_written : (a : Part) → e.kind ≡ kind.ToStr a → ⊥) (no_coerce : (a : Part) → e.kind ≡ kind.Coerce a → ⊥) (no_pop : (a : Part) → e.kind ≡ kind.Pop a → ⊥) (no_tuple_at : (a : Part) (i : ℕ) → e.kind ≡ kind.TupleAt a i → ⊥) (no_append : (a b : Part) → e.kind ≡ kind.Append a b → ⊥) where
     unapplied : (k : TKind-F TKind TExpr) → roll-TKind k ≡ e.kind → is_some (applied_in (node_as k)) ≡ true → ⊥
     unapplied (TKind-F.Concat a b) is h = no_concat a b (sym is ∙ variant.rolls-Concat a b)
     unapplied (TKind-F.At a i) is h = no_at a i (sym is ∙ variant.rolls-At a i)
@@ -31,7 +32,10 @@ module _ (e : TExpr) where
     unapplied (TKind-F.Truth a) is h = no_truth a (sym is ∙ variant.rolls-Truth a)
     unapplied (TKind-F.Arith o a b) is h = no_arith o a b (sym is ∙ variant.rolls-Arith o a b)
     unapplied (TKind-F.Coerce a) is h = no_coerce a (sym is ∙ variant.rolls-Coerce a)
-    unapplied k is h = absurd (cc)
+    unapplied (TKind-F.Pop a) is h = no_pop a (sym is ∙ variant.rolls-Pop a)
+    unapplied (TKind-F.TupleAt a i) is h = no_tuple_at a i (sym is ∙ variant.rolls-TupleAt a i)
+    unapplied (TKind-F.Append a b) is h = no_append a b (sym is ∙ variant.rolls-Append a b)
+    unapplied k is h = absurd (clash h)
 
     pub none_left : ⊥
     none_left = unapplied (out-TKind e.kind) (roll-out-TKind e.kind) (sym (ap is_some (ap applied_in (ap node_in (has_node (out-TKind e.kind) (roll-out-TKind e.kind))))) ∙ some)
@@ -40,7 +44,7 @@ module _ (m : TypedModule) (vs : List Variable) (e : TExpr) (suits : Suits m vs 
   suited : (k : TKind-F TKind TExpr) → roll-TKind k ≡ e.kind → NodeSuits m vs (node_as e k) (sort_of e.ty)
   suited k is = asked m vs e (node_as e k) (has_node e k is) suits
 
-  module _ (no_int : (n : ℤ) → e.kind ≡ kind.Int n → ⊥) (no_text : (text : List ℕ) → e.kind ≡ kind.Str text → ⊥) (no_flag : (b : Bool) → e.kind ≡ kind.Bool b → ⊥) (no_local : (i : ℕ) → e.kind ≡ kind.Local i → ⊥) (no_global : (i : ℕ) → e.kind ≡ kind.Global i → ⊥) (no_compare : (a : Part) (cs : List (CmpOp × TExpr)) → e.kind ≡ kind.Compare a cs → ⊥) (no_conj : (a b : Part) → e.kind ≡ kind.And a b → ⊥) (no_disj : (a b : Part) → e.kind ≡ kind.Or a b → ⊥) (no_choice : (a test b : Part) → e.kind ≡ kind.Cond a test b → ⊥) (no_call : (f : ℕ) (es : List TExpr) → e.kind ≡ kind.Call f es → ⊥) (no_input : e.kind ≡ kind.Input → ⊥) where
+  module _ (no_int : (n : ℤ) → e.kind ≡ kind.Int n → ⊥) (no_text : (text : List ℕ) → e.kind ≡ kind.Str text → ⊥) (no_flag : (b : Bool) → e.kind ≡ kind.Bool b → ⊥) (no_nothing : e.kind ≡ kind.Nothing → ⊥) (no_local : (i : ℕ) → e.kind ≡ kind.Local i → ⊥) (no_global : (i : ℕ) → e.kind ≡ kind.Global i → ⊥) (no_compare : (a : Part) (cs : List (CmpOp × TExpr)) → e.kind ≡ kind.Compare a cs → ⊥) (no_conj : (a b : Part) → e.kind ≡ kind.And a b → ⊥) (no_disj : (a b : Part) → e.kind ≡ kind.Or a b → ⊥) (no_choice : (a test b : Part) → e.kind ≡ kind.Cond a test b → ⊥) (no_list : (es : List TExpr) → e.kind ≡ kind.List es → ⊥) (no_tuple : (es : List TExpr) → e.kind ≡ kind.Tuple es → ⊥) (no_call : (f : ℕ) (es : List TExpr) → e.kind ≡ kind.Call f es → ⊥) (no_input : e.kind ≡ kind.Input → ⊥) where
     unsuited : (k : TKind-F TKind TExpr) → roll-TKind k ≡ e.kind → is_some (applied_in (node_in (typed_expr e))) ≡ true
     unsuited (TKind-F.Int n) is = absurd (no_int n (sym is ∙ variant.rolls-Int n))
     unsuited (TKind-F.Str text) is = absurd (no_text text (sym is ∙ variant.rolls-Str text))
@@ -62,6 +66,12 @@ module _ (m : TypedModule) (vs : List Variable) (e : TExpr) (suits : Suits m vs 
     unsuited (TKind-F.Cond a test b) is = absurd (no_choice a test b (sym is ∙ variant.rolls-Cond a test b))
     unsuited (TKind-F.Call f es) is = absurd (no_call f es (sym is ∙ variant.rolls-Call f es))
     unsuited (TKind-F.Coerce a) is = found e (TKind-F.Coerce a) is refl
+    unsuited (TKind-F.Pop a) is = found e (TKind-F.Pop a) is refl
+    unsuited (TKind-F.TupleAt a i) is = found e (TKind-F.TupleAt a i) is refl
+    unsuited (TKind-F.Append a b) is = found e (TKind-F.Append a b) is refl
+    unsuited TKind-F.Nothing is = absurd (no_nothing (sym is ∙ variant.rolls-Nothing))
+    unsuited (TKind-F.List es) is = absurd (no_list es (sym is ∙ variant.rolls-List es))
+    unsuited (TKind-F.Tuple es) is = absurd (no_tuple es (sym is ∙ variant.rolls-Tuple es))
     unsuited k is = absurd (suited k is)
 
     pub applied_left : is_some (applied_in (node_in (typed_expr e))) ≡ true

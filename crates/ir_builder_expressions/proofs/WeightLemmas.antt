@@ -1,5 +1,5 @@
 -- The number of nodes that a walk over an expression goes through, which falls from each node to its parts.
-use Rattle.ir_builder_expressions.proofs.Common.{◌≡◌, ap, ℕ, ◌+◌, ◌-◌, ◌<◌, ◌≤◌, arith, List, [], ◌∷◌, length, map, take, drop, get_or, Option, Some, None, take_all, Bor, CmpOp, TExpr, TypedExpr, TypedNode, typed, Neg, Not, Truth, Arith, Concat, Compare, And, Or, Cond, At, Call, Len, ToStr, Coerce, TypedExprs, no_exprs, expr_then, Comparisons, no_comparisons, comparison_then, typed_expr, exprs_of, comparisons_of, typed_comparison}
+use Rattle.ir_builder_expressions.proofs.Common.{◌≡◌, ap, ℕ, ◌+◌, ◌-◌, ◌<◌, ◌≤◌, arith, List, [], ◌∷◌, length, map, take, drop, get_or, Option, Some, None, take_all, Bor, CmpOp, TExpr, TypedExpr, TypedNode, typed, Neg, Not, Truth, Arith, Concat, Compare, And, Or, Cond, ListOf, TupleOf, At, TupleAt, Call, Len, ToStr, Append, Pop, Coerce, TypedExprs, no_exprs, expr_then, Comparisons, no_comparisons, comparison_then, typed_expr, exprs_of, comparisons_of, typed_comparison}
 
 abbrev mutual
   pub weight : TypedExpr → ℕ
@@ -19,6 +19,11 @@ abbrev mutual
   node_weight (And a b) = weight a + weight b + 1
   node_weight (Or a b) = weight a + weight b + 1
   node_weight (Cond a test b) = weight a + weight test + weight b + 1
+  node_weight (ListOf es) = row_weight es + 1
+  node_weight (TupleOf es) = row_weight es + 1
+  node_weight (TupleAt e i) = weight e + 1
+  node_weight (Append a b) = weight a + weight b + 1
+  node_weight (Pop e) = weight e + 1
   node_weight (Call f es) = row_weight es + 1
   node_weight _ = 0
 

@@ -4,7 +4,7 @@
 use Rattle.std.specs.Prelude.{ℕ, List, [], ◌∷◌, Option, Some, None}
 use Rattle.py_syntax.specs.declared.token.Span.{Span}
 use Rattle.py_typed.specs.Sorts.{Sort}
-use Rattle.py_typed.specs.Expressions.{TypedExpr, typed, TypedNode, Compare, And, Or, Cond, Call, Print, TypedExprs, no_exprs, expr_then, Comparisons, no_comparisons, comparison_then}
+use Rattle.py_typed.specs.Expressions.{TypedExpr, typed, TypedNode, Compare, And, Or, Cond, ListOf, TupleOf, Call, Print, TypedExprs, no_exprs, expr_then, Comparisons, no_comparisons, comparison_then}
 use Rattle.ir_core.specs.declared.code.Program.{Program}
 use Rattle.ir_builder_frames.specs.Building.{Building}
 use Rattle.ir_builder_frames.specs.Settings.{Setting, rtype_of}
@@ -37,6 +37,8 @@ parts_of (Compare e more) = e ∷ operands_in more
 parts_of (And a b) = a ∷ b ∷ []
 parts_of (Or a b) = a ∷ b ∷ []
 parts_of (Cond a test b) = test ∷ a ∷ b ∷ []
+parts_of (ListOf es) = listed es
+parts_of (TupleOf es) = listed es
 parts_of (Call f es) = listed es
 parts_of (Print es) = listed es
 parts_of n = parts_applied (applied_in n)

@@ -22,18 +22,13 @@ abbrev pub is_text : Sort → Bool
 is_text sort.Str = true
 is_text _ = false
 
--- numbers, bools and texts, which variables hold
+-- numbers, bools and texts
 abbrev pub is_scalar : Sort → Bool
 is_scalar sort.Int = true
 is_scalar sort.I64 = true
 is_scalar sort.Bool = true
 is_scalar sort.Str = true
 is_scalar _ = false
-
--- and what a call may give
-abbrev pub is_result : Sort → Bool
-is_result sort.Nothing = true
-is_result t = is_scalar t
 
 -- an `int` as it stands in the text
 abbrev pub literal_in : TypedExpr → Option ℤ

@@ -1,9 +1,9 @@
 //! Operations on the values of one or two parts of an expression.
-ghost use Rattle.std.specs.Prelude.{◌≡◌, IfOk, true, Some, is_some};
+ghost use Rattle.std.specs.Prelude.{◌≡◌, ◌<◌, IfOk, true, Some, is_some};
 ghost use Rattle.py_typed.specs.Fits.{is_number};
-ghost use Rattle.py_typed.specs.Sorts.{sort};
-ghost use Rattle.py_typed.specs.Expressions.{typed_expr};
-ghost use Rattle.source_meaning.specs.Operations.{arithmetic, coerced, negated};
+ghost use Rattle.py_typed.specs.Sorts.{sort, Int, Nothing};
+ghost use Rattle.py_typed.specs.Expressions.{typed_expr, type_of};
+ghost use Rattle.source_meaning.specs.Operations.{arithmetic, coerced, negated, append_item};
 ghost use Rattle.ir_builder_frames.specs.Building.{Extends};
 ghost use Rattle.ir_builder_frames.specs.Computing.{Shows, Attempts};
 ghost use Rattle.ir_builder_frames.specs.Placing.{HasType};
@@ -12,36 +12,56 @@ ghost use Rattle.ir_builder_frames.specs.Lines.{OwnLines};
 ghost use Rattle.ir_builder_operations.specs.Operating.{ActsOn, ActsOnTwo};
 ghost use Rattle.ir_builder_operations.specs.Selecting.{is_arithmetic, is_whole};
 ghost use Rattle.ir_builder_expressions.specs.Parts.{fitting_in, native_in, part_sort, literal_in};
-ghost use Rattle.ir_builder_expressions.specs.Applying.{unary_goes, binary_goes, UnarySuits, BinarySuits, arithmetic_of, negation_of, applied_in, node_in, seen};
+ghost use Rattle.ir_builder_expressions.specs.Applying.{unary_goes, binary_goes, UnarySuits, BinarySuits, sized_of, index_of, wanted_one, wanted_two, one_sort, two_sort, counting_of, arithmetic_of, negation_of, applied_in, node_in, seen};
+ghost use Rattle.ir_builder_operations.specs.Boxes.{boxed};
+ghost use Rattle.ir_builder_operations.specs.Converting.{Converts};
 
 use crate::types::is_native;
 use ir_builder_comparisons::emit_truth;
 use ir_builder_frames::Emitter;
-use ir_builder_operations::{Operation, emit_coercion, emit_operation, emit_text_of};
-use ir_core::Reg;
+use ir_builder_operations::{
+    Operation, emit_append, emit_boxed, emit_coercion, emit_conversion, emit_operation,
+    emit_text_of, emit_tuple_part, emit_unboxed,
+};
+use ir_core::{RType, Reg};
 use py_syntax::BinOp;
 use py_typed::{TExpr, TKind, Ty};
 use std::alloc::Global;
 use value_core::{Memory, int_to_i64};
 
-/// An operation on one part: the other sign, the other truth, a truth, a length, the text of a value, and a number as one of
-/// another type.
+/// What has a size.
+#[derive(Clone, Copy)]
+pub(crate) enum Sized {
+    Text,
+    List,
+    Tuple,
+}
+
+/// An operation on one part: the other sign, the other truth, a truth, a length, the text of a value, a value as one of another
+/// type, and what is taken out of a list or a tuple.
 #[derive(Clone, Copy)]
 pub(crate) enum Unary {
     Negated,
     Inverted,
     Tested,
-    Counted,
+    Counted(Sized),
     Written,
     Coerced,
+    /// The last item of a list, which is taken out of it.
+    Popped,
+    /// The part of a tuple with a number, from 0.
+    Part(usize),
 }
 
-/// An operation on two parts: of numbers, one text behind another, and a letter of a text.
+/// An operation on two parts: of numbers, one text behind another, a letter of a text, an item of a list, and a value that is
+/// put behind the items of a list.
 #[derive(Clone, Copy)]
 pub enum Binary {
     Arithmetic(BinOp),
     Joined,
     Indexed,
+    Item,
+    Appended,
 }
 
 /// An operation with its parts.
@@ -49,6 +69,27 @@ pub enum Binary {
 pub(crate) enum Applied<'a> {
     One(Unary, &'a TExpr),
     Two(Binary, &'a TExpr, &'a TExpr),
+}
+
+// What has a size, by its type.
+fn sized_by(t: &Ty) -> Sized
+    ensures { result ≡ sized_of (sort t.now) }
+{
+    match t {
+        Ty::List(_) => Sized::List,
+        Ty::Tuple(_) => Sized::Tuple,
+        _ => Sized::Text,
+    }
+}
+
+// What an index is of, by its type.
+fn indexed(t: &Ty) -> Binary
+    ensures { result ≡ index_of (sort t.now) }
+{
+    match t {
+        Ty::List(_) => Binary::Item,
+        _ => Binary::Indexed,
+    }
 }
 
 /// The operation that an expression is, with its parts.
@@ -60,12 +101,15 @@ pub(crate) fn operation_in(e: &TExpr) -> Applied<'_>
         TKind::Neg(x) => Applied::One(Unary::Negated, x),
         TKind::Not(x) => Applied::One(Unary::Inverted, x),
         TKind::Truth(x) => Applied::One(Unary::Tested, x),
-        TKind::Len(x) => Applied::One(Unary::Counted, x),
+        TKind::Len(x) => Applied::One(Unary::Counted(sized_by(&x.ty)), x),
         TKind::ToStr(x) => Applied::One(Unary::Written, x),
         TKind::Coerce(x) => Applied::One(Unary::Coerced, x),
+        TKind::Pop(x) => Applied::One(Unary::Popped, x),
+        TKind::TupleAt(x, i) => Applied::One(Unary::Part(*i), x),
         TKind::Arith(op, x, y) => Applied::Two(Binary::Arithmetic(*op), x, y),
         TKind::Concat(x, y) => Applied::Two(Binary::Joined, x, y),
-        TKind::At(x, y) => Applied::Two(Binary::Indexed, x, y),
+        TKind::At(x, y) => Applied::Two(indexed(&x.ty), x, y),
+        TKind::Append(x, y) => Applied::Two(Binary::Appended, x, y),
         _ => unreachable!(),
     }
 }
@@ -192,6 +236,132 @@ fn emit_negated(
     emit_operation(b, alloc, operation, &[number], line)
 }
 
+/// The type of numbers that an `int` literal which is the part of an operation has at once, where it is one of native integers.
+pub(crate) fn wanted_of_part<'a>(op: Unary, t: &'a Ty, e: &'a TExpr) -> &'a Ty
+    ensures { sort result.now ≡ wanted_one op (sort t.now) (type_of (typed_expr e.now)) }
+{
+    match op {
+        Unary::Popped | Unary::Part(_) => &e.ty,
+        _ => t,
+    }
+}
+
+/// The same of the parts of an operation on two.
+pub(crate) fn wanted_of_parts<'a>(op: Binary, t: &'a Ty, left: &'a TExpr) -> &'a Ty
+    ensures { sort result.now ≡ wanted_two op (sort t.now) (type_of (typed_expr left.now)) }
+{
+    match op {
+        Binary::Item => &left.ty,
+        _ => t,
+    }
+}
+
+// The operation that counts.
+fn counting(sized: Sized) -> Operation
+    ensures { result ≡ counting_of sized }
+{
+    match sized {
+        Sized::Text => Operation::Length,
+        Sized::List => Operation::ListLength,
+        Sized::Tuple => Operation::TupleLength,
+    }
+}
+
+// The last item of a list, taken out, as a value of a type.
+fn emit_popped(
+    b: &mut Emitter,
+    alloc: Global,
+    t: &Ty,
+    list: Reg,
+    line: usize,
+) -> Result<Reg, Memory>
+    requires value { HasType b.old list.0 RType.Ref }
+    ensures kept { Extends b.old b.new }
+    ensures made { IfOk result (λ r. Attempts (Shows (sort t.now)) b.old b.new r.0 (rtype_of (sort t.now)) (ActsOn boxed list.0 (unary_goes Unary.Popped (sort t.now)))) }
+    ensures lined { OwnLines line b.old b.new }
+{
+    let item = emit_operation(b, alloc, Operation::LastItem, &[list], line)?;
+    emit_unboxed(b, alloc, t, item, line)
+}
+
+// A part of a tuple, as a value of a type.
+fn emit_part_of(
+    b: &mut Emitter,
+    alloc: Global,
+    t: &Ty,
+    tuple: Reg,
+    number: usize,
+    line: usize,
+) -> Result<Reg, Memory>
+    requires few { number < 17 }
+    requires value { HasType b.old tuple.0 RType.Ref }
+    ensures kept { Extends b.old b.new }
+    ensures made { IfOk result (λ r. Attempts (Shows (sort t.now)) b.old b.new r.0 (rtype_of (sort t.now)) (ActsOn boxed tuple.0 (unary_goes (Unary.Part number) (sort t.now)))) }
+    ensures lined { OwnLines line b.old b.new }
+{
+    let part = emit_tuple_part(b, alloc, tuple, number, line)?;
+    emit_unboxed(b, alloc, t, part, line)
+}
+
+// A part as a value of another type, which it fits.
+fn emit_converted(
+    b: &mut Emitter,
+    alloc: Global,
+    t: &Ty,
+    e: &TExpr,
+    x: Reg,
+    line: usize,
+) -> Result<Reg, Memory>
+    requires fits { Converts (sort e.now.ty) (sort t.now) }
+    requires value { HasType b.old x.0 (rtype_of (part_sort (sort t.now) (typed_expr e.now))) }
+    ensures kept { Extends b.old b.new }
+    ensures made { IfOk result (λ r. Attempts (Shows (sort t.now)) b.old b.new r.0 (rtype_of (sort t.now)) (ActsOn (part_sort (sort t.now) (typed_expr e.now)) x.0 (coerced (sort t.now)))) }
+    ensures lined { OwnLines line b.old b.new }
+{
+    match native_literal(e, t) {
+        Some(_) => Ok(x),
+        None => emit_conversion(b, alloc, &e.ty, t, x, line),
+    }
+}
+
+// The item of a list at an index, as a value of a type.
+fn emit_item(
+    b: &mut Emitter,
+    alloc: Global,
+    t: &Ty,
+    list: Reg,
+    index: Reg,
+    line: usize,
+) -> Result<Reg, Memory>
+    requires list { HasType b.old list.0 RType.Ref }
+    requires index { HasType b.old index.0 RType.Int }
+    ensures kept { Extends b.old b.new }
+    ensures made { IfOk result (λ r. Attempts (Shows (sort t.now)) b.old b.new r.0 (rtype_of (sort t.now)) (ActsOnTwo boxed Int list.0 index.0 (binary_goes Binary.Item (sort t.now)))) }
+    ensures lined { OwnLines line b.old b.new }
+{
+    let item = emit_operation(b, alloc, Operation::Item, &[list, index], line)?;
+    emit_unboxed(b, alloc, t, item, line)
+}
+
+// A value of a type behind the items of a list, and None.
+fn emit_appended(
+    b: &mut Emitter,
+    alloc: Global,
+    t: &Ty,
+    list: Reg,
+    x: Reg,
+    line: usize,
+) -> Result<Reg, Memory>
+    requires list { HasType b.old list.0 RType.Ref }
+    requires value { HasType b.old x.0 (rtype_of (sort t.now)) }
+    ensures kept { Extends b.old b.new }
+    ensures made { IfOk result (λ r. Attempts (Shows Nothing) b.old b.new r.0 RType.Ref (ActsOnTwo boxed (sort t.now) list.0 x.0 append_item)) }
+    ensures lined { OwnLines line b.old b.new }
+{
+    let item = emit_boxed(b, alloc, t, x, line)?;
+    emit_append(b, alloc, list, item, line)
+}
+
 /// The result of an operation on a part, whose value is in a register.
 pub(crate) fn emit_unary(
     b: &mut Emitter,
@@ -203,18 +373,20 @@ pub(crate) fn emit_unary(
     line: usize,
 ) -> Result<Reg, Memory>
     requires fits { UnarySuits op (sort t.now) (sort e.now.ty) }
-    requires value { HasType b.old x.0 (rtype_of (part_sort (sort t.now) (typed_expr e.now))) }
+    requires value { HasType b.old x.0 (rtype_of (one_sort op (sort t.now) (typed_expr e.now))) }
     ensures kept { Extends b.old b.new }
-    ensures made { IfOk result (λ r. Attempts (Shows (sort t.now)) b.old b.new r.0 (rtype_of (sort t.now)) (ActsOn (part_sort (sort t.now) (typed_expr e.now)) x.0 (unary_goes op (sort t.now)))) }
+    ensures made { IfOk result (λ r. Attempts (Shows (sort t.now)) b.old b.new r.0 (rtype_of (sort t.now)) (ActsOn (one_sort op (sort t.now) (typed_expr e.now)) x.0 (unary_goes op (sort t.now)))) }
     ensures lined { OwnLines line b.old b.new }
 {
     match op {
         Unary::Negated => emit_negated(b, alloc, t, e, x, line),
         Unary::Inverted => emit_operation(b, alloc, Operation::Inversion, &[x], line),
         Unary::Tested => emit_truth(b, alloc, &e.ty, x, line),
-        Unary::Counted => emit_operation(b, alloc, Operation::Length, &[x], line),
+        Unary::Counted(sized) => emit_operation(b, alloc, counting(sized), &[x], line),
         Unary::Written => emit_text_of(b, alloc, &e.ty, x, line),
-        Unary::Coerced => emit_coerced(b, alloc, e, t, x, line),
+        Unary::Coerced => emit_converted(b, alloc, t, e, x, line),
+        Unary::Popped => emit_popped(b, alloc, t, x, line),
+        Unary::Part(number) => emit_part_of(b, alloc, t, x, number, line),
     }
 }
 
@@ -231,15 +403,17 @@ pub(crate) fn emit_binary(
     line: usize,
 ) -> Result<Reg, Memory>
     requires fits { BinarySuits op (sort t.now) (sort left.now.ty) (sort right.now.ty) }
-    requires left_value { HasType b.old x.0 (rtype_of (part_sort (sort t.now) (typed_expr left.now))) }
-    requires right_value { HasType b.old y.0 (rtype_of (part_sort (sort t.now) (typed_expr right.now))) }
+    requires left_value { HasType b.old x.0 (rtype_of (two_sort op (sort t.now) (typed_expr left.now) (typed_expr left.now))) }
+    requires right_value { HasType b.old y.0 (rtype_of (two_sort op (sort t.now) (typed_expr left.now) (typed_expr right.now))) }
     ensures kept { Extends b.old b.new }
-    ensures made { IfOk result (λ r. Attempts (Shows (sort t.now)) b.old b.new r.0 (rtype_of (sort t.now)) (ActsOnTwo (part_sort (sort t.now) (typed_expr left.now)) (part_sort (sort t.now) (typed_expr right.now)) x.0 y.0 (binary_goes op (sort t.now)))) }
+    ensures made { IfOk result (λ r. Attempts (Shows (sort t.now)) b.old b.new r.0 (rtype_of (sort t.now)) (ActsOnTwo (two_sort op (sort t.now) (typed_expr left.now) (typed_expr left.now)) (two_sort op (sort t.now) (typed_expr left.now) (typed_expr right.now)) x.0 y.0 (binary_goes op (sort t.now)))) }
     ensures lined { OwnLines line b.old b.new }
 {
     match op {
         Binary::Arithmetic(op) => emit_numbers(b, alloc, op, t, left, right, x, y, line),
         Binary::Joined => emit_operation(b, alloc, Operation::Concatenation, &[x, y], line),
         Binary::Indexed => emit_operation(b, alloc, Operation::Letter, &[x, y], line),
+        Binary::Item => emit_item(b, alloc, t, x, y, line),
+        Binary::Appended => emit_appended(b, alloc, &right.ty, x, y, line),
     }
 }

@@ -1,5 +1,5 @@
 //! The code of expressions.
-ghost use Rattle.std.specs.Prelude.{◌≡◌, true, [], ◌∷◌, ◌++◌, map, IfOk, OnOk, is_some};
+ghost use Rattle.std.specs.Prelude.{◌≡◌, true, [], ◌∷◌, ◌++◌, length, map, IfOk, OnOk, is_some};
 ghost use Rattle.py_typed.specs.Sorts.{sort};
 ghost use Rattle.py_typed.specs.Expressions.{typed_expr, exprs_of, comparisons_of, typed_comparison, type_of};
 ghost use Rattle.ir_builder_frames.specs.Building.{Extends};
@@ -10,24 +10,26 @@ ghost use Rattle.ir_builder_expressions.specs.Site.{setting_of};
 ghost use Rattle.ir_builder_expressions.specs.Parts.{is_scalar};
 ghost use Rattle.ir_builder_expressions.specs.Applying.{UnarySuits, BinarySuits, applied_in, node_in};
 ghost use Rattle.ir_builder_expressions.specs.Comparing.{kind_sort, is_shown_as};
-ghost use Rattle.ir_builder_expressions.specs.Suiting.{Suits, SomeSuit, ComparisonsSuit};
+ghost use Rattle.ir_builder_expressions.specs.Suiting.{Suits, SomeSuit, ComparisonsSuit, count_of};
+ghost use Rattle.ir_builder_operations.specs.Boxes.{objects};
 ghost use Rattle.ir_builder_expressions.specs.Arms.{arm_of, ArmSuits, ChoiceSuits, EmitsArm, EmitsChoice};
 ghost use Rattle.ir_builder_expressions.specs.Lined.{listed, operands_in, parts_in_arm, parts_of, Lined, LinedParts};
 ghost use Rattle.ir_builder_expressions.specs.Emitting.{Emits, EmitsPart, EmitsOne, EmitsTwo, EmitsAll, EmitsSide, EmitsChain};
 
 use crate::applying::{
-    Applied, Binary, Unary, emit_binary, emit_unary, native_literal, operation_in,
+    Applied, Binary, Unary, emit_binary, emit_unary, native_literal, operation_in, wanted_of_part,
+    wanted_of_parts,
 };
 use crate::chain::{begin_link, meet_links};
 use crate::comparing::{Kind, Side, emit_pair, joined_kind, kind_of, shown_kind, type_of_kind};
 use crate::global::emit_global_value;
-use crate::local::emit_local;
+use crate::local::emit_local_as;
 use crate::site::Site;
 use crate::types::{register_type, truth};
 use ir_builder_choices::{begin, meet, turn};
 use ir_builder_comparisons::emit_truth;
 use ir_builder_frames::Emitter;
-use ir_builder_operations::{emit_input, emit_int, emit_text};
+use ir_builder_operations::{emit_boxed, emit_input, emit_int, emit_list, emit_text, emit_tuple};
 use ir_core::{Lit, RType, Reg};
 use py_syntax::CmpOp;
 use py_typed::{TExpr, TKind, Ty};
@@ -60,7 +62,8 @@ pub fn emit_expression(b: &mut Emitter, site: Site, e: &TExpr) -> Result<Reg, Me
         TKind::Int(n) => emit_int(b, site.alloc, *n, site.line),
         TKind::Str(text) => emit_text(b, site.alloc, text.as_str(), site.line),
         TKind::Bool(value) => b.literal(RType::Bool, truth(*value), site.line),
-        TKind::Local(i) => emit_local(b, site, *i),
+        TKind::Nothing => b.literal(RType::Ref, Lit::PyNone, site.line),
+        TKind::Local(i) => emit_local_as(b, site, *i, &e.ty),
         TKind::Global(i) => emit_global_value(b, site, *i),
         TKind::Compare(x, rest) => {
             let other = other_kind(x, rest.as_slice());
@@ -78,6 +81,14 @@ pub fn emit_expression(b: &mut Emitter, site: Site, e: &TExpr) -> Result<Reg, Me
         TKind::Cond(x, test, y) => {
             let (body, other) = (Some(&**x), Some(&**y));
             emit_choice(b, site, &e.ty, test, body, other)
+        }
+        TKind::List(items) => {
+            let items = emit_objects(b, site, items.as_slice())?;
+            emit_list(b, site.alloc, items.as_slice(), site.line)
+        }
+        TKind::Tuple(parts) => {
+            let parts = emit_objects(b, site, parts.as_slice())?;
+            emit_tuple(b, site.alloc, parts.as_slice(), site.line)
         }
         TKind::Call(f, args) => {
             let args = emit_arguments(b, site, args.as_slice())?;
@@ -130,7 +141,7 @@ fn emit_one_part(b: &mut Emitter, site: Site, op: Unary, t: &Ty, e: &TExpr) -> R
     ensures emitted { IfOk result (λ r. EmitsOne (setting_of site.entry) op (sort t.now) (typed_expr e.now) b.old b.new r.0) }
     ensures lined { OnOk result (LinedParts (setting_of site.entry) site.entry.line (typed_expr e.now ∷ []) b.old b.new) }
 {
-    let x = emit_part(b, site, t, e)?;
+    let x = emit_part(b, site, wanted_of_part(op, t, e), e)?;
     emit_unary(b, site.alloc, op, t, e, x, site.line)
 }
 
@@ -152,8 +163,9 @@ pub fn emit_two_parts(
     ensures emitted { IfOk result (λ r. EmitsTwo (setting_of site.entry) op (sort t.now) (typed_expr left.now) (typed_expr right.now) b.old b.new r.0) }
     ensures lined { OnOk result (LinedParts (setting_of site.entry) site.entry.line (typed_expr left.now ∷ typed_expr right.now ∷ []) b.old b.new) }
 {
-    let x = emit_part(b, site, t, left)?;
-    let y = emit_part(b, site, t, right)?;
+    let wanted = wanted_of_parts(op, t, left);
+    let x = emit_part(b, site, wanted, left)?;
+    let y = emit_part(b, site, wanted, right)?;
     emit_binary(b, site.alloc, op, t, left, right, x, y, site.line)
 }
 
@@ -169,6 +181,25 @@ pub fn emit_arguments(b: &mut Emitter, site: Site, args: &[TExpr]) -> Result<Man
     let mut regs = Many::new(site.alloc);
     for e in args {
         let r = emit_expression(b, site, e)?;
+        regs.push(r)?;
+    }
+    Ok(regs)
+}
+
+// Emits expressions from the left, and answers registers that have their values as objects. Each is one before the next is computed.
+#[cycle(expression)]
+fn emit_objects(b: &mut Emitter, site: Site, items: &[TExpr]) -> Result<Many<Reg>, Memory>
+    requires suits { SomeSuit (setting_of site).source (setting_of site).variables (map typed_expr items.now) }
+    requires room { HasRoom (setting_of site) b.old }
+    ensures kept { Extends b.old b.new }
+    ensures emitted { IfOk result (λ rs. EmitsAll (setting_of site.entry) (objects rs) (exprs_of (map typed_expr items.now)) b.old b.new rs) }
+    ensures lined { OnOk result (LinedParts (setting_of site.entry) site.entry.line (listed (exprs_of (map typed_expr items.now))) b.old b.new) }
+    ensures count { IfOk result (λ rs. length rs ≡ count_of (exprs_of (map typed_expr items.now))) }
+{
+    let mut regs = Many::new(site.alloc);
+    for e in items {
+        let x = emit_expression(b, site, e)?;
+        let r = emit_boxed(b, site.alloc, &e.ty, x, site.line)?;
         regs.push(r)?;
     }
     Ok(regs)

@@ -8,12 +8,16 @@ ghost use Rattle.ir_builder_frames.specs.Matching.{HasRoom};
 ghost use Rattle.ir_builder_frames.specs.Placing.{HasType};
 ghost use Rattle.ir_builder_frames.specs.Lines.{OwnLines};
 ghost use Rattle.ir_builder_expressions.specs.Site.{setting_of};
-ghost use Rattle.ir_builder_expressions.specs.Reading.{reports_unbound, TestsSet, EmitsRead};
+ghost use Rattle.ir_builder_expressions.specs.Reading.{reports_unbound, TestsSet, EmitsRead, ReadsLocal, TakesLocal};
+ghost use Rattle.ir_builder_operations.specs.Converting.{is_optional};
+ghost use Rattle.py_typed.specs.Sorts.{sort};
 
 use crate::site::Site;
 use c_core::{ErrPrim, Prim};
 use ir_builder_frames::Emitter;
+use ir_builder_operations::emit_unboxed;
 use ir_core::{Last, Lit, Op, PArg, RType, Reg};
+use py_typed::Ty;
 use std::alloc::Global;
 use value_core::{Many, Memory, Text};
 
@@ -76,12 +80,12 @@ fn emit_flag_test(
 
 /// The register of a variable that is read (Python Language Reference, "Naming and binding"). One that is no parameter may be
 /// unset, and its flag is tested first.
-pub(crate) fn emit_local(b: &mut Emitter, site: Site, i: usize) -> Result<Reg, Memory>
+fn emit_local(b: &mut Emitter, site: Site, i: usize) -> Result<Reg, Memory>
     requires there { i < length site.locals.now }
     requires room { HasRoom (setting_of site) b.old }
     ensures kept { Extends b.old b.new }
     ensures is { IfOk result (λ r. r.0 ≡ i) }
-    ensures emitted { IfOk result (λ r. EmitsRead (setting_of site.entry) (Local i) b.old b.new r.0) }
+    ensures emitted { IfOk result (λ r. EmitsRead (setting_of site.entry) (setting_of site.entry).variables i (Local i) b.old b.new r.0) }
     ensures lined { OwnLines site.entry.line b.old b.new }
 {
     if i < site.frame.locals.params {
@@ -90,4 +94,29 @@ pub(crate) fn emit_local(b: &mut Emitter, site: Site, i: usize) -> Result<Reg, M
     let flag = site.frame.locals.flag(i);
     emit_flag_test(b, site.alloc, flag, site.locals[i].name.as_str(), site.line)?;
     Ok(Reg(i))
+}
+
+// Whether values of a type may be None.
+fn may_be_none(t: &Ty) -> bool
+    ensures { result ≡ is_optional (sort t.now) }
+{
+    matches!(t, Ty::Optional(_))
+}
+
+/// The value of a variable that is read as one of a type: one that may be None and is known not to be is read as one of the type that
+/// it has else (PEP 484, "Union types").
+pub(crate) fn emit_local_as(b: &mut Emitter, site: Site, i: usize, t: &Ty) -> Result<Reg, Memory>
+    requires there { i < length site.locals.now }
+    requires reads { ReadsLocal (setting_of site) i (sort t.now) }
+    requires room { HasRoom (setting_of site) b.old }
+    ensures kept { Extends b.old b.new }
+    ensures emitted { IfOk result (λ r. TakesLocal (setting_of site.entry) i (sort t.now) b.old b.new r.0) }
+    ensures lined { OwnLines site.entry.line b.old b.new }
+{
+    let x = emit_local(b, site, i)?;
+    if may_be_none(&site.locals[i].ty) {
+        emit_unboxed(b, site.alloc, t, x, site.line)
+    } else {
+        Ok(x)
+    }
 }

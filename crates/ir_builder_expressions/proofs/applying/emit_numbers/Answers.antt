@@ -1,6 +1,12 @@
-use Rattle.ir_builder_expressions.proofs.Common.{sort, typed_expr, Reg, ok_map, type_kept, part_sort}
+use Rattle.ir_builder_expressions.proofs.Common.{sort, typed_expr, Reg, ok_map, extends_trans, type_kept, part_sort}
 use Rattle.ir_builder_expressions.proofs.NumberLemmas.{arithmetic_ready, arithmetic_attempts, numbers_attempt}
 use Rattle.ir_builder_expressions.proofs.applying.emit_numbers.Goals as goal
+
+pub emit_coerced-requires-2-clause-value : goal.emit_coerced-requires-2-clause-value
+emit_coerced-requires-2-clause-value c = type_kept _ _ _ _ c.in_ok-first.ensures.kept c.requires.right_value
+
+pub returns-in_err-second-clause-kept : goal.returns-in_err-second-clause-kept
+returns-in_err-second-clause-kept c = extends_trans _ _ _ c.in_ok-first.ensures.kept c.in_err-second.ensures.kept
 
 pub emit_operation-requires : goal.emit_operation-requires
 emit_operation-requires c =
@@ -12,3 +18,9 @@ pub returns-clause-made : goal.returns-clause-made
 returns-clause-made c =
     let t = sort c.args.t.now in
     ok_map _ _ _ (λ (r : Reg) a. numbers_attempt t (part_sort t (typed_expr c.args.left.now)) (part_sort t (typed_expr c.args.right.now)) c.args.op _ _ _ _ _ _ _ _ r.0 c.requires.whole c.requires.left_value c.requires.right_value c.in_ok-first.ensures.made c.in_ok-second.ensures.made (arithmetic_attempts t c.args.op _ _ r.0 c.in_ok-first.first c.in_ok-second.second c.requires.whole a)) (rw c.arithmetic_on-operation.ensures at c.emit_operation.ensures.made)
+
+pub returns-clause-kept : goal.returns-clause-kept
+returns-clause-kept c = extends_trans _ _ _ c.in_ok-first.ensures.kept (extends_trans _ _ _ c.in_ok-second.ensures.kept c.emit_operation.ensures.kept)
+
+pub returns-clause-lined : goal.returns-clause-lined
+returns-clause-lined c k i x other at = c.in_ok-first.ensures.lined k i x other (c.in_ok-second.ensures.lined k i x other (c.emit_operation.ensures.lined k i x other at))

@@ -1,19 +1,19 @@
-use Rattle.ir_builder_expressions.proofs.Common.{◌≡◌, true, subst, rules, refl, sym, ◌∙◌, ap, ◌+◌, ◌-◌, arith, length, map, drop, take, IfOk, List, Some, length-map, w128, sort, typed_expr, Variable, TypedModule, typed_module, variable, Reg, Setting, setting_of, Lit, Number, Holds, IntVal, StrVal, Makes, Adds, ok_map, extends_refl, extends_trans, type_kept, room_on, arm_of, EmitsChoice, Side, is_pair, kind_sort, one, two, seen, part_sort, node_in}
+use Rattle.ir_builder_expressions.proofs.Common.{HaveTypes, objects, ◌≡◌, true, subst, rules, refl, sym, ◌∙◌, ap, ◌+◌, ◌-◌, arith, length, map, drop, take, IfOk, List, Some, length-map, w128, sort, typed_expr, Variable, TypedModule, typed_module, variable, Reg, Setting, setting_of, Lit, Number, Holds, IntVal, StrVal, Makes, Adds, ok_map, extends_refl, extends_trans, type_kept, room_on, arm_of, EmitsChoice, Side, is_pair, kind_sort, one, two, seen, part_sort, node_in, wanted_one, wanted_two, type_of}
 use Rattle.std.proofs.lemmas.Int.{to_z-of_z}
 use Rattle.ir_core.specs.declared.code.RType.TheVariants as rtype
 use Rattle.ir_builder_choices.proofs.OpenLemmas.{meet_ready}
-use Rattle.ir_builder_expressions.proofs.ArgumentLemmas.{argument_suits, passing_none, passing_on, passing_ends}
+use Rattle.ir_builder_expressions.proofs.ArgumentLemmas.{argument_suits, passing_none, passing_on, passing_ends, holding_none, holding_on, holding_ends, holding_count, boxed_value, boxed_emits}
 use Rattle.ir_builder_expressions.proofs.GoingLemmas.{going_start, going_at, going_on, going_over, first_suits, item_suits, chain_empty, Chain}
 use Rattle.ir_builder_expressions.proofs.SideLemmas.{side_emits}
 use Rattle.ir_builder_expressions.proofs.WeightLemmas.{weight, weight_of_arm, member_weight, first_weight, later_weight}
 use Rattle.ir_builder_expressions.proofs.UnsuitedLemmas.{applied_left}
 use Rattle.ir_builder_expressions.proofs.AppliedLemmas.{applied_weight, applied_above, one_suits, two_suit, applied_emits}
-use Rattle.ir_builder_expressions.proofs.WalkLemmas.{int_within, int_walked, text_walked, input_walked, flag_walked, local_below, global_simple, read_walked, compare_part, compare_rest, compare_walked, call_suits, call_fits, call_walked}
-use Rattle.ir_builder_expressions.proofs.PieceLemmas.{int_fits, native_is, native_part, own_part, one_emits, two_emit}
-use Rattle.ir_builder_expressions.proofs.ArmLemmas.{emits_node, is_int, is_text, is_bool, is_local, is_global, is_input, is_compare, is_and, is_or, is_cond, is_call, and_asked, or_asked, cond_asked}
+use Rattle.ir_builder_expressions.proofs.WalkLemmas.{int_within, int_walked, text_walked, input_walked, flag_walked, local_below, global_below, local_reads, local_walked, global_walked, nothing_walked, list_walked, tuple_walked, behind_slice, list_suits, tuple_suits, compare_part, compare_rest, compare_walked, call_suits, call_fits, call_walked}
+use Rattle.ir_builder_expressions.proofs.PieceLemmas.{int_fits, wanted_part, native_is, native_part, own_part, one_emits, two_emit}
+use Rattle.ir_builder_expressions.proofs.ArmLemmas.{emits_node, is_int, is_text, is_bool, is_local, is_global, is_input, is_nothing, is_list, is_tuple, is_compare, is_and, is_or, is_cond, is_call, and_asked, or_asked, cond_asked}
 use Rattle.ir_builder_expressions.proofs.ChosenLemmas.{arm_asked, arm_there, arm_missing, test_written, tested_type, arm_typed, choice_made}
 use Rattle.ir_builder_frames.proofs.HeldLemmas.{on_ok_map}
-use Rattle.ir_builder_expressions.proofs.LinedLemmas.{always, around_by, lined_first, lined_then, lined_leaf, ok_lined, ok_to, lined_one, lined_two, lined_node, lined_whole, lined_literal, lined_applied, listed_of, operands_of_all, rest_start, argument_lined, arguments_lined, chain_started, chain_next, chain_over, chain_none, arm_lined, arm_none, choice_lined}
+use Rattle.ir_builder_expressions.proofs.LinedLemmas.{always, around_by, lined_first, lined_then, lined_leaf, ok_lined, ok_to, lined_one, lined_two, lined_node, lined_whole, lined_literal, lined_applied, listed_of, operands_of_all, rest_start, rest_own, argument_lined, arguments_lined, chain_started, chain_next, chain_over, chain_none, arm_lined, arm_none, choice_lined}
 use Rattle.ir_builder_expressions.proofs.expression.+expression.Goals as goal
 
 pub emit_expression-emit_side-requires : goal.emit_expression-emit_side-requires
@@ -58,14 +58,14 @@ emit_expression-returns-in-Str t c =
 pub emit_expression-emit_global_value-requires : goal.emit_expression-emit_global_value-requires
 emit_expression-emit_global_value-requires t c =
     let x : Setting = setting_of c.args.site in
-    record { simple = global_simple x c.args.e.now c.requires.suits c.in-Global.i (is_global c.args.e.now c.in-Global.i c.in-Global.is); room = c.requires.room }
+    record { there = rw (sym (length-map c.args.site.checked.now.globals variable)) (global_below x c.args.e.now c.requires.suits c.in-Global.i (is_global c.args.e.now c.in-Global.i c.in-Global.is)); room = c.requires.room }
 
 pub emit_expression-returns-in-Global : goal.emit_expression-returns-in-Global
 emit_expression-returns-in-Global t c =
     let x : Setting = setting_of c.args.site in
     let is = is_global c.args.e.now c.in-Global.i c.in-Global.is in
     let e = c.emit_global_value.ensures in
-    record { lined = always _ _ (lined_leaf x c.args.e.now _ _ _ is refl e.kept e.lined); kept = e.kept; emitted = ok_map _ _ _ (λ (r : Reg) q. read_walked x c.args.e.now c.requires.suits _ _ _ r.0 is q) e.emitted }
+    record { lined = always _ _ (lined_leaf x c.args.e.now _ _ _ is refl e.kept e.lined); kept = e.kept; emitted = ok_map _ _ _ (λ (r : Reg) q. global_walked x c.args.e.now c.requires.suits _ _ _ r.0 is q) e.emitted }
 
 pub emit_expression-returns-in-Input : goal.emit_expression-returns-in-Input
 emit_expression-returns-in-Input t c =
@@ -80,7 +80,7 @@ emit_expression-emit_applied-requires t c =
     let vs : List Variable = map variable c.args.site.locals.now in
     let x : Setting = setting_of c.args.site in
     let d = c.in_default in
-    let is = applied_left m vs c.args.e.now c.requires.suits d.not-Int d.not-Str d.not-Bool d.not-Local d.not-Global d.not-Compare d.not-And d.not-Or d.not-Cond d.not-Call d.not-Input in
+    let is = applied_left m vs c.args.e.now c.requires.suits d.not-Int d.not-Str d.not-Bool d.not-Nothing d.not-Local d.not-Global d.not-Compare d.not-And d.not-Or d.not-Cond d.not-List d.not-Tuple d.not-Call d.not-Input in
     let h = applied_above x c.args.e.now c.requires.suits is in
     (omega (arith, h.1), (is, (c.requires.suits, c.requires.room)))
 
@@ -127,17 +127,25 @@ emit_expression-returns-in-Bool t c =
     let e = c.literal.ensures in
     record { lined = always _ _ (lined_leaf x c.args.e.now _ _ _ is refl e.kept e.lined); kept = e.kept; emitted = ok_map _ _ _ (λ (r : Reg) a. flag_walked x c.args.e.now c.requires.suits c.in-Bool.value _ _ r.0 is a) (rw c.truth.ensures.is at e.added) }
 
-pub emit_expression-emit_local-requires-clause-there : goal.emit_expression-emit_local-requires-clause-there
-emit_expression-emit_local-requires-clause-there t c =
+pub emit_expression-emit_local_as-requires : goal.emit_expression-emit_local_as-requires
+emit_expression-emit_local_as-requires t c =
     let x : Setting = setting_of c.args.site in
-    rw (sym (length-map c.args.site.locals.now variable)) (local_below x c.args.e.now c.requires.suits c.in-Local.i (is_local c.args.e.now c.in-Local.i c.in-Local.is))
+    let is = is_local c.args.e.now c.in-Local.i c.in-Local.is in
+    record { there = rw (sym (length-map c.args.site.locals.now variable)) (local_below x c.args.e.now c.requires.suits c.in-Local.i is); reads = local_reads x c.args.e.now c.requires.suits c.in-Local.i is; room = c.requires.room }
 
 pub emit_expression-returns-in-Local : goal.emit_expression-returns-in-Local
 emit_expression-returns-in-Local t c =
     let x : Setting = setting_of c.args.site in
     let is = is_local c.args.e.now c.in-Local.i c.in-Local.is in
-    let e = c.emit_local.ensures in
-    record { lined = always _ _ (lined_leaf x c.args.e.now _ _ _ is refl e.kept e.lined); kept = e.kept; emitted = ok_map _ _ _ (λ (r : Reg) q. read_walked x c.args.e.now c.requires.suits _ _ _ r.0 is q) e.emitted }
+    let e = c.emit_local_as.ensures in
+    record { lined = always _ _ (lined_leaf x c.args.e.now _ _ _ is refl e.kept e.lined); kept = e.kept; emitted = ok_map _ _ _ (λ (r : Reg) q. local_walked x c.args.e.now c.requires.suits _ _ _ r.0 is q) e.emitted }
+
+pub emit_expression-returns-in-Nothing : goal.emit_expression-returns-in-Nothing
+emit_expression-returns-in-Nothing t c =
+    let x : Setting = setting_of c.args.site in
+    let is = is_nothing c.args.e.now c.in-Nothing.is in
+    let e = c.literal-in-Nothing.ensures in
+    record { lined = always _ _ (lined_leaf x c.args.e.now _ _ _ is refl e.kept e.lined); kept = e.kept; emitted = ok_map _ _ _ (λ (r : Reg) a. nothing_walked x c.args.e.now c.requires.suits _ _ r.0 is a) e.added }
 
 pub emit_expression-emit_choice-requires : goal.emit_expression-emit_choice-requires
 emit_expression-emit_choice-requires t c =
@@ -215,6 +223,12 @@ emit_arguments-emit_expression-requires t c =
     let h0 = member_weight c.args.args.now c.loop-e.e-index c.e-item.result c.loop-e-test.true c.e-item.is in
     (omega arith, ((argument_suits m vs c.args.args.now c.loop-e.e-index c.e-item.result c.loop-e-test.true c.e-item.is c.loop-e.invariant.passing.suits).0, (room_on _ _ _ c.loop-e.invariant.passing.emitted.extends c.requires.room)))
 
+pub emit_arguments-returns-in_err-r-clause-kept : goal.emit_arguments-returns-in_err-r-clause-kept
+emit_arguments-returns-in_err-r-clause-kept t c = extends_trans _ _ _ c.loop-e.invariant.passing.emitted.extends c.in_err-r.ensures.kept
+
+pub emit_arguments-returns-in_err-push-clause-kept : goal.emit_arguments-returns-in_err-push-clause-kept
+emit_arguments-returns-in_err-push-clause-kept t c = extends_trans _ _ _ c.loop-e.invariant.passing.emitted.extends c.in_ok-r.ensures.kept
+
 pub emit_arguments-loop-e-preserved : goal.emit_arguments-loop-e-preserved
 emit_arguments-loop-e-preserved t c =
     let x : Setting = setting_of c.args.site in
@@ -225,6 +239,77 @@ pub emit_arguments-returns : goal.emit_arguments-returns
 emit_arguments-returns t c =
     let x : Setting = setting_of c.args.site in
     record { lined = arguments_lined x c.args.site.line c.args.args.now c.loop-e.e-index c.args.b.now c.loop-e.b c.loop-e-test.false c.loop-e.invariant.lined; kept = c.loop-e.invariant.passing.emitted.extends; emitted = passing_ends x c.args.args.now c.loop-e.e-index c.args.b.now c.loop-e.b c.loop-e.regs c.loop-e-test.false c.loop-e.invariant.passing }
+
+pub emit_objects-loop-e-init : goal.emit_objects-loop-e-init
+emit_objects-loop-e-init t c =
+    let x : Setting = setting_of c.args.site in
+    record { holding = rw c.new-regs.ensures (holding_none x c.args.items.now c.args.b.now c.requires.suits); lined = rest_start x c.args.site.line (listed_of c.args.items.now) c.args.b.now }
+
+pub emit_objects-emit_expression-requires : goal.emit_objects-emit_expression-requires
+emit_objects-emit_expression-requires t c =
+    let m : TypedModule = typed_module c.args.site.checked.now in
+    let vs : List Variable = map variable c.args.site.locals.now in
+    let h0 = member_weight c.args.items.now c.loop-e.e-index c.e-item.result c.loop-e-test.true c.e-item.is in
+    (omega arith, ((argument_suits m vs c.args.items.now c.loop-e.e-index c.e-item.result c.loop-e-test.true c.e-item.is c.loop-e.invariant.holding.suits).0, (room_on _ _ _ c.loop-e.invariant.holding.emitted.extends c.requires.room)))
+
+pub emit_objects-emit_boxed-requires : goal.emit_objects-emit_boxed-requires
+emit_objects-emit_boxed-requires t c = record { value = boxed_value c.e-item.result _ _ c.in_ok-x.ensures.emitted }
+
+pub emit_objects-loop-e-preserved : goal.emit_objects-loop-e-preserved
+emit_objects-loop-e-preserved t c =
+    let x : Setting = setting_of c.args.site in
+    let e = c.in_ok-x.ensures in
+    let o = c.in_ok-r.ensures in
+    let room = room_on x _ _ c.loop-e.invariant.holding.emitted.extends c.requires.room in
+    let one = boxed_emits x c.e-item.result _ _ _ c.in_ok-x.x.0 c.in_ok-r.r.0 room e.emitted o.made in
+    record { holding = holding_on x c.args.items.now c.loop-e.e-index c.e-item.result c.args.b.now c.loop-e.b _ c.loop-e.regs _ c.in_ok-r.r c.loop-e-test.true c.e-item.is c.requires.room c.loop-e.invariant.holding one c.in_ok-push.ensures.ok; lined = rest_own x c.args.site.line _ _ _ _ _ (argument_lined x c.args.site.line c.args.items.now c.loop-e.e-index c.e-item.result c.args.b.now c.loop-e.b _ c.in_ok-x.x.0 c.loop-e-test.true c.e-item.is c.loop-e.invariant.lined e.emitted e.lined) (around_by _ _ _ o.kept o.lined) }
+
+pub emit_objects-returns : goal.emit_objects-returns
+emit_objects-returns t c =
+    let x : Setting = setting_of c.args.site in
+    record { lined = arguments_lined x c.args.site.line c.args.items.now c.loop-e.e-index c.args.b.now c.loop-e.b c.loop-e-test.false c.loop-e.invariant.lined; kept = c.loop-e.invariant.holding.emitted.extends; emitted = holding_ends x c.args.items.now c.loop-e.e-index c.args.b.now c.loop-e.b c.loop-e.regs c.loop-e-test.false c.loop-e.invariant.holding; count = holding_count x c.args.items.now c.loop-e.e-index c.args.b.now c.loop-e.b c.loop-e.regs c.loop-e.auto.e-index-end c.loop-e-test.false c.loop-e.invariant.holding }
+
+pub emit_expression-emit_objects-requires : goal.emit_expression-emit_objects-requires
+emit_expression-emit_objects-requires t c =
+    let x : Setting = setting_of c.args.site in
+    let is = is_list c.args.e.now c.in-List.items _ c.in-List.is c.as_slice-in-List.ensures in
+    (omega (arith, ap weight is), (list_suits x c.args.e.now c.requires.suits _ is, c.requires.room))
+
+pub emit_expression-emit_objects-requires-in-Tuple : goal.emit_expression-emit_objects-requires-in-Tuple
+emit_expression-emit_objects-requires-in-Tuple t c =
+    let x : Setting = setting_of c.args.site in
+    let is = is_tuple c.args.e.now c.in-Tuple.parts _ c.in-Tuple.is c.as_slice-in-Tuple.ensures in
+    (omega (arith, ap weight is), ((tuple_suits x c.args.e.now c.requires.suits _ is).2, c.requires.room))
+
+pub emit_expression-emit_list-requires : goal.emit_expression-emit_list-requires
+emit_expression-emit_list-requires t c =
+    let P : List Reg → Type 0 = λ rs. HaveTypes c.emit_objects.new.b.regs (objects rs) rs in
+    record { items = subst P (sym c.as_slice-in-List-2.ensures) c.in_ok-items-in-List.ensures.emitted.types }
+
+pub emit_expression-emit_tuple-requires : goal.emit_expression-emit_tuple-requires
+emit_expression-emit_tuple-requires t c =
+    let x : Setting = setting_of c.args.site in
+    let is = is_tuple c.args.e.now c.in-Tuple.parts _ c.in-Tuple.is c.as_slice-in-Tuple.ensures in
+    let few = tuple_suits x c.args.e.now c.requires.suits _ is in
+    let count = ap length c.as_slice-in-Tuple-2.ensures ∙ c.in_ok-parts-in-Tuple.ensures.count in
+    let P : List Reg → Type 0 = λ rs. HaveTypes c.emit_objects-in-Tuple.new.b.regs (objects rs) rs in
+    record { some = omega (arith, few.0, count); few = omega (arith, few.1, count); parts = subst P (sym c.as_slice-in-Tuple-2.ensures) c.in_ok-parts-in-Tuple.ensures.emitted.types }
+
+pub emit_expression-returns-in_ok-items-in-List : goal.emit_expression-returns-in_ok-items-in-List
+emit_expression-returns-in_ok-items-in-List t c =
+    let x : Setting = setting_of c.args.site in
+    let is = is_list c.args.e.now c.in-List.items _ c.in-List.is c.as_slice-in-List.ensures in
+    let all = c.in_ok-items-in-List.ensures in
+    let e = c.emit_list.ensures in
+    record { lined = always _ _ (lined_node x c.args.e.now _ _ _ is (lined_then all.lined (around_by _ _ _ e.kept e.lined))); kept = extends_trans _ _ _ all.kept e.kept; emitted = ok_map _ _ _ (λ (r : Reg) a. list_walked x c.args.e.now c.requires.suits _ _ _ _ _ r.0 c.requires.room all.emitted is (behind_slice _ _ _ _ r.0 _ c.as_slice-in-List-2.ensures a)) e.made }
+
+pub emit_expression-returns-in_ok-parts-in-Tuple : goal.emit_expression-returns-in_ok-parts-in-Tuple
+emit_expression-returns-in_ok-parts-in-Tuple t c =
+    let x : Setting = setting_of c.args.site in
+    let is = is_tuple c.args.e.now c.in-Tuple.parts _ c.in-Tuple.is c.as_slice-in-Tuple.ensures in
+    let all = c.in_ok-parts-in-Tuple.ensures in
+    let e = c.emit_tuple.ensures in
+    record { lined = always _ _ (lined_node x c.args.e.now _ _ _ is (lined_then all.lined (around_by _ _ _ e.kept e.lined))); kept = extends_trans _ _ _ all.kept e.kept; emitted = ok_map _ _ _ (λ (r : Reg) a. tuple_walked x c.args.e.now c.requires.suits _ _ _ _ _ r.0 c.requires.room all.emitted is (behind_slice _ _ _ _ r.0 _ c.as_slice-in-Tuple-2.ensures a)) e.made }
 
 pub emit_choice-emit_expression-requires : goal.emit_choice-emit_expression-requires
 emit_choice-emit_expression-requires t c =
@@ -267,6 +352,15 @@ emit_choice-meet-requires t c =
       second = r.1.1.1.1.0;
       here = r.1.1.1.1.1;
     }
+
+pub emit_choice-returns-in_err-condition-clause-kept : goal.emit_choice-returns-in_err-condition-clause-kept
+emit_choice-returns-in_err-condition-clause-kept t c = extends_trans _ _ _ c.in_ok-tested.ensures.kept c.in_err-condition.ensures.kept
+
+pub emit_choice-returns-in_err-choice-clause-kept : goal.emit_choice-returns-in_err-choice-clause-kept
+emit_choice-returns-in_err-choice-clause-kept t c = extends_trans _ _ _ c.in_ok-tested.ensures.kept (extends_trans _ _ _ c.in_ok-condition.ensures.kept c.in_err-choice.ensures.kept)
+
+pub emit_choice-returns-in_err-x-clause-kept : goal.emit_choice-returns-in_err-x-clause-kept
+emit_choice-returns-in_err-x-clause-kept t c = extends_trans _ _ _ c.in_ok-tested.ensures.kept (extends_trans _ _ _ c.in_ok-condition.ensures.kept (extends_trans _ _ _ c.in_ok-choice.ensures.kept c.in_err-x.ensures.kept))
 
 pub emit_choice-returns-in_err-end-clause-kept : goal.emit_choice-returns-in_err-end-clause-kept
 emit_choice-returns-in_err-end-clause-kept t c = extends_trans _ _ _ c.in_ok-tested.ensures.kept (extends_trans _ _ _ c.in_ok-condition.ensures.kept (extends_trans _ _ _ c.in_ok-choice.ensures.kept (extends_trans _ _ _ c.in_ok-x.ensures.kept c.in_err-end.ensures.kept)))
@@ -323,24 +417,42 @@ emit_part-returns-in-None t c =
     let e = c.emit_expression.ensures in
     record { lined = e.lined; kept = e.kept; emitted = ok_map _ _ _ (λ (r : Reg) q. own_part x (sort c.args.t.now) (typed_expr c.args.e.now) _ _ r.0 (sym c.native_literal.ensures ∙ c.in-None.is) q) e.emitted }
 
+pub emit_one_part-emit_unary-requires : goal.emit_one_part-emit_unary-requires
+emit_one_part-emit_unary-requires t c =
+    let x : Setting = setting_of c.args.site in
+    let part = wanted_part x _ _ (typed_expr c.args.e.now) _ _ _ c.wanted_of_part.ensures c.in_ok-x.ensures.emitted in
+    record { fits = c.requires.fits; value = part.type }
+
 pub emit_one_part-returns : goal.emit_one_part-returns
 emit_one_part-returns t c =
     let x : Setting = setting_of c.args.site in
     let e = c.emit_unary.ensures in
-    record { lined = always _ _ (lined_one x c.args.site.line (typed_expr c.args.e.now) _ _ _ (part_sort (sort c.args.t.now) (typed_expr c.args.e.now), c.in_ok-x.x.0, c.in_ok-x.ensures.emitted) c.in_ok-x.ensures.lined e.kept e.lined); kept = extends_trans _ _ _ c.in_ok-x.ensures.kept e.kept; emitted = ok_map _ _ _ (λ (r : Reg) a. one_emits x c.args.op (sort c.args.t.now) (typed_expr c.args.e.now) _ _ _ _ r.0 c.requires.room c.in_ok-x.ensures.emitted a) e.made }
+    let u = wanted_one c.args.op (sort c.args.t.now) (type_of (typed_expr c.args.e.now)) in
+    let part = wanted_part x _ u (typed_expr c.args.e.now) _ _ _ c.wanted_of_part.ensures c.in_ok-x.ensures.emitted in
+    record { lined = always _ _ (lined_one x c.args.site.line (typed_expr c.args.e.now) _ _ _ (part_sort u (typed_expr c.args.e.now), c.in_ok-x.x.0, part) c.in_ok-x.ensures.lined e.kept e.lined); kept = extends_trans _ _ _ c.in_ok-x.ensures.kept e.kept; emitted = ok_map _ _ _ (λ (r : Reg) a. one_emits x c.args.op u (sort c.args.t.now) (typed_expr c.args.e.now) _ _ _ _ r.0 c.requires.room part a) e.made }
 
 pub emit_two_parts-emit_part-requires-2 : goal.emit_two_parts-emit_part-requires-2
 emit_two_parts-emit_part-requires-2 t c =
     (omega arith, (c.requires.right, room_on _ _ _ c.in_ok-x.ensures.kept c.requires.room))
 
+pub emit_two_parts-returns-in_err-y-clause-kept : goal.emit_two_parts-returns-in_err-y-clause-kept
+emit_two_parts-returns-in_err-y-clause-kept t c = extends_trans _ _ _ c.in_ok-x.ensures.kept c.in_err-y.ensures.kept
+
 pub emit_two_parts-emit_binary-requires : goal.emit_two_parts-emit_binary-requires
-emit_two_parts-emit_binary-requires t c = record { fits = c.requires.fits; left_value = type_kept _ _ _ _ c.in_ok-y.ensures.kept c.in_ok-x.ensures.emitted.type; right_value = c.in_ok-y.ensures.emitted.type }
+emit_two_parts-emit_binary-requires t c =
+    let x : Setting = setting_of c.args.site in
+    let left = wanted_part x _ _ (typed_expr c.args.left.now) _ _ _ c.wanted_of_parts-wanted.ensures c.in_ok-x.ensures.emitted in
+    let right = wanted_part x _ _ (typed_expr c.args.right.now) _ _ _ c.wanted_of_parts-wanted.ensures c.in_ok-y.ensures.emitted in
+    record { fits = c.requires.fits; left_value = type_kept _ _ _ _ c.in_ok-y.ensures.kept left.type; right_value = right.type }
 
 pub emit_two_parts-returns : goal.emit_two_parts-returns
 emit_two_parts-returns t c =
     let x : Setting = setting_of c.args.site in
     let e = c.emit_binary.ensures in
-    record { lined = always _ _ (lined_two x c.args.site.line (typed_expr c.args.left.now) (typed_expr c.args.right.now) _ _ _ _ (part_sort (sort c.args.t.now) (typed_expr c.args.left.now), c.in_ok-x.x.0, c.in_ok-x.ensures.emitted) c.in_ok-x.ensures.lined (part_sort (sort c.args.t.now) (typed_expr c.args.right.now), c.in_ok-y.y.0, c.in_ok-y.ensures.emitted) c.in_ok-y.ensures.lined e.kept e.lined); kept = extends_trans _ _ _ c.in_ok-x.ensures.kept (extends_trans _ _ _ c.in_ok-y.ensures.kept e.kept); emitted = ok_map _ _ _ (λ (r : Reg) a. two_emit x c.args.op (sort c.args.t.now) (typed_expr c.args.left.now) (typed_expr c.args.right.now) _ _ _ _ _ _ r.0 c.requires.room c.in_ok-x.ensures.emitted c.in_ok-y.ensures.emitted a) e.made }
+    let u = wanted_two c.args.op (sort c.args.t.now) (type_of (typed_expr c.args.left.now)) in
+    let left = wanted_part x _ u (typed_expr c.args.left.now) _ _ _ c.wanted_of_parts-wanted.ensures c.in_ok-x.ensures.emitted in
+    let right = wanted_part x _ u (typed_expr c.args.right.now) _ _ _ c.wanted_of_parts-wanted.ensures c.in_ok-y.ensures.emitted in
+    record { lined = always _ _ (lined_two x c.args.site.line (typed_expr c.args.left.now) (typed_expr c.args.right.now) _ _ _ _ (part_sort u (typed_expr c.args.left.now), c.in_ok-x.x.0, left) c.in_ok-x.ensures.lined (part_sort u (typed_expr c.args.right.now), c.in_ok-y.y.0, right) c.in_ok-y.ensures.lined e.kept e.lined); kept = extends_trans _ _ _ c.in_ok-x.ensures.kept (extends_trans _ _ _ c.in_ok-y.ensures.kept e.kept); emitted = ok_map _ _ _ (λ (r : Reg) a. two_emit x c.args.op u (sort c.args.t.now) (typed_expr c.args.left.now) (typed_expr c.args.right.now) _ _ _ _ _ _ r.0 c.requires.room left right a) e.made }
 
 pub emit_side-returns : goal.emit_side-returns
 emit_side-returns t c =
@@ -368,6 +480,12 @@ emit_chain-emit_pair-requires t c =
     let side = c.in_ok-left-in-len1-up.ensures.emitted in
     record { ordering = k.0; compared = subst (λ z. is_pair (kind_sort c.args.first.own) z ≡ true) (sym side.own) k.1; left_shown = c.requires.shown; right_shown = side.shown; left = type_kept _ _ _ _ c.in_ok-left-in-len1-up.ensures.kept c.requires.first; right = side.emits.type }
 
+pub emit_chain-returns-in_err-holds-in-len1-up-clause-kept : goal.emit_chain-returns-in_err-holds-in-len1-up-clause-kept
+emit_chain-returns-in_err-holds-in-len1-up-clause-kept t c = extends_trans _ _ _ c.in_ok-left-in-len1-up.ensures.kept c.in_err-holds-in-len1-up.ensures.kept
+
+pub emit_chain-returns-in_err-holds-in-len1-up-clause-lined : goal.emit_chain-returns-in_err-holds-in-len1-up-clause-lined
+emit_chain-returns-in_err-holds-in-len1-up-clause-lined t c = search rules
+
 pub emit_chain-loop-op-init : goal.emit_chain-loop-op-init
 emit_chain-loop-op-init t c =
     let x : Setting = setting_of c.args.site in
@@ -390,6 +508,9 @@ emit_chain-emit_pair-requires-in-loop-op t c =
     let k = item_suits x (kind_sort c.loop-op.left.own) more c.loop-op.op-index c.loop-op-item.result c.loop-op-test.true c.loop-op-item.is c.loop-op.invariant.going.suits in
     let side = c.in_ok-right-in-len1-up.ensures.emitted in
     record { ordering = k.0; compared = subst (λ z. is_pair (kind_sort c.loop-op.left.own) z ≡ true) (sym side.own) k.1; left_shown = c.loop-op.invariant.going.shown; right_shown = side.shown; left = type_kept _ _ _ _ (extends_trans _ _ _ c.in_ok-begin_link-in-len1-up.ensures.kept c.in_ok-right-in-len1-up.ensures.kept) c.loop-op.invariant.going.operand; right = side.emits.type }
+
+pub emit_chain-returns-in_err-begin_link-in-len1-up-clause-kept : goal.emit_chain-returns-in_err-begin_link-in-len1-up-clause-kept
+emit_chain-returns-in_err-begin_link-in-len1-up-clause-kept t c = extends_trans _ _ _ c.loop-op.invariant.going.kept c.in_err-begin_link-in-len1-up.ensures.kept
 
 pub emit_chain-returns-in_err-right-in-len1-up-clause-kept : goal.emit_chain-returns-in_err-right-in-len1-up-clause-kept
 emit_chain-returns-in_err-right-in-len1-up-clause-kept t c = extends_trans _ _ _ c.loop-op.invariant.going.kept (extends_trans _ _ _ c.in_ok-begin_link-in-len1-up.ensures.kept c.in_err-right-in-len1-up.ensures.kept)

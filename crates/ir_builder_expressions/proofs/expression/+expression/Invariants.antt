@@ -1,6 +1,6 @@
 use Rattle.ir_builder_expressions.proofs.Common.{◌+◌, ◌-◌, ◌*◌, drop, setting_of}
 use Rattle.ir_builder_expressions.proofs.WeightLemmas.{weight_of, weight_of_arm, weight_of_all, weight_of_chain}
-use Rattle.ir_builder_expressions.proofs.ArgumentLemmas.{Passing}
+use Rattle.ir_builder_expressions.proofs.ArgumentLemmas.{Passing, Holding}
 use Rattle.ir_builder_expressions.proofs.GoingLemmas.{Going}
 use Rattle.ir_builder_expressions.proofs.LinedLemmas.{LinedRest, listed_of, operands_of_all}
 use Rattle.ir_builder_expressions.proofs.expression.+expression.Given as goal
@@ -26,6 +26,9 @@ decreases-emit_side l = weight_of l.e.now * 4 + 2
 abbrev pub decreases-emit_arguments : goal.decreases-emit_arguments
 decreases-emit_arguments l = weight_of_all l.args.now * 4 + 1
 
+abbrev pub decreases-emit_objects : goal.decreases-emit_objects
+decreases-emit_objects l = weight_of_all l.items.now * 4 + 1
+
 abbrev pub decreases-emit_choice : goal.decreases-emit_choice
 decreases-emit_choice l = (weight_of l.test.now + weight_of_arm l.body + weight_of_arm l.other) * 4 + 2
 
@@ -39,6 +42,12 @@ abbrev pub invariant-emit_arguments-loop-e : goal.invariant-emit_arguments-loop-
 invariant-emit_arguments-loop-e l = record {
   passing : Passing (setting_of l.site) l.args l.e-index l.fn.b l.b l.regs;
   lined : LinedRest (setting_of l.site) l.site.line (listed_of l.args) (listed_of (drop l.e-index l.args)) l.fn.b l.b;
+}
+
+abbrev pub invariant-emit_objects-loop-e : goal.invariant-emit_objects-loop-e
+invariant-emit_objects-loop-e l = record {
+  holding : Holding (setting_of l.site) l.items l.e-index l.fn.b l.b l.regs;
+  lined : LinedRest (setting_of l.site) l.site.line (listed_of l.items) (listed_of (drop l.e-index l.items)) l.fn.b l.b;
 }
 
 abbrev pub invariant-emit_chain-loop-op : goal.invariant-emit_chain-loop-op

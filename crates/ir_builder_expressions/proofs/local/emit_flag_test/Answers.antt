@@ -1,6 +1,15 @@
 use Rattle.ir_builder_expressions.proofs.ReadingLemmas.{may_test, tests_set}
-use Rattle.std.proofs.Common.{refl}
+use Rattle.ir_builder_expressions.proofs.Common.{refl, extends_trans}
 use Rattle.ir_builder_expressions.proofs.local.emit_flag_test.Goals as goal
+
+pub returns-in_err-emit_unbound-clause-kept : goal.returns-in_err-emit_unbound-clause-kept
+returns-in_err-emit_unbound-clause-kept c = extends_trans _ _ _ c.in_ok-test.ensures.kept (extends_trans _ _ _ c.in_ok-close.ensures.kept c.in_err-emit_unbound.ensures.kept)
+
+pub returns-in_err-literal-clause-kept : goal.returns-in_err-literal-clause-kept
+returns-in_err-literal-clause-kept c = extends_trans _ _ _ c.in_ok-test.ensures.kept (extends_trans _ _ _ c.in_ok-close.ensures.kept (extends_trans _ _ _ c.in_ok-emit_unbound.ensures.kept c.in_err-literal.ensures.kept))
+
+pub returns-in_err-set-clause-kept : goal.returns-in_err-set-clause-kept
+returns-in_err-set-clause-kept c = extends_trans _ _ _ c.in_ok-test.ensures.kept (extends_trans _ _ _ c.in_ok-close.ensures.kept (extends_trans _ _ _ c.in_ok-emit_unbound.ensures.kept (extends_trans _ _ _ c.in_ok-literal.ensures.kept c.in_err-set.ensures.kept)))
 
 pub patch-requires-clause-fits : goal.patch-requires-clause-fits
 patch-requires-clause-fits c =
