@@ -1,5 +1,5 @@
 -- Expressions alone, and `print`, do in their code what they mean.
-use Rattle.ir_builder_statements.proofs.Common.{◌≡◌, ℕ, true, List, [], ◌∷◌, map, Option, None, refl, sym, ap, ◌∙◌, subst, TExpr, Sort, TypedExpr, typed_expr, type_of, exprs_of, Variable, TypedModule, line_of, typed_node-Print, Reg, Building, Setting, rtype_of, HasRoom, means, Shows, is_written, ArgumentsSuit, SomeSuit, Emits, EmitsAll, means_all, means_alone, Writes, printed, Works, alone_works, works_of, PrintSuits, DoSuits, Is, is_node}
+use Rattle.ir_builder_statements.proofs.Common.{◌≡◌, ℕ, true, List, [], ◌∷◌, map, Option, None, refl, sym, ap, ◌∙◌, subst, TExpr, Sort, TypedExpr, typed_expr, type_of, exprs_of, Variable, TypedModule, line_of, typed_node-Print, Reg, Building, Setting, rtype_of, HasRoom, means, Shows, is_written, SomeSuit, Emits, EmitsAll, means_all, means_alone, Writes, printed, Works, alone_works, works_of, PrintSuits, DoSuits, Is, is_node}
 use Rattle.std.specs.List.{list_all}
 use Rattle.py_typed.specs.declared.expression.TKind as kind
 use Rattle.py_typed.specs.Sorts.{sort as sort_of}
@@ -13,10 +13,9 @@ pub print_is : (e : TExpr) (es all : List TExpr) → e.kind ≡ kind.Print all �
 print_is e es all is same = is_node e _ _ (typed_node-Print all ∙ ap (λ l. tree.Print (exprs_of (map typed_expr l))) (sym same)) is
 
 module _ (m : TypedModule) (vs : List Variable) where
-  -- each value is an argument of its own type
-  values_suit : (es : List TypedExpr) → PrintSuits m vs None (exprs_of es) → ArgumentsSuit m vs (map type_of es) (exprs_of es)
+  values_suit : (es : List TypedExpr) → PrintSuits m vs None (exprs_of es) → SomeSuit m vs es
   values_suit [] h = tt
-  values_suit (e ∷ es) h = (refl, h.1, values_suit es h.2)
+  values_suit (e ∷ es) h = (h.1, values_suit es h.2)
 
   printed_texts : (es : List TypedExpr) → PrintSuits m vs None (exprs_of es) → list_all is_written (map type_of es) ≡ true
   printed_texts [] h = refl
@@ -29,7 +28,7 @@ module _ (m : TypedModule) (vs : List Variable) where
   print_suits e es all is same h =
       let P : TypedExpr → Type 0 = λ z. DoSuits m vs None z in
       let k : PrintSuits m vs None (exprs_of (map typed_expr es)) = subst P (print_is e es all is same) h in
-      ((map type_of (map typed_expr es), values_suit (map typed_expr es) k), printed_texts (map typed_expr es) k)
+      (values_suit (map typed_expr es) k, printed_texts (map typed_expr es) k)
 
 pub print_alone : (x : Setting) (e : TExpr) (es all : List TExpr) (b0 b1 b2 : Building) (rs : List Reg) → e.kind ≡ kind.Print all → es ≡ all → HasRoom x b0 → EmitsAll x (map type_of (map typed_expr es)) (exprs_of (map typed_expr es)) b0 b1 rs → Writes (map type_of (map typed_expr es)) rs b1 b2 line_of → (gives : Option Sort) → Works x gives (means_alone x (typed_expr e)) b0 b2 []
 print_alone x e es all b0 b1 b2 rs is same room c w gives =

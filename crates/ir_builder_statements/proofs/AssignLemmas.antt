@@ -1,5 +1,6 @@
 -- Assignments to a variable, and updates of one, do in their code what they mean.
 use Rattle.ir_builder_statements.proofs.Common.{◌≡◌, ℕ, true, List, [], ◌∷◌, map, get_or, Option, Some, None, refl, sym, ap, ◌∙◌, subst, inl, inr, slice_get, if◌then◌else◌, Value, Target, Sort, sort_step, TypedExpr, type_of, Variable, TypedModule, TypedTarget, LocalTarget, GlobalTarget, AttrTarget, ItemTarget, typed_target, State, Outcome, Gives, Raises, Stops, Does, Calls, on_to, give, coerced, combined, Reg, Building, Extends, Setting, rtype_of, HasType, HasKind, HasRoom, means, Shows, Meaning, Computes, Attempts, room_on, computes_of, is_whole, ActsOn, is_scalar, binary_goes, BinarySuits, Suits, Emits, EmitsTwo, means_assignment, means_update, Works, set_works, works_of, IsVariable, IsOnly, UpdateSuits, VariableUpdates, TakesRegister, SetsVariable, reading_of, update_binary, TurnsInto, Span, BinOp, Ty, fold-roll-Ty}
+use Rattle.value_core.specs.Value.{NoneVal}
 use Rattle.py_typed.specs.declared.types.Ty.TheVariants as declared
 use Rattle.py_typed.specs.declared.types.Ty.TheOpen.{Ty-F}
 use Rattle.py_typed.specs.Sorts as sort
@@ -22,13 +23,17 @@ use Rattle.ir_builder_operations.proofs.NativeLemmas.{native_kept}
 
 -- ---- what assignment means
 
-coerced_itself : (t : Sort) (v : Value) (s : State) → is_scalar t ≡ true → HasKind t v → coerced t v s ≡ Gives v s
-coerced_itself sort.I64 v s e k =
+none_itself : (t : Sort) (s : State) → coerced t NoneVal s ≡ Gives NoneVal s
+none_itself (sort.Optional t) s = none_itself t s
+none_itself t s = refl
+
+coerced_itself : (t : Sort) (v : Value) (s : State) → HasKind t v → coerced t v s ≡ Gives v s
+coerced_itself sort.I64 v s k =
     ap (λ z. coerced sort.I64 z s) k.1 ∙ native_kept k.0 s k.2 ∙ ap (λ z. Gives z s) (sym k.1)
-coerced_itself sort.Int v s e k = ap (λ z. coerced sort.Int z s) k.1 ∙ ap (λ z. Gives z s) (sym k.1)
-coerced_itself sort.Str v s e k = refl
-coerced_itself sort.Bool v s e k = refl
-coerced_itself _ v s e k = absurd (cc)
+coerced_itself sort.Int v s k = ap (λ z. coerced sort.Int z s) k.1 ∙ ap (λ z. Gives z s) (sym k.1)
+coerced_itself (sort.Optional t) v s (inl k) = ap (λ z. coerced t z s) k ∙ none_itself t s ∙ ap (λ z. Gives z s) (sym k)
+coerced_itself (sort.Optional t) v s (inr k) = coerced_itself t v s k
+coerced_itself t v s k = refl
 
 sort_is : (locals : List Variable) (k : ℕ) (v0 : Variable) (t : Sort) → slice_get locals k ≡ Some v0 → v0.1 ≡ t → sort_at locals k ≡ t
 sort_is locals k v0 t var same = rw var same
@@ -62,14 +67,14 @@ module _ (x : Setting) (n : ℕ) where
   assigned (AttrTarget e name) t s w v = absurd v
   assigned (ItemTarget e i) t s w v = absurd v
 
-  bound : (target : TypedTarget) (t : Sort) (s : State) (w : Value) → Is target t → is_scalar t ≡ true → HasKind t w → bind (watch x.source) classes call x.source.globals x.variables (target ∷ []) t w s ≡ storing target w s
-  bound target t s w v scalar kind =
+  bound : (target : TypedTarget) (t : Sort) (s : State) (w : Value) → Is target t → HasKind t w → bind (watch x.source) classes call x.source.globals x.variables (target ∷ []) t w s ≡ storing target w s
+  bound target t s w v kind =
       let one : Does (Unit {0}) = λ u. on_to (coerced (target_type target) w u) (putting target) in
       let other : Does (Unit {0}) = unpack (watch x.source) classes call x.source.globals x.variables (target ∷ []) w in
       ap (λ z. (if fits classes t z then one else other) s) (type_is target t v)
       ∙ ap (λ b. (if b then one else other) s) (fits_itself classes t)
       ∙ ap (λ z. on_to (coerced z w s) (putting target)) (type_is target t v)
-      ∙ ap (λ o. on_to o (putting target)) (coerced_itself t w s scalar kind)
+      ∙ ap (λ o. on_to o (putting target)) (coerced_itself t w s kind)
       ∙ assigned target t s w v
 
 -- ---- assignment
@@ -82,8 +87,8 @@ only_target x (u ∷ []) target t is only =
     (ap (λ z. typed_target z ∷ []) (sym is), subst P (sym is) only)
 only_target x (u ∷ w ∷ targets) target t is only = absurd only
 
-pub assignment_code : (x : Setting) (targets : List Target) (target : Target) (e : TypedExpr) (b0 b1 b2 : Building) (r : Reg) → is_scalar (type_of e) ≡ true → target ≡ get_or targets 0 target → IsOnly x.source x.variables None (map typed_target targets) (type_of e) → HasRoom x b0 → Emits x e b0 b1 r.0 → SetsVariable x.source x.frame (typed_target target) r.0 b1 b2 → (gives : Option Sort) → Works x gives (means_assignment x (map typed_target targets) e) b0 b2 []
-assignment_code x targets target e b0 b1 b2 r scalar is only room cx q gives =
+pub assignment_code : (x : Setting) (targets : List Target) (target : Target) (e : TypedExpr) (b0 b1 b2 : Building) (r : Reg) → target ≡ get_or targets 0 target → IsOnly x.source x.variables None (map typed_target targets) (type_of e) → HasRoom x b0 → Emits x e b0 b1 r.0 → SetsVariable x.source x.frame (typed_target target) r.0 b1 b2 → (gives : Option Sort) → Works x gives (means_assignment x (map typed_target targets) e) b0 b2 []
+assignment_code x targets target e b0 b1 b2 r is only room cx q gives =
     let t = type_of e in
     let one = only_target x targets target t is only in
     let sets = q x.variables t (room_on x b0 b1 cx.extends room) one.1 cx.type in
@@ -91,12 +96,12 @@ assignment_code x targets target e b0 b1 b2 r scalar is only room cx q gives =
     let go : ℕ → Value → Does (Unit {0}) = λ n. bind (watch x.source) (classes x n) (call x n) x.source.globals x.variables (typed_target target ∷ []) t in
     subst P (sym one.0)
     (set_works x gives (means x e) t (typed_target target) r.0 go b0 b1 b2 room cx sets
-    (λ n w s kind. bound x n (typed_target target) t s w one.1 scalar kind))
+    (λ n w s kind. bound x n (typed_target target) t s w one.1 kind))
 
 -- the register of the value has the variable's type
-pub assignment_takes : (x : Setting) (targets : List Target) (target : Target) (e : TypedExpr) (b0 b1 : Building) (r : ℕ) → is_scalar (type_of e) ≡ true → target ≡ get_or targets 0 target → IsOnly x.source x.variables None (map typed_target targets) (type_of e) → HasRoom x b0 → Emits x e b0 b1 r → TakesRegister x.source x.frame (typed_target target) r b1
-assignment_takes x targets target e b0 b1 r scalar is only room cx =
-    (x.variables, type_of e, room_on x b0 b1 cx.extends room, (only_target x targets target (type_of e) is only).1, scalar, cx.type)
+pub assignment_takes : (x : Setting) (targets : List Target) (target : Target) (e : TypedExpr) (b0 b1 : Building) (r : ℕ) → target ≡ get_or targets 0 target → IsOnly x.source x.variables None (map typed_target targets) (type_of e) → HasRoom x b0 → Emits x e b0 b1 r → TakesRegister x.source x.frame (typed_target target) r b1
+assignment_takes x targets target e b0 b1 r is only room cx =
+    (x.variables, type_of e, room_on x b0 b1 cx.extends room, (only_target x targets target (type_of e) is only).1, cx.type)
 
 -- ---- updates
 
@@ -196,11 +201,11 @@ module _ (m : TypedModule) (vs : List Variable) where
       subst P (sym h.1.0) (subst Q (sym h.0) refl)
 
   -- a variable that is read suits
-  pub reading_suits : (target : TypedTarget) (t : Sort) (place : Span) → is_scalar t ≡ true → IsVariable m vs None target t → Suits m vs (reading_of target t place)
-  reading_suits (LocalTarget k) t place simple v = (simple, v.0, v.1, v.2)
-  reading_suits (GlobalTarget i) t place simple v = (simple, v.0, v.1, v.2)
-  reading_suits (AttrTarget a name) t place simple v = absurd v
-  reading_suits (ItemTarget a i) t place simple v = absurd v
+  pub reading_suits : (target : TypedTarget) (t : Sort) (place : Span) → IsVariable m vs None target t → Suits m vs (reading_of target t place)
+  reading_suits (LocalTarget k) t place v = (v.0, v.1, inl v.2)
+  reading_suits (GlobalTarget i) t place v = (v.0, v.1, v.2)
+  reading_suits (AttrTarget a name) t place v = absurd v
+  reading_suits (ItemTarget a i) t place v = absurd v
 
 -- a variable of a type is read, the operation is done in a second one, and its result put into the variable
 module _ (x : Setting) (target : TypedTarget) (op : BinOp) (own t : Sort) (before e : TypedExpr) (place : Span) (is : before ≡ reading_of target own place) (variable : IsVariable x.source x.variables None target own) (suits : UpdateSuits x.source x.variables None op own t (type_of e)) where
@@ -241,4 +246,4 @@ module _ (x : Setting) (target : TypedTarget) (op : BinOp) (own t : Sort) (befor
 -- the register of the value has the variable's type
 pub update_takes : (x : Setting) (target : TypedTarget) (op : BinOp) (own t w : Sort) (b0 b1 : Building) (r : ℕ) → IsVariable x.source x.variables None target own → UpdateSuits x.source x.variables None op own t w → HasRoom x b0 → Extends b0 b1 → HasType b1 r (rtype_of own) → TakesRegister x.source x.frame target r b1
 update_takes x target op own t w b0 b1 r variable suits room more type =
-    (x.variables, own, room_on x b0 b1 more room, variable, updated_simple x.source x.variables op own t w suits, type)
+    (x.variables, own, room_on x b0 b1 more room, variable, type)

@@ -27,7 +27,7 @@ return_code x o b0 b1 b2 r alone room cx q =
 -- what a return asks of the function's result
 given_as : (m : TypedModule) (vs : List Variable) (gives : Option Sort) (o : Option TypedExpr) → ReturnSuits m vs gives o → gives ≡ Some (returned_type o)
 given_as m vs gives None h = h
-given_as m vs gives (Some e) h = h.1
+given_as m vs gives (Some e) h = h.0
 
 pub return_made : (x : Setting) (gives : Option Sort) (looping : Bool) (s : TStmt) (o : Option TExpr) (b0 b1 : Building) (xs : List Exit) → s.kind ≡ kind.Return o → ReturnSuits x.source x.variables gives (maybe_typed o) → Works x (Some (returned_type (maybe_typed o))) (means_return x (maybe_typed o)) b0 b1 [] → Emitted x gives looping (means_statement x (typed_stmt s)) b0 b1 xs xs
 return_made x gives looping s o b0 b1 xs is suits w =

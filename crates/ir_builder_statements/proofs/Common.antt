@@ -2,7 +2,7 @@
 pub use Rattle.ir_builder_expressions.specs.Applying.{BinarySuits, binary_goes}
 pub use Rattle.ir_builder_expressions.specs.Emitting.{Emits, EmitsAll, EmitsTwo, means_all}
 pub use Rattle.ir_builder_expressions.specs.Parts.{is_scalar}
-pub use Rattle.ir_builder_expressions.specs.Suiting.{ArgumentsSuit, SomeSuit, Suits}
+pub use Rattle.ir_builder_expressions.specs.Suiting.{SomeSuit, Suits}
 pub use Rattle.ir_builder_expressions.specs.declared.applying.Binary.{Binary}
 pub use Rattle.ir_builder_frames.proofs.GlobalLemmas.{write_fits}
 pub use Rattle.ir_builder_frames.proofs.HeldLemmas.{either_way, extends_refl, extends_trans, get_below, ok_map, on_ok_map, type_kept, has_less}

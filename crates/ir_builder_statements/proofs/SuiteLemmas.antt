@@ -1,5 +1,5 @@
 -- What is asked of statements is asked of their parts.
-use Rattle.ir_builder_statements.proofs.Common.{◌≡◌, ℕ, ◌+◌, ◌<◌, true, List, ◌∷◌, length, map, drop, get_or, Option, refl, sym, ap, ◌∙◌, subst, TExpr, TStmt, Sort, typed_expr, Variable, TypedModule, TypedStmt, TypedSuite, TypedAct, on_line, typed_stmt, typed_act, typed_suite, typed_arm, maybe_typed, arms_of, typed_stmt_of, typed_stmt-While, typed_act-If, typed_act-While, typed_act-Return, typed_act-Break, typed_act-Continue, State, Setting, means_loop, means_statement, means_suite, TestSuits, ReturnSuits, StatementSuits, ActSuits, SuiteSuits, ArmsSuit, LoopSuits, Bool, drop_more, BinOp, Ty, Target}
+use Rattle.ir_builder_statements.proofs.Common.{◌≡◌, ℕ, ◌+◌, ◌<◌, true, List, ◌∷◌, length, map, drop, get_or, Option, None, refl, sym, ap, ◌∙◌, subst, TExpr, TStmt, Sort, typed_expr, type_of, typed_target, is_scalar, Suits, sort, Variable, TypedModule, TypedStmt, TypedSuite, TypedAct, on_line, typed_stmt, typed_act, typed_suite, typed_arm, maybe_typed, arms_of, typed_stmt_of, typed_stmt-While, typed_act-Expr, typed_act-Assign, typed_act-Aug, typed_act-If, typed_act-While, typed_act-Return, typed_act-Break, typed_act-Continue, State, Setting, means_loop, means_statement, means_suite, DoSuits, IsOnly, VariableUpdates, TestSuits, ReturnSuits, StatementSuits, ActSuits, SuiteSuits, ArmsSuit, LoopSuits, Bool, drop_more, BinOp, Ty, Target}
 use Rattle.py_typed.specs.declared.statement.THandler.{THandler}
 use Rattle.py_typed.specs.declared.statement.TStmtKind.{TStmtKind, fold-roll-TStmtKind, out-TStmtKind, roll-TStmtKind, roll-out-TStmtKind}
 use Rattle.py_typed.specs.declared.statement.TStmtKind as kind
@@ -39,6 +39,18 @@ module _ (m : TypedModule) (vs : List Variable) (gives : Option Sort) (looping :
         let Q : List TStmt → Type 0 = λ z. SuiteSuits m vs gives looping (typed_suite z) in
         let k = act_suits (kind.If all last) (tree.If (arms_of (map typed_arm all)) (typed_suite last)) is (typed_act-If all last) in
         (subst P (sym same_arms) k.0, subst Q (sym same) k.1)
+
+    pub alone_suits : (e : TExpr) → s.kind ≡ kind.Expr e → DoSuits m vs None (typed_expr e)
+    alone_suits e is = act_suits (kind.Expr e) (tree.Do (typed_expr e)) is (typed_act-Expr e)
+
+    pub assign_suits : (ts all : List Target) (e : TExpr) → s.kind ≡ kind.Assign all e → ts ≡ all → IsOnly m vs None (map typed_target ts) (type_of (typed_expr e)) × Suits m vs (typed_expr e)
+    assign_suits ts all e is same =
+        let P : List Target → Type 0 = λ z. IsOnly m vs None (map typed_target z) (type_of (typed_expr e)) in
+        let k = act_suits (kind.Assign all e) (tree.Assign (map typed_target all) (typed_expr e)) is (typed_act-Assign all e) in
+        (subst P (sym same) k.0, k.1)
+
+    pub update_suits : (target : Target) (op : BinOp) (e : TExpr) (ty : Ty) → s.kind ≡ kind.Aug target op e ty → VariableUpdates m vs None (typed_target target) op (sort ty) (type_of (typed_expr e)) × Suits m vs (typed_expr e)
+    update_suits target op e ty is = act_suits (kind.Aug target op e ty) (tree.Aug (typed_target target) op (typed_expr e) (sort ty)) is (typed_act-Aug target op e ty)
 
     pub return_suits : (o : Option TExpr) → s.kind ≡ kind.Return o → ReturnSuits m vs gives (maybe_typed o)
     return_suits o is = act_suits (kind.Return o) (tree.Return (maybe_typed o)) is (typed_act-Return o)

@@ -1,5 +1,5 @@
 -- Variables are read and set by their code.
-use Rattle.ir_builder_statements.proofs.Common.{◌≡◌, ℕ, zero, suc, ◌<◌, ◌≤◌, List, [], ◌∷◌, map, get_or, Some, None, refl, sym, ap, ◌∙◌, subst, arith, pos, slice_get, Var, Target, Sort, Variable, TypedModule, LocalTarget, GlobalTarget, typed_target, variable, Number, Move, Lit, Prim, PArg, Reg, Building, Extends, Setting, rtype_of, HasType, Pushes, flag_of, HasRoom, Surrounding, AreAlike, OpKinds, IsAmong, WritesGlobal, type_kept, get_below, write_fits, is_scalar, param_set, other_set, global_set, HasFlag, SetsLocal, TakesGlobal, SetsGlobal, TakesRegister, SetsVariable, BoolType}
+use Rattle.ir_builder_statements.proofs.Common.{◌≡◌, ℕ, zero, suc, ◌<◌, ◌≤◌, List, [], ◌∷◌, map, get_or, Some, None, refl, sym, ap, ◌∙◌, subst, arith, pos, slice_get, Var, Target, Sort, Variable, TypedModule, LocalTarget, GlobalTarget, typed_target, variable, Number, Move, Lit, Prim, PArg, Reg, Building, Extends, Setting, rtype_of, HasType, Pushes, flag_of, HasRoom, Surrounding, AreAlike, OpKinds, IsAmong, WritesGlobal, type_kept, get_below, write_fits, param_set, other_set, global_set, HasFlag, SetsLocal, TakesGlobal, SetsGlobal, TakesRegister, SetsVariable, BoolType}
 use Rattle.c_core.specs.declared.primitive.Primitive.TheVariants as prim
 use Rattle.c_core.specs.declared.primitive.GlobalPrim.TheVariants as global
 use Rattle.py_typed.specs.declared.statement.Target.TheVariants as declared
@@ -60,7 +60,7 @@ global_fits m g vs i d r args b all is args_are among takes =
     let v = takes.0 in
     let at' : slice_get (map variable vs) i ≡ Some v = ap (λ l. slice_get l i) (sym all) ∙ takes.1 in
     let named : v.0 ≡ d.name = declared_name vs i d v at' is in
-    subst (WritesGlobal g b.regs (prim.Global global.Set)) (ap (λ name. stored name r) named ∙ sym args_are) (write_fits m g b.regs i v r among takes.1 takes.3)
+    subst (WritesGlobal g b.regs (prim.Global global.Set)) (ap (λ name. stored name r) named ∙ sym args_are) (write_fits m g b.regs i v r among takes.1 takes.2)
 
 -- ---- a target is set
 
@@ -78,7 +78,7 @@ module _ (m : TypedModule) (frame : Frame) (t : Target) (r : Reg) (b c : Buildin
   local_alike k is h =
       let f = local_takes k is h in
       let v = f.3 in
-      (rtype_of f.1, type_by b k v.0.1 f.1 v.2 (f.2.declared k v.0 v.1), f.5)
+      (rtype_of f.1, type_by b k v.0.1 f.1 v.2 (f.2.declared k v.0 v.1), f.4)
 
   pub local_set : (k : ℕ) → t ≡ declared.Local k → SetsLocal frame k r.0 b c → SetsVariable m frame (typed_target t) r.0 b c
   local_set k is q =
@@ -91,7 +91,7 @@ module _ (m : TypedModule) (frame : Frame) (t : Target) (r : Reg) (b c : Buildin
       let P : Target → Type 0 = λ z. TakesRegister m frame (typed_target z) r.0 b in
       let f : TakesRegister m frame (GlobalTarget i) r.0 b = subst P is h in
       let v = f.3 in
-      (v.0, v.1, ap is_scalar v.2 ∙ f.4, type_by b r.0 f.1 v.0.1 (sym v.2) f.5)
+      (v.0, v.1, type_by b r.0 f.1 v.0.1 (sym v.2) f.4)
 
   pub global_put : (i : ℕ) → t ≡ declared.Global i → SetsGlobal m i r.0 b c → SetsVariable m frame (typed_target t) r.0 b c
   global_put i is q =

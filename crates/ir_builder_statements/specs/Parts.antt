@@ -17,7 +17,6 @@ use Rattle.ir_builder_frames.specs.Computing.{Shows, Computes}
 use Rattle.ir_builder_operations.specs.Selecting.{is_whole}
 use Rattle.ir_builder_expressions.specs.declared.applying.Binary.{Binary}
 use Rattle.ir_builder_expressions.specs.declared.applying.Binary.TheVariants.{Arithmetic, Joined}
-use Rattle.ir_builder_expressions.specs.Parts.{is_scalar}
 use Rattle.ir_builder_expressions.specs.Reading.{setting_in}
 use Rattle.ir_builder_loops_and_jumps.specs.Means.{means_returned, returned_type}
 use Rattle.ir_builder_loops_and_jumps.specs.Simple.{Sets}
@@ -35,20 +34,20 @@ abbrev pub SetsLocal : Frame → ℕ → ℕ → Building → Building → Type 
 SetsLocal frame k r old new =
     (x : Setting) (v : Variable) → x.frame ≡ frame → HasRoom x old → slice_get x.variables k ≡ Some v → HasType old r (rtype_of v.1) → Sets x (LocalTarget k) r old new
 
--- the module's variable of a number holds numbers, bools or texts, and a register has its type
+-- a register has the type of the module's variable of a number
 abbrev pub TakesGlobal : TypedModule → ℕ → ℕ → Building → Type 0
 TakesGlobal m i r b =
-    (v : Variable) × (slice_get m.globals i ≡ Some v) × (is_scalar v.1 ≡ true) × HasType b r (rtype_of v.1)
+    (v : Variable) × (slice_get m.globals i ≡ Some v) × HasType b r (rtype_of v.1)
 
 -- a value in a register is put into the module's variable of a number
 abbrev pub SetsGlobal : TypedModule → ℕ → ℕ → Building → Building → Type 0
 SetsGlobal m i r old new =
     (x : Setting) (v : Variable) → x.source ≡ m → slice_get m.globals i ≡ Some v → HasType old r (rtype_of v.1) → Sets x (GlobalTarget i) r old new
 
--- a target is a variable of numbers, bools or texts, and a register has its type
+-- a target is a variable, and a register has its type
 abbrev pub TakesRegister : TypedModule → Frame → TypedTarget → ℕ → Building → Type 0
 TakesRegister m frame target r b =
-    (vs : List Variable) × (t : Sort) × HasRoom (setting_in m vs frame) b × IsVariable m vs None target t × (is_scalar t ≡ true) × HasType b r (rtype_of t)
+    (vs : List Variable) × (t : Sort) × HasRoom (setting_in m vs frame) b × IsVariable m vs None target t × HasType b r (rtype_of t)
 
 -- a value in a register is put into the variable that a target is, in whatever function with this frame
 abbrev pub SetsVariable : TypedModule → Frame → TypedTarget → ℕ → Building → Building → Type 0

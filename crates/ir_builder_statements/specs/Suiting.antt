@@ -47,7 +47,7 @@ module _ (m : TypedModule) (vs : List Variable) (gives : Option Sort) where
 
   abbrev pub ReturnSuits : Option TypedExpr → Type 0
   ReturnSuits None = gives ≡ Some sort.Nothing
-  ReturnSuits (Some e) = (is_scalar (type_of e) ≡ true) × (gives ≡ Some (type_of e)) × Suits m vs e
+  ReturnSuits (Some e) = (gives ≡ Some (type_of e)) × Suits m vs e
 
   -- a test is a bool
   abbrev pub TestSuits : TypedExpr → Type 0
@@ -60,7 +60,7 @@ module _ (m : TypedModule) (vs : List Variable) (gives : Option Sort) where
 
     pub ActSuits : Bool → TypedAct → Type 0
     ActSuits looping (Do e) = DoSuits e
-    ActSuits looping (Assign targets e) = (is_scalar (type_of e) ≡ true) × IsOnly targets (type_of e) × Suits m vs e
+    ActSuits looping (Assign targets e) = IsOnly targets (type_of e) × Suits m vs e
     ActSuits looping (Aug target op e t) = VariableUpdates target op t (type_of e) × Suits m vs e
     ActSuits looping (If arms other) = ArmsSuit looping arms × SuiteSuits looping other
     ActSuits looping (While test body) = TestSuits test × SuiteSuits true body

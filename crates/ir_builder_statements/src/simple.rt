@@ -11,13 +11,14 @@ ghost use Rattle.ir_builder_frames.specs.Matching.{HasRoom};
 ghost use Rattle.ir_builder_frames.specs.Computing.{Shows, Attempts};
 ghost use Rattle.ir_builder_operations.specs.Operating.{ActsOn};
 ghost use Rattle.ir_builder_expressions.specs.Site.{setting_of};
-ghost use Rattle.ir_builder_expressions.specs.Parts.{is_scalar};
 ghost use Rattle.ir_builder_expressions.specs.Suiting.{Suits};
+ghost use Rattle.ir_builder_expressions.specs.Emitting.{EmitsTwo};
+ghost use Rattle.ir_builder_expressions.specs.Lined.{LinedParts};
 ghost use Rattle.ir_builder_loops_and_jumps.specs.Means.{means_assignment, means_update, means_return, returned_type};
 ghost use Rattle.ir_builder_loops_and_jumps.specs.Runs.{Works};
-ghost use Rattle.ir_builder_statements.specs.Suiting.{IsOnly, VariableUpdates, ReturnSuits};
+ghost use Rattle.ir_builder_statements.specs.Suiting.{IsOnly, IsVariable, UpdateSuits, VariableUpdates, ReturnSuits};
 ghost use Rattle.ir_builder_statements.specs.Kinds.{GivesResult};
-ghost use Rattle.ir_builder_statements.specs.Parts.{ComputesReturned, update_binary, TurnsInto};
+ghost use Rattle.ir_builder_statements.specs.Parts.{ComputesReturned, update_binary, reading_of, TurnsInto};
 ghost use Rattle.ir_builder_frames.specs.Lines.{OwnLines};
 ghost use Rattle.ir_builder_statements.specs.Lined.{value as value_piece, returned_pieces, LinedPieces};
 
@@ -38,7 +39,6 @@ pub(crate) fn emit_assignment(
     targets: &[Target],
     e: &TExpr,
 ) -> Result<(), Memory>
-    requires simple { is_scalar (type_of (typed_expr e.now)) ≡ true }
     requires target { IsOnly (setting_of site).source (setting_of site).variables None (map typed_target targets.now) (type_of (typed_expr e.now)) }
     requires suits { Suits (setting_of site).source (setting_of site).variables (typed_expr e.now) }
     requires room { HasRoom (setting_of site) b.old }
@@ -82,6 +82,33 @@ fn emit_own(
     }
 }
 
+// The result of an operation in a type on the value of a variable of another type and on an operand. The variable is read with the
+// line of the statement.
+fn emit_updated(
+    b: &mut Emitter,
+    site: Site,
+    target: &Target,
+    own: &Ty,
+    op: BinOp,
+    e: &TExpr,
+    t: &Ty,
+) -> Result<Reg, Memory>
+    requires variable { IsVariable (setting_of site).source (setting_of site).variables None (typed_target target.now) (sort own.now) }
+    requires fits { UpdateSuits (setting_of site).source (setting_of site).variables None op (sort own.now) (sort t.now) (type_of (typed_expr e.now)) }
+    requires suits { Suits (setting_of site).source (setting_of site).variables (typed_expr e.now) }
+    requires room { HasRoom (setting_of site) b.old }
+    ensures kept { Extends b.old b.new }
+    ensures emitted { IfOk result (λ r. EmitsTwo (setting_of site.entry) (update_binary op (sort t.now)) (sort t.now) (reading_of (typed_target target.now) (sort own.now) (record { line = site.entry.line; col = e.now.span.col })) (typed_expr e.now) b.old b.new r.0) }
+    ensures lined { OnOk result (LinedParts (setting_of site.entry) site.entry.line (reading_of (typed_target target.now) (sort own.now) (record { line = site.entry.line; col = e.now.span.col }) ∷ typed_expr e.now ∷ []) b.old b.new) }
+{
+    let place = Span {
+        line: site.line,
+        ..e.span
+    };
+    let before = reading(target, own, place);
+    emit_two_parts(b, site, updating(op, t), t, &before, e)
+}
+
 /// Changes a variable by an operation in a type (Python Language Reference, "Augmented assignment statements"): it is read, then
 /// the operand is evaluated, and the result is turned into the variable's own type. All of it but the operand has the line of the
 /// statement.
@@ -101,13 +128,7 @@ pub(crate) fn emit_update(
     ensures lined { OnOk result (LinedPieces (setting_of site.entry) site.entry.line (value_piece (typed_expr e.now) ∷ []) b.old b.new) }
 {
     let own = variable_type(site, target);
-    let place = Span {
-        line: site.line,
-        ..e.span
-    };
-    let before = reading(target, own, place);
-    let op = updating(op, t);
-    let result = emit_two_parts(b, site, op, t, &before, e)?;
+    let result = emit_updated(b, site, target, own, op, e, t)?;
     let value = emit_own(b, site.alloc, t, own, result, site.line)?;
     emit_set(b, site, target, value)
 }

@@ -5,11 +5,11 @@ use Rattle.ir_builder_statements.proofs.simple.emit_assignment.Goals as goal
 
 pub emit_set-requires : goal.emit_set-requires
 emit_set-requires c =
-    assignment_takes (setting_of c.args.site) c.args.targets.now c.index-targets-0.result (typed_expr c.args.e.now) _ _ _ c.requires.simple c.index-targets-0.is c.requires.target c.requires.room c.in_ok-r.ensures.emitted
+    assignment_takes (setting_of c.args.site) c.args.targets.now c.index-targets-0.result (typed_expr c.args.e.now) _ _ _ c.index-targets-0.is c.requires.target c.requires.room c.in_ok-r.ensures.emitted
 
 pub returns-clause-works : goal.returns-clause-works
 returns-clause-works c =
-    on_ok_map _ _ _ (λ q. assignment_code (setting_of c.args.site) c.args.targets.now c.index-targets-0.result (typed_expr c.args.e.now) _ _ _ c.in_ok-r.r c.requires.simple c.index-targets-0.is c.requires.target c.requires.room c.in_ok-r.ensures.emitted q) c.emit_set.ensures.sets
+    on_ok_map _ _ _ (λ q. assignment_code (setting_of c.args.site) c.args.targets.now c.index-targets-0.result (typed_expr c.args.e.now) _ _ _ c.in_ok-r.r c.index-targets-0.is c.requires.target c.requires.room c.in_ok-r.ensures.emitted q) c.emit_set.ensures.sets
 
 pub returns-clause-lined : goal.returns-clause-lined
 returns-clause-lined c =

@@ -1,5 +1,5 @@
 use Rattle.ir_builder_statements.proofs.Common.{option_map, option_copied, sort, rules, map, true, le_refl, the_lemmas, typed_expr, maybe_typed, typed_stmt, typed_suite, typed_arm, arms_of, Setting, HasRoom, extends_refl, extends_trans, type_kept, on_ok_map, either_way, room_on, means_loop, means_statement, means_suite, nothing_emitted, next_emitted, alone_emitted, assignment_emitted, update_emitted, loop_open, loop_emitted, nothing_tested, next_tested, if_emitted, pass_emitted, break_emitted, continue_emitted, join_open, SuiteSuits, ArmsSuit, LoopSuits, GivesResult, setting_of, BoolType, ℕ, Around, always, around_by}
-use Rattle.ir_builder_statements.proofs.SuiteLemmas.{suite_step, arms_step, loop_suits, loop_body, loop_means, if_suits, return_suits, break_suits, continue_suits, none_left}
+use Rattle.ir_builder_statements.proofs.SuiteLemmas.{suite_step, arms_step, loop_suits, loop_body, loop_means, alone_suits, assign_suits, update_suits, if_suits, return_suits, break_suits, continue_suits, none_left}
 use Rattle.ir_builder_statements.proofs.BodyLemmas.{on_ok_both, return_made, returns_given, gives_on, condition_type}
 use Rattle.ir_builder_statements.proofs.LinedLemmas.{pieces_join, body_piece, suite_next, suite_over, suite_code, arms_next, arms_over, arm_around, alone_lined, assign_lined, update_lined, return_lined, break_lined, continue_lined, pass_lined, if_lined, loop_lined}
 use Rattle.ir_builder_statements.proofs.statement.+statement.Goals as goal
@@ -30,6 +30,9 @@ emit_block-loop-s-preserved t c =
       lined = suite_next x c.args.body.now c.loop-s.s-index c.s-item.result c.args.b.now c.loop-s.b _ c.loop-s-test.true c.s-item.is i.lined (option_map sort (option_copied c.args.gives), k.emitted.mine, k.emitted.works) k.lined;
     }
 
+pub emit_block-returns-in_err-emit_statement-clause-kept : goal.emit_block-returns-in_err-emit_statement-clause-kept
+emit_block-returns-in_err-emit_statement-clause-kept t c = extends_trans _ _ _ c.loop-s.invariant.kept c.in_err-emit_statement.ensures.kept
+
 pub emit_block-returns-clause-emitted : goal.emit_block-returns-clause-emitted
 emit_block-returns-clause-emitted t c =
     c.loop-s.invariant.so_far _ _ (nothing_emitted (setting_of c.args.site) (option_map sort (option_copied c.args.gives)) c.args.looping c.args.body.now c.loop-s.s-index _ _ c.loop-s-test.false)
@@ -42,7 +45,24 @@ emit_statement-emit_if-requires t c =
     let k = if_suits x.source x.variables (option_map sort (option_copied c.args.gives)) c.args.looping c.args.s.now c.requires.suits c.as_slice-arms.result.now c.in-If.arms c.as_slice-other.result.now c.in-If.other c.in-If.is c.as_slice-arms.ensures c.as_slice-other.ensures in
     let arms_suit : ArmsSuit x.source x.variables (option_map sort (option_copied c.args.gives)) c.args.looping (arms_of (map typed_arm c.as_slice-arms.result.now)) = k.0 in
     let other_suits : SuiteSuits x.source x.variables (option_map sort (option_copied c.args.gives)) c.args.looping (typed_suite c.as_slice-other.result.now) = k.1 in
-    search (rules, the_lemmas)
+    (search (rules, the_lemmas), (search (rules, the_lemmas), (arms_suit, (other_suits, (c.requires.room, (c.requires.alone, c.requires.result))))))
+
+pub emit_statement-emit_alone-requires-clause-suits : goal.emit_statement-emit_alone-requires-clause-suits
+emit_statement-emit_alone-requires-clause-suits t c =
+    let x : Setting = setting_of c.args.site in
+    alone_suits x.source x.variables (option_map sort (option_copied c.args.gives)) c.args.looping c.args.s.now c.requires.suits c.in-Expr.e c.in-Expr.is
+
+pub emit_statement-emit_assignment-requires : goal.emit_statement-emit_assignment-requires
+emit_statement-emit_assignment-requires t c =
+    let x : Setting = setting_of c.args.site in
+    let k = assign_suits x.source x.variables (option_map sort (option_copied c.args.gives)) c.args.looping c.args.s.now c.requires.suits c.as_slice-targets.result.now c.in-Assign.targets c.in-Assign.e c.in-Assign.is c.as_slice-targets.ensures in
+    record { target = k.0; suits = k.1; room = c.requires.room }
+
+pub emit_statement-emit_update-requires : goal.emit_statement-emit_update-requires
+emit_statement-emit_update-requires t c =
+    let x : Setting = setting_of c.args.site in
+    let k = update_suits x.source x.variables (option_map sort (option_copied c.args.gives)) c.args.looping c.args.s.now c.requires.suits c.in-Aug.target c.in-Aug.op c.in-Aug.e _ c.in-Aug.is in
+    record { fits = k.0; suits = k.1; room = c.requires.room }
 
 pub emit_statement-emit_return-requires-clause-result : goal.emit_statement-emit_return-requires-clause-result
 emit_statement-emit_return-requires-clause-result t c =
@@ -97,13 +117,16 @@ emit_arms-emit_block-requires t c =
     let suits : SuiteSuits x.source x.variables (option_map sort (option_copied c.args.gives)) c.args.looping (typed_suite c.as_slice-body.result.now) = k.1 in
     let room : HasRoom x c.emit_split.new.b = room_on x _ _ c.in_ok-test.ensures.kept c.loop-e.invariant.room in
     let result : GivesResult (option_map sort (option_copied c.args.gives)) c.emit_split.new.b.among = gives_on (option_map sort (option_copied c.args.gives)) _ _ (extends_trans _ _ _ c.loop-e.invariant.so_far.extends c.in_ok-test.ensures.kept) c.requires.result in
-    search (rules, the_lemmas)
+    (search (rules, the_lemmas), (suits, (room, (c.requires.alone, result))))
 
 pub emit_arms-end_arm-requires-clause-flag : goal.emit_arms-end_arm-requires-clause-flag
 emit_arms-end_arm-requires-clause-flag t c =
     let x : Setting = setting_of c.args.site in
     let step = arms_step x.source x.variables (option_map sort (option_copied c.args.gives)) c.args.looping c.args.arms.now c.loop-e.e-index c.loop-e-item.result c.as_slice-body.result.now c.loop-e-test.true c.loop-e-item.is c.as_slice-body.ensures c.loop-e.invariant.suits in
     condition_type x (option_map sort (option_copied c.args.gives)) (typed_expr c.loop-e-item.result.0) c.loop-e.b c.emit_split.new.b c.emit_block.new.b c.in_ok-test.test step.0 c.in_ok-test.ensures.splits c.in_ok-emit_block.ensures.kept
+
+pub emit_arms-returns-in_err-test-clause-kept : goal.emit_arms-returns-in_err-test-clause-kept
+emit_arms-returns-in_err-test-clause-kept t c = extends_trans _ _ _ c.loop-e.invariant.so_far.extends c.in_err-test.ensures.kept
 
 pub emit_arms-returns-in_err-emit_block-clause-kept : goal.emit_arms-returns-in_err-emit_block-clause-kept
 emit_arms-returns-in_err-emit_block-clause-kept t c =
@@ -135,7 +158,10 @@ emit_if-emit_block-requires t c =
     let x : Setting = setting_of c.args.site in
     let room : HasRoom x c.emit_arms.new.b = room_on x _ _ c.in_ok-emit_arms.ensures.kept c.requires.room in
     let result : GivesResult (option_map sort (option_copied c.args.gives)) c.emit_arms.new.b.among = gives_on (option_map sort (option_copied c.args.gives)) _ _ c.in_ok-emit_arms.ensures.kept c.requires.result in
-    search (rules, the_lemmas)
+    (search (rules, the_lemmas), (c.requires.other_suits, (room, (c.requires.alone, result))))
+
+pub emit_if-returns-in_err-emit_block-clause-kept : goal.emit_if-returns-in_err-emit_block-clause-kept
+emit_if-returns-in_err-emit_block-clause-kept t c = extends_trans _ _ _ c.in_ok-emit_arms.ensures.kept c.in_err-emit_block.ensures.kept
 
 pub emit_if-join-requires : goal.emit_if-join-requires
 emit_if-join-requires t c =
@@ -166,7 +192,7 @@ pub emit_statement-emit_loop-requires : goal.emit_statement-emit_loop-requires
 emit_statement-emit_loop-requires t c =
     let x : Setting = setting_of c.args.site in
     let suits : LoopSuits x.source x.variables (option_map sort (option_copied c.args.gives)) (typed_stmt c.args.s.now) (typed_suite c.as_slice-body.result.now) = loop_suits x.source x.variables (option_map sort (option_copied c.args.gives)) c.args.looping c.args.s.now c.requires.suits _ _ c.as_slice-body.result.now c.in-While.is c.as_slice-body.ensures in
-    search (rules, the_lemmas)
+    (search (rules, the_lemmas), (suits, (c.requires.room, (c.requires.alone, c.requires.result))))
 
 pub emit_loop-begin_loop-requires : goal.emit_loop-begin_loop-requires
 emit_loop-begin_loop-requires t c = record {
@@ -180,7 +206,13 @@ emit_loop-emit_block-requires t c =
     let suits : SuiteSuits x.source x.variables (option_map sort (option_copied c.args.gives)) true (typed_suite c.args.body.now) = loop_body x (option_map sort (option_copied c.args.gives)) (typed_stmt c.args.s.now) (typed_suite c.args.body.now) c.requires.suits in
     let room : HasRoom x c.begin_loop.new.b = room_on x _ _ c.in_ok-start.ensures.kept c.requires.room in
     let result : GivesResult (option_map sort (option_copied c.args.gives)) c.begin_loop.new.b.among = gives_on (option_map sort (option_copied c.args.gives)) _ _ c.in_ok-start.ensures.kept c.requires.result in
-    search (rules, the_lemmas)
+    (search (rules, the_lemmas), (suits, (room, (c.requires.alone, result))))
+
+pub emit_loop-returns-in_err-emit_block-clause-kept : goal.emit_loop-returns-in_err-emit_block-clause-kept
+emit_loop-returns-in_err-emit_block-clause-kept t c = extends_trans _ _ _ c.in_ok-start.ensures.kept c.in_err-emit_block.ensures.kept
+
+pub emit_loop-returns-in_err-next-clause-kept : goal.emit_loop-returns-in_err-next-clause-kept
+emit_loop-returns-in_err-next-clause-kept t c = extends_trans _ _ _ c.in_ok-start.ensures.kept (extends_trans _ _ _ c.in_ok-emit_block.ensures.kept c.in_err-next.ensures.kept)
 
 pub emit_loop-end_loop-requires : goal.emit_loop-end_loop-requires
 emit_loop-end_loop-requires t c =

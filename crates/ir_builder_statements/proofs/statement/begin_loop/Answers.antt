@@ -1,4 +1,4 @@
-use Rattle.ir_builder_statements.proofs.Common.{Setting, room_on, LoopStart, setting_of, around_by}
+use Rattle.ir_builder_statements.proofs.Common.{Setting, extends_trans, room_on, LoopStart, setting_of, around_by}
 use Rattle.ir_builder_statements.proofs.BodyLemmas.{while_begun}
 use Rattle.ir_builder_statements.proofs.SuiteLemmas.{while_suits}
 use Rattle.ir_builder_statements.proofs.LinedLemmas.{while_head}
@@ -7,6 +7,12 @@ use Rattle.ir_builder_statements.proofs.statement.begin_loop.Goals as goal
 pub emit_split-requires-clause-room : goal.emit_split-requires-clause-room
 emit_split-requires-clause-room c =
     room_on (setting_of c.args.site) _ _ c.in_ok-head-in-While.ensures.kept c.requires.room
+
+pub returns-in_err-test-in-While-clause-kept : goal.returns-in_err-test-in-While-clause-kept
+returns-in_err-test-in-While-clause-kept c = extends_trans _ _ _ c.in_ok-head-in-While.ensures.kept c.in_err-test-in-While.ensures.kept
+
+pub returns-clause-kept : goal.returns-clause-kept
+returns-clause-kept c = extends_trans _ _ _ c.in_ok-head-in-While.ensures.kept c.in_ok-test-in-While.ensures.kept
 
 pub returns-clause-begins : goal.returns-clause-begins
 returns-clause-begins c =
