@@ -1,5 +1,5 @@
 -- What some forms are called, and the least of a few.
-use Rattle.std.proofs.Common.{◌≡◌, refl, List, [], ◌∷◌, Some, None, codes}
+use Rattle.std.proofs.Common.{◌≡◌, refl, [], ◌∷◌, Some, None, codes}
 use Rattle.ir_builder_forms.specs.declared.form.Form.TheVariants as form
 use Rattle.ir_builder_forms.specs.declared.form.TypeKind.TheVariants as kind
 use Rattle.ir_builder_forms.specs.declared.form.Unbuilt.{Unbuilt}

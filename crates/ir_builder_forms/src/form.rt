@@ -71,8 +71,6 @@ pub enum Form {
     Append,
     /// The method `pop` of lists.
     Pop,
-    /// `None` where a value stands.
-    NoneValue,
     /// An index of a value of such a type.
     Index(TypeKind),
     /// `len` of one.
@@ -119,7 +117,6 @@ impl Form {
             Form::MethodCall => "method call",
             Form::Append => "append",
             Form::Pop => "pop",
-            Form::NoneValue => "None as a value",
             Form::Index(_) => "index of a",
             Form::Length(_) => "len of a",
             Form::Parameter(_) => "parameter of type",

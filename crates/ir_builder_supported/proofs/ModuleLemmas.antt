@@ -1,14 +1,13 @@
 -- A well typed module all of which is compiled is one that is built.
-use Rattle.ir_builder_supported.proofs.Common.{◌≡◌, refl, sym, ◌∙◌, ap, subst, arith, ℕ, zero, suc, ◌+◌, Bool, true, false, List, [], ◌∷◌, ◌++◌, length, map, Option, Some, None, leb-true, same_Some, not, ◌&&◌, nat_le, slice_get, list_any, flat_map, suite_definitions, ClassEntry, Signature, is_same_type, Variable, TypedFunc, TypedModule, init_class, is_called_in, all_differ, suite_typed, and_left, and_right, one_type, parameter_sorts, is_scalar, is_none, suite_forms, are_scalars, is_function, functions_forms, class_form}
+use Rattle.ir_builder_supported.proofs.Common.{◌≡◌, refl, sym, ◌∙◌, ap, subst, arith, ℕ, zero, suc, ◌+◌, Bool, true, false, List, [], ◌∷◌, ◌++◌, length, map, Option, Some, None, leb-true, same_Some, not, ◌&&◌, nat_le, slice_get, list_any, flat_map, suite_definitions, ClassEntry, Signature, is_same_type, Variable, TypedFunc, TypedModule, init_class, is_called_in, all_differ, suite_typed, and_left, and_right, one_type, parameter_sorts, is_none, suite_forms, is_function, functions_forms, class_form}
 use Rattle.std.proofs.lemmas.List.Folds.{list_any-append}
 use Rattle.std.specs.Str.{bytes_eq}
 use Rattle.c_core.specs.WellFormed.{is_identifier, names_differ}
-use Rattle.c_core.proofs.Lines.{all_at as at_each}
 use Rattle.py_typed.specs.WellTypedModule.{names_of, same_row, all_at, parameter_types, signature_fits, variables_typed, func_typed, own_name, is_well_typed}
 use Rattle.ir_builder_statements.specs.Modules.{FunctionSuits, ModuleSuits}
 use Rattle.ir_builder_supported.specs.Laws.{CompiledSuits}
 use Rattle.ir_builder_supported.proofs.FormLemmas.{no_form, none_left, none_right, compiled}
-use Rattle.ir_builder_supported.proofs.SuitLemmas.{AllScalar, AllSigned, same_sorts}
+use Rattle.ir_builder_supported.proofs.SuitLemmas.{AllSigned, same_sorts}
 use Rattle.ir_builder_supported.proofs.SuiteLemmas.{suite_suits}
 
 -- ---- names
@@ -90,15 +89,12 @@ module _ (m : TypedModule) where
     function_suits n f is =
         let p = function_parts n f is in
         let form = formed n f is in
-        let row = and_right (is_none f.class) _ form.0 in
-        let types = and_right (nat_le f.params (length f.locals)) _ row in
-        let scalars : AllScalar m f.locals (init_class f) = λ i v there. at_each (λ (x : Variable). is_scalar x.1) f.locals i v (and_left (are_scalars f.locals) _ types) there in
         record {
           name = p.name;
-          parameters = leb-true f.params (length f.locals) (and_left (nat_le f.params (length f.locals)) _ row);
+          parameters = leb-true f.params (length f.locals) (and_left (nat_le f.params (length f.locals)) _ (and_right (is_none f.class) _ form.0));
           identifiers = and_left _ _ (and_left _ _ p.variables);
           differ = sym (one_test (names_of f.locals)) ∙ and_right _ _ (and_left _ _ p.variables);
-          body = suite_suits m f.locals (init_class f) scalars (all_signed f.locals (init_class f)) (Some f.ret) [] false false f.body p.body form.1;
+          body = suite_suits m f.locals (init_class f) (all_signed f.locals (init_class f)) (Some f.ret) [] false false f.body p.body form.1;
         }
 
     module_suits : suite_forms [] m.globals m.top ≡ [] → ModuleSuits m
@@ -117,11 +113,8 @@ module _ (m : TypedModule) where
               ∙ subst (λ l. all_differ l ≡ true) (all_named m.funcs no_method) (differ_left functions classes (differ_right others (functions ++ classes) (and_right _ _ two)));
           identifiers = and_left _ _ (and_left _ _ globals);
           globals_differ = sym (one_test others) ∙ and_right _ _ (and_left _ _ globals);
-          top = suite_suits m [] None no_variables (all_signed [] None) None [] false false m.top (and_right _ _ typed) top;
+          top = suite_suits m [] None (all_signed [] None) None [] false false m.top (and_right _ _ typed) top;
         }
-      where
-        no_variables : AllScalar m [] None
-        no_variables i v e = absurd (cc)
 
 pub compiled_suits : CompiledSuits
 compiled_suits tree m typed none =

@@ -1,29 +1,19 @@
--- A well typed statement in which all is compiled suits, in a function whose variables are numbers, bools and texts.
-use Rattle.ir_builder_supported.proofs.Common.{◌≡◌, refl, sym, ◌∙◌, ap, subst, ℕ, Bool, true, false, List, [], ◌∷◌, ◌++◌, Option, Some, None, ⊎_elim, inl, inr, or_cases, not, ◌&&◌, if◌then◌else◌, slice_get, Span, Sort, is_same_type, is_number, is_nothing, number_join, fits, TypedExpr, typed, TypedNode, Nothing, Print, TypedExprs, no_exprs, expr_then, type_of, Variable, TypedModule, TypedTarget, LocalTarget, GlobalTarget, TypedStmt, on_line, TypedAct, Do, Assign, Aug, If, While, Return, Break, Continue, Pass, TypedSuite, no_stmts, stmt_then, Arms, no_arms, arm_then, is_in, facts, without, bound_suite, part_sorts, after, stands, are_values, is_type, are_texts, are_numbers, is_bar, operation_sort, reads_as, is_typed, target_type, read_type, parts_fit, assignment_fits, is_single, return_fits, stmt_typed, act_typed, suite_typed, arms_typed, and_left, and_right, one_type, is_arithmetic, is_whole, is_int, is_i64, is_scalar, NodeSuits, Suits, is_form, expression_forms, row_forms, alone_forms, is_one, is_taken, takes_result, is_updated, returned_forms, statement_forms, act_forms, suite_forms, arms_forms}
+-- A well typed statement in which all is compiled suits, where the signature of each function is that of its definition.
+use Rattle.ir_builder_supported.proofs.Common.{◌≡◌, refl, sym, ◌∙◌, ap, subst, ℕ, Bool, true, false, List, [], ◌∷◌, ◌++◌, Option, Some, None, ⊎_elim, inl, inr, or_cases, not, ◌&&◌, if◌then◌else◌, slice_get, Span, Sort, is_same_type, is_number, number_join, TypedExpr, typed, TypedNode, Nothing, Print, TypedExprs, no_exprs, expr_then, type_of, Variable, TypedModule, TypedTarget, LocalTarget, GlobalTarget, TypedStmt, on_line, TypedAct, Do, Assign, Aug, If, While, Return, Break, Continue, Pass, TypedSuite, no_stmts, stmt_then, Arms, no_arms, arm_then, is_in, facts, without, bound_suite, after, stands, are_values, is_type, are_texts, are_numbers, is_bar, operation_sort, reads_as, is_typed, read_type, is_single, return_fits, stmt_typed, act_typed, suite_typed, arms_typed, and_left, and_right, one_type, is_arithmetic, is_whole, is_int, is_i64, is_scalar, NodeSuits, Suits, is_form, expression_forms, row_forms, alone_forms, is_taken, takes_result, is_updated, returned_forms, statement_forms, act_forms, suite_forms, arms_forms, BinarySuits, Arithmetic, has_type, is_assigned, types_of, is_printable, list_all}
 use Rattle.py_syntax.specs.declared.expression.BinOp.{BinOp}
 use Rattle.py_syntax.specs.declared.expression.BinOp.TheVariants.{Add}
 use Rattle.py_typed.specs.Sorts as sort
 use Rattle.py_typed.specs.TargetTypes.{sort_at}
-use Rattle.ir_builder_expressions.specs.declared.applying.Binary.TheVariants.{Arithmetic}
-use Rattle.ir_builder_expressions.specs.Applying.{BinarySuits}
 use Rattle.ir_builder_statements.specs.Suiting.{PrintSuits, DoSuits, IsOnly, UpdateSuits, VariableUpdates, ReturnSuits, StatementSuits, ActSuits, SuiteSuits, ArmsSuit}
 use Rattle.ir_builder_supported.proofs.FormLemmas.{none_left, none_right, compiled, both}
-use Rattle.ir_builder_supported.proofs.SuitLemmas.{int_is, AllScalar, AllSigned, gives_value, reads_itself, well_typed_suits, well_typed_node}
+use Rattle.ir_builder_supported.proofs.SuitLemmas.{int_is, nothing_is, AllSigned, printable_scalar, gives_result, well_typed_suits, well_typed_node}
 
 -- ---- types
-
-nothing_is : (t : Sort) → is_nothing t ≡ true → t ≡ sort.Nothing
-nothing_is sort.Nothing h = refl
-nothing_is _ h = absurd (cc)
 
 join_whole : (u w : Sort) → is_whole (number_join u w) ≡ true
 join_whole sort.I64 w = refl
 join_whole _ sort.I64 = refl
 join_whole _ _ = refl
-
-no_parts : (s : Sort) → is_scalar s ≡ true → part_sorts s ≡ []
-no_parts (sort.TupleOf ss) h = absurd (cc)
-no_parts _ h = refl
 
 -- the type of a variable that may be there
 abbrev sort_of : Option Variable → Sort
@@ -34,13 +24,19 @@ sort_found : (vs : List Variable) (i : ℕ) (o : Option Variable) → slice_get 
 sort_found vs i None e = rw (e, sort_at) refl
 sort_found vs i (Some v) e = rw (e, sort_at) refl
 
+-- a scalar reads as its own type, since that has no None
+reads_itself : (k : Bool) (s : Sort) → is_scalar s ≡ true → reads_as k s ≡ s
+reads_itself false s h = refl
+reads_itself true (sort.Optional t) h = absurd (cc)
+reads_itself true _ h = refl
+
 never : false ≡ true → ⊥
 never e = absurd (cc)
 
--- a variable that has this type
-variable_of : (o : Option Variable) (t : Sort) → is_scalar t ≡ true → t ≡ sort_of o → (v : Variable) × (o ≡ Some v) × (v.1 ≡ t)
-variable_of None t s e = absurd (cc)
-variable_of (Some v) t s e = (v, refl, sym e)
+-- a variable that has this type, and one that takes it
+variable_of : (o : Option Variable) (t : Sort) → has_type t o ≡ true → (v : Variable) × (o ≡ Some v) × (v.1 ≡ t)
+variable_of None t h = absurd (cc)
+variable_of (Some v) t h = (v, refl, one_type v.1 t h)
 
 variable_taking : (o : Option Variable) (s : Sort) → takes_result s o ≡ true → (v : Variable) × (o ≡ Some v) × (is_taken v.1 s ≡ true)
 variable_taking None s h = absurd (cc)
@@ -63,9 +59,9 @@ numbers_update op u s w true built takes numbers h =
     )
 numbers_update op u s w false built takes numbers h = absurd (cc)
 
-module _ (m : TypedModule) (vs : List Variable) (init : Option ℕ) (scalars : AllScalar m vs init) (signed : AllSigned m vs init) where
+module _ (m : TypedModule) (vs : List Variable) (init : Option ℕ) (signed : AllSigned m vs init) where
   expression_suits : (testing : Bool) (known : List ℕ) (e : TypedExpr) → stands m vs init testing known e ≡ true → expression_forms e ≡ [] → Suits m vs e
-  expression_suits testing known e h p = well_typed_suits m vs init scalars signed testing known e h p
+  expression_suits testing known e h p = well_typed_suits m vs init signed testing known e h p
 
   test_sort : (known : List ℕ) (e : TypedExpr) → stands m vs init true known e ≡ true → type_of e ≡ sort.Bool
   test_sort known (typed n t place) h = one_type t sort.Bool (and_right _ _ (and_left _ _ (and_left _ _ h)))
@@ -74,36 +70,33 @@ module _ (m : TypedModule) (vs : List Variable) (init : Option ℕ) (scalars : A
   test_suits known e h p = (test_sort known e h, expression_suits true known e h p)
 
   module _ (result : Option Sort) where
-    print_suits : (known : List ℕ) (es : TypedExprs) → are_values m vs init known es ≡ true → row_forms es ≡ [] → PrintSuits m vs result es
-    print_suits known no_exprs h p = tt
-    print_suits known (expr_then e more) h p =
+    print_suits : (known : List ℕ) (es : TypedExprs) → are_values m vs init known es ≡ true → list_all is_printable (types_of m vs init es) ≡ true → row_forms es ≡ [] → PrintSuits m vs result es
+    print_suits known no_exprs h r p = tt
+    print_suits known (expr_then e more) h r p =
         let here = none_left _ _ p in
-        (gives_value m vs init false known e (and_left _ _ h) here, expression_suits false known e (and_left _ _ h) here, print_suits known more (and_right _ _ h) (none_right _ _ p))
+        let value = and_left _ _ h in (
+          printable_scalar (type_of e) (and_left _ _ r) (gives_result m vs init false known e value here),
+          expression_suits false known e value here,
+          print_suits known more (and_right _ _ h) (and_right _ _ r) (none_right _ _ p),
+        )
 
     node_alone : (known : List ℕ) (n : TypedNode) (t : Sort) (place : Span) → is_typed m vs init known (typed n t place) ≡ true → expression_forms (typed n t place) ≡ [] → NodeSuits m vs n t
     node_alone known n t place h p =
         let here = and_left _ _ (and_left _ _ h) in
         let own = compiled (is_form n t) _ _ p in
-        well_typed_node m vs init scalars signed false known n t (and_left _ _ here) (and_right _ _ here) own.0 own.1
+        well_typed_node m vs init signed false known n t (and_left _ _ here) (and_right _ _ here) (and_right _ _ h) own.0 own.1
 
     alone_suits : (known : List ℕ) (e : TypedExpr) → is_typed m vs init known e ≡ true → alone_forms e ≡ [] → DoSuits m vs result e
-    alone_suits known (typed (Print es) t place) h p = print_suits known es (and_left _ _ (and_left _ _ (and_left _ _ h))) p
+    alone_suits known (typed (Print es) t place) h p =
+        let here = and_left _ _ (and_left _ _ h) in print_suits known es (and_left _ _ here) (and_left _ _ (and_right _ _ here)) p
     alone_suits known (typed n t place) h p = node_alone known n t place h p
 
     -- ---- assignments
 
-    scalar_assigned : (t : TypedTarget) (s : Sort) → is_scalar s ≡ true → assignment_fits m vs init result (t ∷ []) s ≡ true → s ≡ target_type m vs init result t
-    scalar_assigned t s c h =
-        let fails : Bool = not (fits m.classes.classes s (target_type m vs init result t)) in
-        ⊎_elim (λ e. one_type s (target_type m vs init result t) e) (λ e. absurd (never (and_right fails false (subst (λ l. (fails && parts_fit m vs init result (t ∷ []) l) ≡ true) (no_parts s c) e))))
-        (or_cases (is_same_type s (target_type m vs init result t)) _ h)
-
-    only_suits : (ts : List TypedTarget) (s : Sort) → is_one ts ≡ true → is_scalar s ≡ true → assignment_fits m vs init result ts s ≡ true → IsOnly m vs result ts s
-    only_suits (LocalTarget i ∷ []) s o c h = variable_of (slice_get vs i) s c (scalar_assigned (LocalTarget i) s c h ∙ sort_found vs i (slice_get vs i) refl)
-    only_suits (GlobalTarget i ∷ []) s o c h =
-        variable_of (slice_get m.globals i) s c (scalar_assigned (GlobalTarget i) s c h ∙ sort_found m.globals i (slice_get m.globals i) refl)
-    only_suits (t ∷ u ∷ more) s o c h = absurd (never o)
-    only_suits _ s o c h = absurd (never o)
+    only_suits : (ts : List TypedTarget) (s : Sort) → is_assigned vs m.globals ts s ≡ true → IsOnly m vs result ts s
+    only_suits (LocalTarget i ∷ []) s h = variable_of (slice_get vs i) s h
+    only_suits (GlobalTarget i ∷ []) s h = variable_of (slice_get m.globals i) s h
+    only_suits _ s h = absurd (never h)
 
     -- ---- updates
 
@@ -127,7 +120,7 @@ module _ (m : TypedModule) (vs : List Variable) (init : Option ℕ) (scalars : A
         let u : Sort = v.0.1 in
         let is : sort_at vs i ≡ u = sort_found vs i (slice_get vs i) refl ∙ ap sort_of v.1 in
         let scalar : is_scalar u ≡ true = taking (λ z. is_scalar z ≡ true) refl u s v.2 c in
-        (u, (v.0, v.1, refl), variable_updated op (reads_as (is_in known i) (sort_at vs i)) u s w (ap (reads_as (is_in known i)) is ∙ reads_itself m vs init (is_in known i) u scalar) built v.2 h)
+        (u, (v.0, v.1, refl), variable_updated op (reads_as (is_in known i) (sort_at vs i)) u s w (ap (reads_as (is_in known i)) is ∙ reads_itself (is_in known i) u scalar) built v.2 h)
     updated known (GlobalTarget i) op s w o c built h =
         let v = variable_taking (slice_get m.globals i) s o in
         let u : Sort = v.0.1 in
@@ -136,17 +129,16 @@ module _ (m : TypedModule) (vs : List Variable) (init : Option ℕ) (scalars : A
 
     -- ---- what is returned
 
-    returns_of : (known : List ℕ) (t : Sort) (e : TypedExpr) → return_fits m vs init result known (Some t) (Some e) ≡ true → is_scalar (type_of e) ≡ true → expression_forms e ≡ [] → (is_scalar (type_of e) ≡ true) × (Some t ≡ Some (type_of e)) × Suits m vs e
-    returns_of known sort.Nothing (typed Nothing t place) h c p = absurd (cc)
-    returns_of known sort.Nothing (typed _ t place) h c p = absurd (never (and_right _ _ h))
-    returns_of known t e h c p =
-        (c, ap Some (sym (one_type (type_of e) t (and_right _ _ h))), expression_suits false known e (and_left _ _ h) p)
+    returns_of : (known : List ℕ) (t : Sort) (e : TypedExpr) → return_fits m vs init result known (Some t) (Some e) ≡ true → expression_forms e ≡ [] → (Some t ≡ Some (type_of e)) × Suits m vs e
+    returns_of known sort.Nothing (typed Nothing t place) h p =
+        let is : t ≡ sort.Nothing = nothing_is t (and_left _ _ (and_left _ _ (and_left _ _ (and_left _ _ h)))) in (ap Some (sym is), is)
+    returns_of known sort.Nothing (typed _ t place) h p = absurd (never (and_right _ _ h))
+    returns_of known t e h p = (ap Some (sym (one_type (type_of e) t (and_right _ _ h))), expression_suits false known e (and_left _ _ h) p)
 
   return_suits : (known : List ℕ) (result : Option Sort) (e : Option TypedExpr) → return_fits m vs init result known result e ≡ true → returned_forms e ≡ [] → ReturnSuits m vs result e
   return_suits known None e h p = absurd (cc)
   return_suits known (Some t) None h p = ap Some (nothing_is t h)
-  return_suits known (Some t) (Some e) h p =
-      let own = compiled (is_scalar (type_of e)) _ _ p in returns_of (Some t) known t e h own.0 own.1
+  return_suits known (Some t) (Some e) h p = returns_of (Some t) known t e h p
 
   -- ---- statements
 
@@ -158,9 +150,8 @@ module _ (m : TypedModule) (vs : List Variable) (init : Option ℕ) (scalars : A
       act_suits : (known : List ℕ) (looping handling : Bool) (line : ℕ) (a : TypedAct) → act_typed m vs init result known looping handling a ≡ true → act_forms vs m.globals line a ≡ [] → ActSuits m vs result looping a
       act_suits known looping handling line (Do e) h p = alone_suits result known e h p
       act_suits known looping handling line (Assign ts e) h p =
-          let own = compiled (is_one ts && is_scalar (type_of e)) _ _ p in
-          let scalar = and_right (is_one ts) (is_scalar (type_of e)) own.0 in
-          (scalar, only_suits result ts (type_of e) (and_left (is_one ts) _ own.0) scalar (and_right _ _ h), expression_suits false known e (and_left _ _ (and_left _ _ (and_left _ _ h))) own.1)
+          let own = compiled (is_assigned vs m.globals ts (type_of e)) _ _ p in
+          (only_suits result ts (type_of e) own.0, expression_suits false known e (and_left _ _ (and_left _ _ (and_left _ _ h))) own.1)
       act_suits known looping handling line (Aug t op e s) h p =
           let own = compiled (is_updated vs m.globals t s && (is_scalar s && is_arithmetic op)) _ _ p in
           let more = and_right (is_updated vs m.globals t s) (is_scalar s && is_arithmetic op) own.0 in (

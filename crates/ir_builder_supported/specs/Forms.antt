@@ -1,24 +1,44 @@
 -- What the forms are called that are typed and not compiled.
-use Rattle.std.specs.Prelude.{ℕ, ◌-◌, nat_lt, Bool, true, false, if◌then◌else◌, List, [], ◌∷◌, Option, Some, None}
+use Rattle.std.specs.Prelude.{ℕ, ◌-◌, nat_lt, Bool, true, false, ◌&&◌, ◌||◌, if◌then◌else◌, List, [], ◌∷◌, Option, Some, None}
 use Rattle.std.specs.Option.{unwrap_or}
 use Rattle.py_syntax.specs.declared.expression.CmpOp.{CmpOp}
 use Rattle.py_syntax.specs.declared.expression.CmpOp.TheVariants as comparison
 use Rattle.py_typed.specs.Sorts as sort
-use Rattle.py_typed.specs.Sorts.{Sort}
-use Rattle.py_typed.specs.Expressions.{TypedExpr, typed, TypedNode, Nothing, Local, Global, Truth, Compare, ListOf, DictOf, TupleOf, Attr, At, TupleAt, Call, Make, MakeExc, Method, SuperInit, Len, Append, Pop, Comparisons, no_comparisons, comparison_then, type_of}
+use Rattle.py_typed.specs.Sorts.{Sort, Sorts, no_sorts, sort_then}
+use Rattle.py_typed.specs.Fits.{is_nothing}
+use Rattle.py_typed.specs.Expressions.{TypedExpr, typed, TypedNode, Local, Global, Truth, Compare, ListOf, DictOf, TupleOf, Attr, At, TupleAt, Call, Make, MakeExc, Method, SuperInit, Len, Append, Pop, Comparisons, no_comparisons, comparison_then, type_of}
 use Rattle.py_typed.specs.Statements.{Variable, TypedFunc, TypedTarget, LocalTarget, GlobalTarget, AttrTarget, ItemTarget}
 use Rattle.ir_builder_forms.specs.declared.form.Form.{Form}
 use Rattle.ir_builder_forms.specs.declared.form.Form.TheVariants as form
 use Rattle.ir_builder_forms.specs.declared.form.TypeKind.{TypeKind}
 use Rattle.ir_builder_forms.specs.declared.form.TypeKind.TheVariants as kinds
 use Rattle.ir_builder_forms.specs.declared.form.Unbuilt.{Unbuilt}
-use Rattle.ir_builder_expressions.specs.Parts.{is_scalar}
 
 -- a form on a line
 abbrev pub unbuilt : ℕ → Form → Unbuilt
 unbuilt line f = record { line = line; form = f }
 
 -- ---- types
+
+-- the types of the values that are compiled: of numbers, bools and texts, and of lists, tuples and Optionals of such types
+abbrev mutual
+  pub is_value : Sort → Bool
+  is_value sort.Int = true
+  is_value sort.I64 = true
+  is_value sort.Bool = true
+  is_value sort.Str = true
+  is_value (sort.ListOf t) = is_value t
+  is_value (sort.TupleOf ts) = all_values ts
+  is_value (sort.Optional t) = is_value t
+  is_value t = false
+
+  pub all_values : Sorts → Bool
+  all_values no_sorts = true
+  all_values (sort_then t ts) = is_value t && all_values ts
+
+-- those of the results of functions that are compiled, which may be None
+abbrev pub is_result : Sort → Bool
+is_result t = is_nothing t || is_value t
 
 abbrev pub kind : Sort → TypeKind
 kind sort.Int = kinds.Int
@@ -50,7 +70,6 @@ chain_form other (comparison_then op e more) = unwrap_or (operator_form op) (cha
 
 -- an expression of a type
 abbrev pub node_form : TypedNode → Sort → Form
-node_form Nothing t = form.NoneValue
 node_form (Local i) t = form.Variable (kind t)
 node_form (Global i) t = form.Variable (kind t)
 node_form (Truth e) t = form.Condition (kind (type_of e))
@@ -71,25 +90,23 @@ node_form (Append a b) t = form.Append
 node_form (Pop e) t = form.Pop
 node_form e t = form.Value (kind t)
 
-abbrev pub expression_form : TypedExpr → Form
-expression_form (typed e t place) = node_form e t
-
 -- on the line where it begins
 abbrev pub expression_at : TypedExpr → Unbuilt
 expression_at (typed e t place) = unbuilt place.line (node_form e t)
 
 -- ---- assignments
 
--- what is assigned to, where it is no name; else another form
+-- what is assigned to or updated, where it is no name; else another form
 abbrev pub target_form : TypedTarget → Form → Form
 target_form (LocalTarget i) other = other
 target_form (GlobalTarget i) other = other
 target_form (AttrTarget e name) other = form.Attribute
 target_form (ItemTarget e i) other = form.Index (kind (type_of e))
 
-abbrev pub targets_form : List TypedTarget → Form → Form
-targets_form (t ∷ []) other = target_form t other
-targets_form ts other = form.SeveralTargets
+-- a name that stands alone and is not assigned the value as it is takes the part of a tuple, as several targets take the parts
+abbrev pub targets_form : List TypedTarget → Form
+targets_form (t ∷ []) = target_form t form.SeveralTargets
+targets_form ts = form.SeveralTargets
 
 -- an update whose operation is done in a type
 abbrev pub update_form : TypedTarget → Sort → Form
@@ -104,11 +121,11 @@ is_none (Some a) = false
 abbrev pub variable_form : ℕ → Variable → Form
 variable_form parameters v = if nat_lt 0 parameters then form.Parameter (kind v.1) else form.Variable (kind v.1)
 
--- the first of these variables, of which so many are parameters, that is neither a number nor a bool nor a text; else another form
+-- the first of these variables, of which so many are parameters, whose values are not compiled; else another form
 abbrev pub variables_form : ℕ → List Variable → Form → Form
 variables_form parameters [] other = other
 variables_form parameters (v ∷ vs) other =
-    if is_scalar v.1 then variables_form (parameters - 1) vs other else variable_form parameters v
+    if is_value v.1 then variables_form (parameters - 1) vs other else variable_form parameters v
 
 -- a method stands in a class; of another function it is its first such variable, or else its result
 abbrev pub function_form : TypedFunc → Form

@@ -1,6 +1,6 @@
 -- The classes, statements, expressions and functions of a typed module that are not compiled, and the lines on which they stand. A
 -- statement stands on its own line, and what stands inside of one on no line before it.
-use Rattle.std.specs.Prelude.{ℕ, suc, Bool, true, false, ◌&&◌, ◌||◌, nat_le, List, [], ◌∷◌, ◌++◌, length, Option, Some, None, slice_get}
+use Rattle.std.specs.Prelude.{ℕ, suc, Bool, false, ◌&&◌, ◌||◌, nat_le, List, [], ◌∷◌, ◌++◌, length, Option, Some, None, slice_get}
 use Rattle.std.specs.List.{list_all, flat_map}
 use Rattle.py_syntax.specs.Statements as tree
 use Rattle.py_syntax.specs.Statements.{StmtTree, at, Def, ClassDef, Suite}
@@ -13,8 +13,8 @@ use Rattle.ir_builder_forms.specs.declared.form.Form.TheVariants as form
 use Rattle.ir_builder_forms.specs.declared.form.Unbuilt.{Unbuilt}
 use Rattle.ir_builder_forms.specs.Least.{least}
 use Rattle.ir_builder_operations.specs.Selecting.{is_arithmetic}
-use Rattle.ir_builder_expressions.specs.Parts.{is_int, is_i64, is_scalar, is_result}
-use Rattle.ir_builder_supported.specs.Forms.{unbuilt, expression_form, expression_at, targets_form, update_form, is_none, function_form}
+use Rattle.ir_builder_expressions.specs.Parts.{is_int, is_i64, is_scalar}
+use Rattle.ir_builder_supported.specs.Forms.{is_value, is_result, unbuilt, targets_form, update_form, is_none, function_form}
 use Rattle.ir_builder_supported.specs.Expressions.{or_parts, expression_forms, row_forms}
 
 -- `print` writes any number of values
@@ -22,19 +22,14 @@ abbrev pub alone_forms : TypedExpr → List Unbuilt
 alone_forms (typed (Print es) t place) = row_forms es
 alone_forms e = expression_forms e
 
--- one name of the function or of the module
-abbrev pub is_own : TypedTarget → Bool
-is_own (LocalTarget i) = true
-is_own (GlobalTarget i) = true
-is_own t = false
-
-abbrev pub is_one : List TypedTarget → Bool
-is_one (t ∷ []) = is_own t
-is_one ts = false
-
 abbrev pub returned_forms : Option TypedExpr → List Unbuilt
 returned_forms None = []
-returned_forms (Some e) = or_parts (is_scalar (type_of e)) (expression_at e) (expression_forms e)
+returned_forms (Some e) = expression_forms e
+
+-- a variable is there, and has this type
+abbrev pub has_type : Sort → Option Variable → Bool
+has_type s None = false
+has_type s (Some v) = is_same_type v.1 s
 
 -- a variable of the first type takes what an operation gives that is done in the second: they are one type, or an `i64` becomes an
 -- `int`
@@ -47,6 +42,13 @@ takes_result s (Some v) = is_taken v.1 s
 
 -- in a function with these variables, of a module with these
 module _ (locals globals : List Variable) where
+  -- one name of the function or of the module, which has the type of what is assigned: a name of another one would take the part of
+  -- a tuple
+  abbrev pub is_assigned : List TypedTarget → Sort → Bool
+  is_assigned (LocalTarget i ∷ []) s = has_type s (slice_get locals i)
+  is_assigned (GlobalTarget i ∷ []) s = has_type s (slice_get globals i)
+  is_assigned targets s = false
+
   -- one name of the function or of the module, which takes what an operation of this type gives
   abbrev pub is_updated : TypedTarget → Sort → Bool
   is_updated (LocalTarget i) s = takes_result s (slice_get locals i)
@@ -59,7 +61,7 @@ module _ (locals globals : List Variable) where
 
     pub act_forms : ℕ → TypedAct → List Unbuilt
     act_forms line (Do e) = alone_forms e
-    act_forms line (Assign ts e) = or_parts (is_one ts && is_scalar (type_of e)) (unbuilt line (targets_form ts (expression_form e))) (expression_forms e)
+    act_forms line (Assign ts e) = or_parts (is_assigned ts (type_of e)) (unbuilt line (targets_form ts)) (expression_forms e)
     act_forms line (Aug t op e s) = or_parts (is_updated t s && (is_scalar s && is_arithmetic op)) (unbuilt line (update_form t s)) (expression_forms e)
     act_forms line (If arms other) = arms_forms arms ++ suite_forms other
     act_forms line (While test body) = expression_forms test ++ suite_forms body
@@ -85,12 +87,12 @@ module _ (locals globals : List Variable) where
 
 -- ---- functions
 
-abbrev pub are_scalars : List Variable → Bool
-are_scalars vs = list_all (λ (v : Variable). is_scalar v.1) vs
+abbrev pub hold_values : List Variable → Bool
+hold_values vs = list_all (λ (v : Variable). is_value v.1) vs
 
--- a function whose variables are numbers, bools and texts, with such a result or None
+-- a function that is no method, whose variables hold values that are compiled, with such a result or None
 abbrev pub is_function : TypedFunc → Bool
-is_function f = is_none f.class && (nat_le f.params (length f.locals) && (are_scalars f.locals && is_result f.ret))
+is_function f = is_none f.class && (nat_le f.params (length f.locals) && (hold_values f.locals && is_result f.ret))
 
 -- it stands on the line of its definition
 abbrev pub line_or_none : Option ℕ → ℕ

@@ -1,16 +1,19 @@
 //! Whether a type, an operation or a node is one of those that are compiled, whatever stands in it.
 ghost use Rattle.std.specs.Prelude.{◌≡◌, ◌&&◌, map, slice_get};
-ghost use Rattle.py_typed.specs.Sorts.{sort};
+ghost use Rattle.py_typed.specs.Sorts.{sort, sorts_of};
 ghost use Rattle.py_typed.specs.Expressions.{typed_expr, typed_node, typed_comparison, comparisons_of};
 ghost use Rattle.py_typed.specs.Statements.{typed_target, typed_func, variable};
 ghost use Rattle.ir_builder_comparisons.specs.Comparing as comparing;
 ghost use Rattle.ir_builder_operations.specs.Selecting as selecting;
 ghost use Rattle.ir_builder_expressions.specs.Parts as sorts;
 ghost use Rattle.ir_builder_supported.specs.Expressions as form;
+ghost use Rattle.ir_builder_supported.specs.Forms as spec;
 ghost use Rattle.ir_builder_supported.specs.Statements as statement;
 
 use py_syntax::{BinOp, CmpOp};
-use py_typed::{TExpr, TFunc, TKind, Target, Ty, Var, is_number, is_same_type, is_text};
+use py_typed::{
+    TExpr, TFunc, TKind, Target, Ty, Var, is_nothing, is_number, is_same_type, is_text,
+};
 
 fn is_int(t: &Ty) -> bool
     ensures { result ≡ sorts.is_int (sort t.now) }
@@ -37,18 +40,43 @@ fn is_whole(t: &Ty) -> bool
     matches!(t, Ty::Int | Ty::I64)
 }
 
-/// Whether a type is one of variables: numbers, bools and texts.
-pub(crate) fn is_scalar(t: &Ty) -> bool
+/// Whether a type is one of numbers, bools or texts.
+fn is_scalar(t: &Ty) -> bool
     ensures { result ≡ sorts.is_scalar (sort t.now) }
 {
     matches!(t, Ty::Int | Ty::I64 | Ty::Bool | Ty::Str)
 }
 
-/// Whether a type is one of results, which may be None.
-fn is_result(t: &Ty) -> bool
-    ensures { result ≡ sorts.is_result (sort t.now) }
+/// Whether a type's values are compiled: numbers, bools and texts, and lists, tuples and Optionals of such types.
+#[cycle(value)]
+pub(crate) fn is_value(t: &Ty) -> bool
+    ensures { result ≡ spec.is_value (sort t.now) }
 {
-    matches!(t, Ty::Int | Ty::I64 | Ty::Bool | Ty::Str | Ty::Nothing)
+    match t {
+        Ty::Int | Ty::I64 | Ty::Bool | Ty::Str => true,
+        Ty::List(t) | Ty::Optional(t) => is_value(t),
+        Ty::Tuple(ts) => all_values(ts.as_slice()),
+        Ty::Nothing | Ty::Dict(_, _) | Ty::Class(_) | Ty::Exc(_) => false,
+    }
+}
+
+#[cycle(value)]
+fn all_values(ts: &[Ty]) -> bool
+    ensures { result ≡ spec.all_values (sorts_of (map sort ts.now)) }
+{
+    for t in ts {
+        if !is_value(t) {
+            return false;
+        }
+    }
+    true
+}
+
+/// Whether a type is one of results that are compiled, which may be None.
+fn is_result(t: &Ty) -> bool
+    ensures { result ≡ spec.is_result (sort t.now) }
+{
+    is_nothing(t) || is_value(t)
 }
 
 fn is_arithmetic(op: BinOp) -> bool
@@ -87,6 +115,20 @@ fn are_pairs(first: &Ty, more: &[(CmpOp, TExpr)]) -> bool
     true
 }
 
+/// Whether values of a type have items that are read by an index.
+fn is_indexed(t: &Ty) -> bool
+    ensures { result ≡ form.is_indexed (sort t.now) }
+{
+    matches!(t, Ty::Str | Ty::List(_))
+}
+
+/// Whether values of a type have a length.
+fn is_counted(t: &Ty) -> bool
+    ensures { result ≡ form.is_counted (sort t.now) }
+{
+    matches!(t, Ty::Str | Ty::List(_) | Ty::Tuple(_))
+}
+
 /// Whether an expression is of a form that is compiled, whatever its parts are.
 pub(crate) fn is_form(e: &TExpr) -> bool
     ensures { result ≡ form.is_form (typed_node e.now.kind) (sort e.now.ty) }
@@ -95,52 +137,56 @@ pub(crate) fn is_form(e: &TExpr) -> bool
         TKind::Int(_) => is_int(&e.ty),
         TKind::Str(_) | TKind::Concat(_, _) | TKind::Input => is_text(&e.ty),
         TKind::Bool(_) | TKind::Not(_) => is_bool(&e.ty),
+        TKind::Nothing => true,
         TKind::Local(_)
         | TKind::Global(_)
-        | TKind::And(_, _)
-        | TKind::Or(_, _)
-        | TKind::Cond(_, _, _) => is_scalar(&e.ty),
+        | TKind::Cond(_, _, _)
+        | TKind::List(_)
+        | TKind::Tuple(_)
+        | TKind::TupleAt(_, _)
+        | TKind::Pop(_)
+        | TKind::Coerce(_) => is_value(&e.ty),
+        TKind::And(_, _) | TKind::Or(_, _) => is_scalar(&e.ty),
         TKind::Neg(_) => is_whole(&e.ty),
         TKind::Truth(a) => is_bool(&e.ty) && is_scalar(&a.ty),
         TKind::Arith(op, _, _) => is_whole(&e.ty) && is_arithmetic(*op),
         TKind::Compare(first, more) => {
             is_bool(&e.ty) && (is_scalar(&first.ty) && are_pairs(&first.ty, more.as_slice()))
         }
-        TKind::At(a, _) | TKind::Len(a) => is_text(&a.ty),
+        TKind::At(a, _) => is_indexed(&a.ty),
         TKind::Call(_, _) => is_result(&e.ty),
+        TKind::Len(a) => is_counted(&a.ty),
         TKind::ToStr(a) => is_scalar(&a.ty),
-        TKind::Coerce(a) => is_whole(&e.ty) && is_number(&a.ty),
-        TKind::Nothing
-        | TKind::List(_)
-        | TKind::Dict(_)
-        | TKind::Tuple(_)
+        TKind::Append(_, b) => is_value(&b.ty),
+        TKind::Dict(_)
         | TKind::Attr(_, _)
-        | TKind::TupleAt(_, _)
         | TKind::Make(_, _)
         | TKind::MakeExc(_, _)
         | TKind::Method(_, _, _)
         | TKind::SuperInit(_, _)
-        | TKind::Print(_)
-        | TKind::Append(_, _)
-        | TKind::Pop(_) => false,
+        | TKind::Print(_) => false,
     }
 }
 
-/// Whether what is assigned to is one name of the function or of the module.
-fn is_one(targets: &[Target]) -> bool
-    ensures { result ≡ statement.is_one (map typed_target targets.now) }
+/// Whether the variable of a number is there, and has a type.
+fn has_type(variables: &[Var], i: usize, t: &Ty) -> bool
+    ensures { result ≡ statement.has_type (sort t.now) (slice_get (map variable variables.now) i) }
+{
+    match variables.get(i) {
+        None => false,
+        Some(v) => is_same_type(&v.ty, t),
+    }
+}
+
+/// Whether one name is assigned to, of a function or of a module with these variables, and has the type of the value.
+pub(crate) fn is_assigned(locals: &[Var], globals: &[Var], targets: &[Target], t: &Ty) -> bool
+    ensures { result ≡ statement.is_assigned (map variable locals.now) (map variable globals.now) (map typed_target targets.now) (sort t.now) }
 {
     match targets {
-        [target] => matches!(target, Target::Local(_) | Target::Global(_)),
+        [Target::Local(i)] => has_type(locals, *i, t),
+        [Target::Global(i)] => has_type(globals, *i, t),
         _ => false,
     }
-}
-
-/// Whether these targets are assigned a value of this type.
-pub(crate) fn is_assigned(targets: &[Target], t: &Ty) -> bool
-    ensures { result ≡ (statement.is_one (map typed_target targets.now) && sorts.is_scalar (sort t.now)) }
-{
-    is_one(targets) && is_scalar(t)
 }
 
 /// Whether a variable of a type takes what an operation gives that is done in another.
@@ -184,21 +230,21 @@ pub(crate) fn is_updated(
     is_updated_name(locals, globals, target, t) && (is_scalar(t) && is_arithmetic(op))
 }
 
-fn are_scalars(variables: &[Var]) -> bool
-    ensures { result ≡ statement.are_scalars (map variable variables.now) }
+fn hold_values(variables: &[Var]) -> bool
+    ensures { result ≡ statement.hold_values (map variable variables.now) }
 {
     for v in variables {
-        if !is_scalar(&v.ty) {
+        if !is_value(&v.ty) {
             return false;
         }
     }
     true
 }
 
-/// Whether a function is no method, its variables are numbers, bools and texts, and its result is one of them or None.
+/// Whether a function is no method, and its variables hold values that are compiled, and its result is such a value or None.
 pub(crate) fn is_function(f: &TFunc) -> bool
     ensures { result ≡ statement.is_function (typed_func f.now) }
 {
     f.class.is_none()
-        && (f.params <= f.locals.len() && (are_scalars(f.locals.as_slice()) && is_result(&f.ret)))
+        && (f.params <= f.locals.len() && (hold_values(f.locals.as_slice()) && is_result(&f.ret)))
 }

@@ -14,8 +14,8 @@ ghost use Rattle.py_typed.specs.Statements.{typed_stmt, typed_suite, typed_arm, 
 ghost use Rattle.ir_builder_supported.specs.Expressions.{or_parts, expression_forms, row_forms, chain_forms};
 ghost use Rattle.ir_builder_supported.specs.Statements.{alone_forms, returned_forms, statement_forms, suite_forms, arms_forms, function_forms, functions_forms, class_form, uncompiled_form, def_line, def_lines, lines_held, function_lines, line_or_none};
 
-use crate::forms::{is_assigned, is_form, is_function, is_scalar, is_updated};
-use crate::naming::{assignment_form, expression_at, function_form, unbuilt, update_form};
+use crate::forms::{is_assigned, is_form, is_function, is_updated};
+use crate::naming::{expression_at, function_form, targets_form, unbuilt, update_form};
 use ir_builder_forms::{Form, Unbuilt, lesser};
 use py_check_names::definitions_in;
 use py_syntax::{CmpOp, Module, Stmt, StmtKind};
@@ -52,21 +52,39 @@ fn in_expression(e: &TExpr, found: Option<Unbuilt>) -> Option<Unbuilt>
         TKind::Neg(a)
         | TKind::Not(a)
         | TKind::Truth(a)
+        | TKind::TupleAt(a, _)
         | TKind::Len(a)
         | TKind::ToStr(a)
+        | TKind::Pop(a)
         | TKind::Coerce(a) => in_expression(a, found),
         TKind::Arith(_, a, b)
         | TKind::Concat(a, b)
         | TKind::And(a, b)
         | TKind::Or(a, b)
-        | TKind::At(a, b) => in_expression(b, in_expression(a, found)),
+        | TKind::At(a, b)
+        | TKind::Append(a, b) => in_expression(b, in_expression(a, found)),
         TKind::Compare(a, more) => in_chain(more.as_slice(), in_expression(a, found)),
         TKind::Cond(a, test, b) => {
             let found = in_expression(test, in_expression(a, found));
             in_expression(b, found)
         }
-        TKind::Call(_, arguments) => in_row(arguments.as_slice(), found),
-        _ => found,
+        TKind::List(items) | TKind::Tuple(items) | TKind::Call(_, items) => {
+            in_row(items.as_slice(), found)
+        }
+        TKind::Int(_)
+        | TKind::Str(_)
+        | TKind::Bool(_)
+        | TKind::Nothing
+        | TKind::Local(_)
+        | TKind::Global(_)
+        | TKind::Dict(_)
+        | TKind::Attr(_, _)
+        | TKind::Make(_, _)
+        | TKind::MakeExc(_, _)
+        | TKind::Method(_, _, _)
+        | TKind::SuperInit(_, _)
+        | TKind::Print(_)
+        | TKind::Input => found,
     }
 }
 
@@ -107,7 +125,7 @@ fn in_returned(e: &Option<TExpr>, found: Option<Unbuilt>) -> Option<Unbuilt>
 {
     match e {
         None => found,
-        Some(e) => in_part(is_scalar(&e.ty), e, expression_at(e), found),
+        Some(e) => in_expression(e, found),
     }
 }
 
@@ -150,9 +168,9 @@ fn in_statement(
     match &s.kind {
         TStmtKind::Expr(e) => in_alone(e, found),
         TStmtKind::Assign(targets, e) => in_part(
-            is_assigned(targets.as_slice(), &e.ty),
+            is_assigned(locals, globals, targets.as_slice(), &e.ty),
             e,
-            unbuilt(s.line, assignment_form(targets.as_slice(), e)),
+            unbuilt(s.line, targets_form(targets.as_slice())),
             found,
         ),
         TStmtKind::Aug(target, op, e, t) => in_part(

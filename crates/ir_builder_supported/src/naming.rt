@@ -5,7 +5,7 @@ ghost use Rattle.py_typed.specs.Expressions.{typed_expr, typed_node, typed_compa
 ghost use Rattle.py_typed.specs.Statements.{typed_target, typed_func, variable};
 ghost use Rattle.ir_builder_supported.specs.Forms as spec;
 
-use crate::forms::is_scalar;
+use crate::forms::is_value;
 use ir_builder_forms::{Form, TypeKind, Unbuilt};
 use py_syntax::CmpOp;
 use py_typed::{TExpr, TFunc, TKind, Target, Ty, Var};
@@ -65,7 +65,6 @@ fn node_form(e: &TExpr) -> Form
 {
     let value = Form::Value(kind(&e.ty));
     match &e.kind {
-        TKind::Nothing => Form::NoneValue,
         TKind::Local(_) | TKind::Global(_) => Form::Variable(kind(&e.ty)),
         TKind::Truth(a) => Form::Condition(kind(&a.ty)),
         TKind::Compare(first, more) => { chain_form(Form::Value(kind(&first.ty)), more.as_slice()) }
@@ -86,6 +85,7 @@ fn node_form(e: &TExpr) -> Form
         TKind::Int(_)
         | TKind::Str(_)
         | TKind::Bool(_)
+        | TKind::Nothing
         | TKind::Neg(_)
         | TKind::Not(_)
         | TKind::Arith(_, _, _)
@@ -107,7 +107,7 @@ pub(crate) fn expression_at(e: &TExpr) -> Unbuilt
     unbuilt(e.span.line, node_form(e))
 }
 
-/// What is assigned to, where it is no name; else another form.
+/// What is assigned to or updated, where it is no name; else another form.
 fn target_form(target: &Target, other: Form) -> Form
     ensures { result ≡ spec.target_form (typed_target target.now) other }
 {
@@ -118,21 +118,14 @@ fn target_form(target: &Target, other: Form) -> Form
     }
 }
 
-/// The same of targets in a row.
-fn targets_form(targets: &[Target], other: Form) -> Form
-    ensures { result ≡ spec.targets_form (map typed_target targets.now) other }
+/// What an assignment is called that is not compiled.
+pub(crate) fn targets_form(targets: &[Target]) -> Form
+    ensures { result ≡ spec.targets_form (map typed_target targets.now) }
 {
     match targets {
-        [target] => target_form(target, other),
+        [target] => target_form(target, Form::SeveralTargets),
         _ => Form::SeveralTargets,
     }
-}
-
-/// What an assignment of a value is called that is not compiled.
-pub(crate) fn assignment_form(targets: &[Target], e: &TExpr) -> Form
-    ensures { result ≡ spec.targets_form (map typed_target targets.now) (spec.expression_form (typed_expr e.now)) }
-{
-    targets_form(targets, node_form(e))
 }
 
 /// What an update is called that is not compiled, whose operation is done in this type.
@@ -152,13 +145,13 @@ fn variable_form(parameters: usize, v: &Var) -> Form
     }
 }
 
-/// The first variable, of these, that is neither a number nor a bool nor a text; else another form.
+/// The first variable, of these, whose values are not compiled; else another form.
 fn variables_form(parameters: usize, variables: &[Var], other: Form) -> Form
     ensures { result ≡ spec.variables_form parameters (map variable variables.now) other }
 {
     let mut left = parameters;
     for v in variables {
-        if !is_scalar(&v.ty) {
+        if !is_value(&v.ty) {
             return variable_form(left, v);
         }
         left = left.saturating_sub(1);
