@@ -43,8 +43,8 @@ module _ (regs : Declared) where
     pub is : IsOf r type
     pub same : kind_of_type type ≡ k
 
-  -- arguments for the parameters of a primitive: registers of its kinds, which it borrows or takes over, the last of them as many as
-  -- there are; numbers in the range of an `i64`; and texts, among them the decimals of `int`s that are not short
+  -- arguments for the parameters of a primitive: registers of its kinds, which it borrows or takes over, of which the last may
+  -- be missing; numbers in the range of an `i64`; and texts, among them the decimals of `int`s that are not short
   abbrev pub AreArguments : List Parameter → List PArg → Type 0
   AreArguments [] [] = Unit {0}
   AreArguments (Borrows (Is k) h ∷ ps) (arg.Var r ∷ rest) = IsOfKind r k × AreArguments ps rest

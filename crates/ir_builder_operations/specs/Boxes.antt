@@ -12,12 +12,13 @@ use Rattle.py_typed.specs.Sorts as sort
 use Rattle.py_typed.specs.Sorts.{Sort}
 use Rattle.source_meaning.specs.State.{Does, give, needs}
 
--- the type that stands for all whose values are held as objects: a register of it may hold any value
+-- the type that stands for all whose values are held as objects: a register of it may hold any value. No module has a list of nothing
+-- but None; of all such types it is the one of which a register says nothing more
 abbrev pub boxed : Sort
 boxed = sort.ListOf sort.Nothing
 
--- whether a value is one of a type, as far as it shows without a look at objects: a number in its range, a bool, a text, None, or what may
--- be None
+-- whether a value is one of a type, as far as it is told here: a whole number, for an `i64` of 64 bits, a bool, a text, None, or what may be
+-- None. Of all other types, whose values are objects of the store, tuples and exceptions, every value is one
 abbrev pub is_of : Sort → Value → Bool
 is_of sort.Int (IntVal n) = true
 is_of sort.Int v = false

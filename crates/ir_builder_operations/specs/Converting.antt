@@ -1,4 +1,4 @@
--- Which operation makes a value of one type of one of another type, where the value is not the same.
+-- The operations between types: from a number to another type of numbers, from a value to its text, from a value to an object.
 use Rattle.std.specs.Prelude.{◌≡◌, Bool, true, false, List, Option, Some, None}
 use Rattle.py_typed.specs.Classes.{ClassEntry}
 use Rattle.py_typed.specs.Fits.{fits}
@@ -24,7 +24,7 @@ text_operation sort.I64 = Some NativeText
 text_operation sort.Bool = Some BoolText
 text_operation _ = None
 
--- what a type's values are that are no objects
+-- how values of a type are held that are no objects
 abbrev pub unboxed_in : Sort → Option Unboxed
 unboxed_in sort.Int = Some unboxed.Int
 unboxed_in sort.I64 = Some unboxed.Native

@@ -186,7 +186,7 @@ tuple_length _ = stop Stuck
 abbrev pub is_absent : Value → Does Value
 is_absent v = give (BoolVal (is_none v))
 
--- another item of a list
+-- a new item in the place of an old one
 abbrev pub item_changed : Value → Value → Value → Does Value
 item_changed l i v = set_list_item l i v >> give (BoolVal true)
 

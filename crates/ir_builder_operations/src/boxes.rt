@@ -18,7 +18,7 @@ use py_typed::Ty;
 use std::alloc::Global;
 use value_core::Memory;
 
-// What a type's values are that are no objects.
+// How values of a type are held that are no objects.
 pub(crate) fn unboxed(t: &Ty) -> Option<Unboxed>
     ensures { result ≡ unboxed_in (sort t.now) }
 {
@@ -30,8 +30,8 @@ pub(crate) fn unboxed(t: &Ty) -> Option<Unboxed>
     }
 }
 
-/// A value of a type as an object (mypyc's developer guide, "Boxed and unboxed representations"). What is an object is in its
-/// register already. Nothing is raised.
+/// A value of a type as an object (what mypyc's developer documentation calls boxed). What is an object is in its register
+/// already. Nothing is raised.
 pub fn emit_boxed(
     b: &mut Emitter,
     alloc: Global,

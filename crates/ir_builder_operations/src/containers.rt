@@ -5,13 +5,13 @@ ghost use Rattle.py_typed.specs.Sorts.{Nothing};
 ghost use Rattle.source_meaning.specs.State.{give, make};
 ghost use Rattle.source_meaning.specs.Operations.{append_item, tuple_part};
 ghost use Rattle.ir_builder_frames.specs.Building.{Extends};
+ghost use Rattle.ir_builder_frames.specs.Calling.{Pushes};
 ghost use Rattle.ir_builder_frames.specs.Computing.{Shows, HaveTypes, Attempts};
 ghost use Rattle.ir_builder_frames.specs.Operands.{ActsOnAll};
 ghost use Rattle.ir_builder_frames.specs.Placing.{HasType};
 ghost use Rattle.ir_builder_frames.specs.Lines.{OwnLines};
 ghost use Rattle.ir_builder_operations.specs.Operating.{ActsOn, ActsOnTwo};
 ghost use Rattle.ir_builder_operations.specs.Boxes.{boxed, objects, appends};
-ghost use Rattle.ir_builder_frames.specs.Calling.{Pushes};
 
 use crate::operation::{Operation, arguments, emit_operation};
 use c_core::{ListPrim, Prim, TuplePrim};
@@ -54,7 +54,7 @@ pub fn emit_list(b: &mut Emitter, alloc: Global, items: &[Reg], line: usize) -> 
     Ok(list)
 }
 
-/// An object behind the items of a list (Python Language Reference, "Mutable Sequence Types", `append`), and None, which that gives.
+/// An object behind the items of a list (Python Library Reference, "Mutable Sequence Types", `append`), and None, which that gives.
 /// Nothing is raised.
 pub fn emit_append(
     b: &mut Emitter,
@@ -73,7 +73,7 @@ pub fn emit_append(
     b.literal(RType::Ref, Lit::PyNone, line)
 }
 
-/// A tuple of 1 to 16 objects (Python Language Reference, "Parenthesized forms"). Nothing is raised.
+/// A tuple of 1 to 16 objects (Python Language Reference, "Expression lists"). Nothing is raised.
 pub fn emit_tuple(b: &mut Emitter, alloc: Global, parts: &[Reg], line: usize) -> Result<Reg, Memory>
     requires some { 1 ≤ length parts.now }
     requires few { length parts.now ≤ 16 }

@@ -49,25 +49,25 @@ fn emit_plain(
     }
 }
 
-// A value as one of a type that may be None too, or else is of this type. It is an object.
+// A value as an object, where None or a value of a type is asked for.
 fn emit_optional(
     b: &mut Emitter,
     alloc: Global,
     from: &Ty,
-    to: &Ty,
+    inner: &Ty,
     x: Reg,
     line: usize,
 ) -> Result<Reg, Memory>
-    requires fits { Converts (sort from.now) (Optional (sort to.now)) }
+    requires fits { Converts (sort from.now) (Optional (sort inner.now)) }
     requires value { HasType b.old x.0 (rtype_of (sort from.now)) }
     ensures kept { Extends b.old b.new }
-    ensures made { IfOk result (λ r. Attempts (Shows (Optional (sort to.now))) b.old b.new r.0 (rtype_of (Optional (sort to.now))) (ActsOn (sort from.now) x.0 (coerced (Optional (sort to.now))))) }
+    ensures made { IfOk result (λ r. Attempts (Shows (Optional (sort inner.now))) b.old b.new r.0 (rtype_of (Optional (sort inner.now))) (ActsOn (sort from.now) x.0 (coerced (Optional (sort inner.now))))) }
     ensures lined { OwnLines line b.old b.new }
 {
     match unboxed(from) {
         Some(_) => {
-            let y = emit_plain(b, alloc, from, to, x, line)?;
-            emit_boxed(b, alloc, to, y, line)
+            let y = emit_plain(b, alloc, from, inner, x, line)?;
+            emit_boxed(b, alloc, inner, y, line)
         }
         None => Ok(x),
     }

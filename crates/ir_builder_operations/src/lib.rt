@@ -1,4 +1,4 @@
-//! Operations on values in registers: on whole numbers of 128 bits and of 64, on texts, and between the types of numbers.
+//! Operations on values in registers: on whole numbers of 128 bits and of 64, on texts, lists and tuples, and between types.
 //!
 //! `emit_operation` adds the code of one operation, whose result goes into a register of its own. `specs/Rows.antt` is the table of
 //! the operations: what each takes and gives, its primitive, and what the source does with the values in the registers. Where the

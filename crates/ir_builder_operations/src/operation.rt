@@ -33,8 +33,8 @@ pub enum Test {
     AtMost,
 }
 
-/// A type whose values are held in registers of their own kind, and in an object where one is asked for (mypyc's developer guide,
-/// "Boxed and unboxed representations").
+/// A type whose values are held in registers of their own kind, and in an object where one is asked for (what mypyc's developer
+/// documentation calls unboxed and boxed).
 #[derive(Clone, Copy)]
 pub enum Unboxed {
     Int,
