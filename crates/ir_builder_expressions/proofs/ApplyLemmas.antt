@@ -1,11 +1,12 @@
 -- An operation on one or two parts does with their values what it is to do, whichever it is.
-use Rattle.ir_builder_expressions.proofs.Common.{◌≡◌, refl, sym, ap, ◌∙◌, subst, ℕ, false, [], ◌∷◌, Option, None, ℤ, Value, StrVal, TExpr, Sort, typed_expr, type_of, give, needs, joined, letter, length_of, has_text, text_of, type_at, Building, rtype_of, Shows, Attempts, ActsOnAll, ActsOn, ActsOnTwo, of_one, of_two, inverts, as_one, as_two, operands_of, result_of, goes, Unary, Binary, native_in, sort_by, part_sort, one_sort, two_sort, is_i64, literal_in, unary_goes, binary_goes, UnarySuits, BinarySuits, FindsTruth, Does, ends_of, ends_needed, boxed}
+use Rattle.ir_builder_expressions.proofs.Common.{◌≡◌, refl, sym, ap, ◌∙◌, subst, ℕ, false, [], ◌∷◌, Option, None, ℤ, Value, StrVal, TExpr, Sort, typed_expr, type_of, give, needs, joined, letter, length_of, has_text, text_of, type_at, Building, rtype_of, Shows, Attempts, ActsOnAll, ActsOn, ActsOnTwo, of_one, of_two, inverts, as_one, as_two, operands_of, result_of, goes, Unary, Binary, native_in, sort_by, part_sort, one_sort, two_sort, is_i64, literal_in, unary_goes, binary_goes, UnarySuits, BinarySuits, Does, ends_of, ends_needed, boxed}
 use Rattle.py_typed.specs.Sorts as sort
 use Rattle.py_typed.specs.Sorts.{sort as sort_of}
 use Rattle.ir_core.specs.declared.code.RType.TheVariants as rtype
 use Rattle.source_meaning.specs.Operations.{append_item}
 use Rattle.ir_builder_operations.specs.Rows.{list_length, tuple_length}
-use Rattle.ir_builder_expressions.specs.Applying.{counting_of}
+use Rattle.ir_builder_expressions.specs.Applying.{counting_of, tested_as}
+use Rattle.ir_builder_expressions.specs.declared.applying.Testable.{Testable}
 use Rattle.ir_builder_expressions.specs.declared.applying.Sized.{Sized}
 use Rattle.ir_builder_expressions.specs.declared.applying.Sized.TheVariants as sized
 use Rattle.ir_builder_expressions.specs.declared.applying.Unary.TheVariants as unary
@@ -54,8 +55,8 @@ module _ (t : Sort) (e : TExpr) (b c : Building) (r x : ℕ) where
   pub applies_inverted : UnarySuits unary.Inverted t (sort_of e.ty) → Attempts (Shows sort.Bool) b c r rtype.Bool (ActsOnAll (sort.Bool ∷ []) (record { 0 = x } ∷ []) (of_one inverts)) → Applies unary.Inverted
   applies_inverted h a = applies unary.Inverted sort.Bool sort.Bool h.0 (own_sort t sort.Bool e h.0 refl ∙ h.1) (as_one sort.Bool sort.Bool inverts b c r (record { 0 = x }) a)
 
-  pub applies_tested : UnarySuits unary.Tested t (sort_of e.ty) → FindsTruth b c x r (sort_of e.ty) → Applies unary.Tested
-  applies_tested h tests = applies unary.Tested sort.Bool (sort_of e.ty) h.0 (own_sort t sort.Bool e h.0 refl) tests
+  pub applies_tested : (z : Testable) → UnarySuits (unary.Tested z) t (sort_of e.ty) → Attempts (Shows sort.Bool) b c r rtype.Bool (ActsOn (sort_of e.ty) x (tested_as z)) → Applies (unary.Tested z)
+  applies_tested z h a = applies (unary.Tested z) sort.Bool (sort_of e.ty) h.0 (own_sort t sort.Bool e h.0 refl) a
 
   -- how many a text, a list or a tuple has
   pub applies_counted : (z : Sized) → UnarySuits (unary.Counted z) t (sort_of e.ty) → Attempts (Shows (result_of (counting_of z))) b c r (rtype_of (result_of (counting_of z))) (ActsOnAll (operands_of (counting_of z)) (record { 0 = x } ∷ []) (goes (counting_of z))) → Applies (unary.Counted z)
@@ -73,6 +74,13 @@ module _ (t : Sort) (e : TExpr) (b c : Building) (r x : ℕ) where
   -- what is done with any object is done with the part's value, whatever more is known of it
   pub applies_object : (op : Unary) → Attempts (Shows t) b c r (rtype_of t) (ActsOn boxed x (unary_goes op t)) → Applies op
   applies_object op a = object_acts (one_sort op t (typed_expr e)) (Shows t) b c r (rtype_of t) x (unary_goes op t) a
+
+  -- of a part of any type it is asked whether it is None
+  pub applies_absent : UnarySuits unary.Absent t (sort_of e.ty) → Attempts (Shows sort.Bool) b c r rtype.Bool (ActsOn (sort_of e.ty) x (unary_goes unary.Absent sort.Bool)) → Applies unary.Absent
+  applies_absent h a = applies unary.Absent sort.Bool (sort_of e.ty) h (own_sort t sort.Bool e h refl) a
+
+  pub applies_present : UnarySuits unary.Present t (sort_of e.ty) → Attempts (Shows sort.Bool) b c r rtype.Bool (ActsOn (sort_of e.ty) x (unary_goes unary.Present sort.Bool)) → Applies unary.Present
+  applies_present h a = applies unary.Present sort.Bool (sort_of e.ty) h (own_sort t sort.Bool e h refl) a
 
 -- ---- two parts
 

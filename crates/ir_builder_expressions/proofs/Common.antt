@@ -3,7 +3,7 @@ pub use Rattle.ir_builder_choices.proofs.ChoiceLemmas.{Beside, Told, any_from, c
 pub use Rattle.ir_builder_choices.specs.Choices.{Brings, Meets, Opens}
 pub use Rattle.ir_builder_choices.specs.Choosing.{Behind, ComputesFrom, HasValue, by_truth}
 pub use Rattle.ir_builder_comparisons.specs.Comparing.{Compares, FindsTruth, is_ordering, ordered}
-pub use Rattle.ir_builder_expressions.specs.Applying.{Applied, BinarySuits, IsSized, UnarySuits, applied_in, arithmetic_of, binary_goes, index_of, negation_of, node_in, one, one_sort, seen, size_of, sized_of, two, two_sort, unary_goes, wanted_one, wanted_two}
+pub use Rattle.ir_builder_expressions.specs.Applying.{Applied, BinarySuits, IsSized, UnarySuits, absence_in, applied_in, arithmetic_of, binary_goes, index_of, negation_of, node_in, one, one_sort, seen, size_of, sized_of, two, two_sort, unary_goes, wanted_one, wanted_two}
 pub use Rattle.ir_builder_expressions.specs.Arms.{ArmSuits, ChoiceSuits, EmitsArm, EmitsChoice, arm_of, arm_sort, means_arm}
 pub use Rattle.ir_builder_expressions.specs.Comparing.{compared_in, holds_as, is_brought, is_shown_as, kind_sort}
 pub use Rattle.ir_builder_expressions.specs.Emitting.{Emits, EmitsAll, EmitsChain, EmitsOne, EmitsPart, EmitsSide, EmitsTwo, means_all, means_chain, EmitsNode}
@@ -12,11 +12,11 @@ pub use Rattle.ir_builder_expressions.specs.Literals.{literal_of_truth}
 pub use Rattle.ir_builder_expressions.specs.Parts.{fitting_in, is_i64, is_pair, is_scalar, is_text, literal_in, native_in, part_sort, sort_by}
 pub use Rattle.ir_builder_expressions.specs.Reading.{EmitsRead, ReadsLocal, Takes, TakesLocal, TestsSet, reports_unbound}
 pub use Rattle.ir_builder_expressions.specs.Site.{setting_of}
-pub use Rattle.ir_builder_expressions.specs.Suiting.{AllSuit, ArgumentsSuit, ComparisonsSuit, NodeSuits, ReadsAs, SomeSuit, Suits, count_of}
+pub use Rattle.ir_builder_expressions.specs.Suiting.{AllSuit, ArgumentsSuit, ComparedSuits, ComparisonsSuit, NodeSuits, ReadsAs, SomeSuit, Suits, count_of}
 pub use Rattle.ir_builder_expressions.specs.declared.applying.Binary.{Binary}
 pub use Rattle.ir_builder_expressions.specs.declared.applying.Binary.TheVariants.{Appended, Arithmetic, Indexed, Item, Joined}
 pub use Rattle.ir_builder_expressions.specs.declared.applying.Unary.{Unary}
-pub use Rattle.ir_builder_expressions.specs.declared.applying.Unary.TheVariants.{Coerced, Counted, Inverted, Negated, Part, Popped, Tested, Written}
+pub use Rattle.ir_builder_expressions.specs.declared.applying.Unary.TheVariants.{Absent, Coerced, Counted, Inverted, Negated, Part, Popped, Present, Tested, Written}
 pub use Rattle.ir_builder_expressions.specs.declared.chain.Link.{Link}
 pub use Rattle.ir_builder_expressions.specs.declared.comparing.Side.{Side}
 pub use Rattle.ir_builder_frames.proofs.AttemptLemmas.{both_attempt, failed_off}

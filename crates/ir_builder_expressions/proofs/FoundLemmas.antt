@@ -1,6 +1,8 @@
 -- The operation that the program finds is the one that the expression's node is.
-use Rattle.ir_builder_expressions.proofs.Common.{◌≡◌, refl, sym, ◌∙◌, ap, Some, TExpr, TypedNode, typed_expr, type_of, Len, At, type_at, Unary, Counted, Binary, one, two, applied_in, node_in, sized_of, index_of}
+use Rattle.ir_builder_expressions.proofs.Common.{◌≡◌, refl, sym, ◌∙◌, ap, true, false, Option, Some, None, is_some, option_map, TExpr, TypedExpr, TypedNode, typed_expr, type_of, Comparisons, Compare, Len, At, type_at, Unary, Truth, Tested, Counted, Binary, one, two, absence_in, applied_in, node_in, sized_of, index_of}
 use Rattle.py_typed.specs.Sorts.{sort as sort_of}
+use Rattle.ir_builder_expressions.specs.declared.applying.Testable.{Testable}
+use Rattle.ir_builder_expressions.specs.Applying.{testable_of}
 use Rattle.ir_builder_expressions.specs.declared.applying.Sized.{Sized}
 use Rattle.ir_builder_expressions.proofs.ArmLemmas.{Is}
 
@@ -17,7 +19,25 @@ sized_found e size a p q is by same same' =
     let size_is : size ≡ sized_of (type_of (typed_expr a)) = by ∙ ap sized_of (sym (type_at p) ∙ ap (λ (z : TExpr). type_of (typed_expr z)) same) in
     ap (λ z. Some (one (Counted z) (typed_expr q))) size_is ∙ one_found e (Counted (sized_of (type_of (typed_expr a)))) (Len (typed_expr a)) a q is refl same'
 
+pub tested_found : (e : TExpr) (z : Testable) (a p q : TExpr) → Is e (Truth (typed_expr a)) → z ≡ testable_of (sort_of p.ty) → p ≡ a → q ≡ a → Some (one (Tested z) (typed_expr q)) ≡ applied_in (node_in (typed_expr e))
+tested_found e z a p q is by same same' =
+    let z_is : z ≡ testable_of (type_of (typed_expr a)) = by ∙ ap testable_of (sym (type_at p) ∙ ap (λ (z : TExpr). type_of (typed_expr z)) same) in
+    ap (λ z. Some (one (Tested z) (typed_expr q))) z_is ∙ one_found e (Tested (testable_of (type_of (typed_expr a)))) (Truth (typed_expr a)) a q is refl same'
+
 pub index_found : (e : TExpr) (op : Binary) (a b p q r : TExpr) → Is e (At (typed_expr a) (typed_expr b)) → op ≡ index_of (sort_of p.ty) → p ≡ a → q ≡ a → r ≡ b → Some (two op (typed_expr q) (typed_expr r)) ≡ applied_in (node_in (typed_expr e))
 index_found e op a b p q r is by same same' other =
     let op_is : op ≡ index_of (type_of (typed_expr a)) = by ∙ ap index_of (sym (type_at p) ∙ ap (λ (z : TExpr). type_of (typed_expr z)) same) in
     ap (λ z. Some (two z (typed_expr q) (typed_expr r))) op_is ∙ two_found e (index_of (type_of (typed_expr a))) (At (typed_expr a) (typed_expr b)) a b q r is refl same' other
+
+-- where it is only asked whether a part is None
+pub absence_found : (e : TExpr) (op : Unary) (more : Comparisons) (a p : TExpr) → Is e (Compare (typed_expr a) more) → absence_in more ≡ Some op → p ≡ a → Some (one op (typed_expr p)) ≡ applied_in (node_in (typed_expr e))
+absence_found e op more a p is at same = one_found e op (Compare (typed_expr a) more) a p is (ap (option_map (λ z. one z (typed_expr a))) at) same
+
+absence_whether : (e : TExpr) (more : Comparisons) (p : TypedExpr) (o : Option Unary) → Is e (Compare p more) → absence_in more ≡ o → is_some (applied_in (node_in (typed_expr e))) ≡ is_some (option_map (λ op. one op p) o)
+absence_whether e more p o is at = ap (λ z. is_some (applied_in (node_in z))) is ∙ ap (λ z. is_some (option_map (λ op. one op p) z)) at
+
+pub absence_there : (e : TExpr) (op : Unary) (more : Comparisons) (p : TypedExpr) → Is e (Compare p more) → absence_in more ≡ Some op → is_some (applied_in (node_in (typed_expr e))) ≡ true
+absence_there e op more p is at = absence_whether e more p (Some op) is at
+
+pub absence_missing : (e : TExpr) (more : Comparisons) (p : TypedExpr) → Is e (Compare p more) → absence_in more ≡ None → is_some (applied_in (node_in (typed_expr e))) ≡ true → ⊥
+absence_missing e more p is at some = let f : false ≡ true = sym (absence_whether e more p None is at) ∙ some in absurd (cc)

@@ -7,7 +7,9 @@ pub mod PieceLemmas
 pub mod PairLemmas
 pub mod SideLemmas
 pub mod TakenLemmas
+pub mod AbsenceLemmas
 pub mod ApplyLemmas
+pub mod TestedLemmas
 pub mod LinkLemmas
 pub mod ChosenLemmas
 pub mod LookedLemmas

@@ -1,9 +1,10 @@
 -- How the lines of the code of an expression come from those of its parts.
 use Rattle.std.proofs.Common.{Result, Ok, Err, IfOk, OnOk}
-use Rattle.ir_builder_expressions.proofs.Common.{◌≡◌, refl, sym, ◌∙◌, ap, subst, ℕ, ◌+◌, ◌-◌, ◌<◌, ◌≤◌, arith, take, take_all, Bor, arm_of, List, [], ◌∷◌, ◌++◌, length, map, drop, get_or, Option, Some, None, ℤ, drop_more, drop_all, CmpOp, TExpr, TypedExpr, TypedNode, typed, typed_expr, typed_node, typed_expr_of, type_of, exprs_of, comparisons_of, typed_comparison, Building, Extends, Program, Setting, Has, has_less, Meets, Link, Ended, Emits, EmitsSide, Side, kind_sort, literal_in, Applied, applied_in, node_in}
+use Rattle.ir_builder_expressions.proofs.Common.{◌≡◌, refl, sym, ◌∙◌, ap, subst, ℕ, ◌+◌, ◌-◌, ◌<◌, ◌≤◌, arith, take, take_all, Bor, arm_of, List, [], ◌∷◌, ◌++◌, length, map, drop, get_or, Option, Some, None, ℤ, drop_more, drop_all, CmpOp, TExpr, TypedExpr, TypedNode, typed, typed_expr, typed_node, typed_expr_of, type_of, exprs_of, comparisons_of, typed_comparison, Building, Extends, Program, Setting, Has, has_less, Meets, Link, Ended, Emits, EmitsSide, Side, kind_sort, literal_in, Unary, Applied, option_map, absence_in, applied_in, node_in}
 use Rattle.py_typed.specs.Expressions as tree
+use Rattle.ir_builder_expressions.specs.Applying as operation
 use Rattle.ir_builder_frames.specs.Lines.{OwnLines}
-use Rattle.ir_builder_expressions.specs.Lined.{listed, operands_in, parts_in_arm, parts_applied, parts_of, IsCodeOf, Around, Lined, LinedParts, lined, own, part}
+use Rattle.ir_builder_expressions.specs.Lined.{listed, operands_in, parts_in_arm, parts_applied, operands_behind, parts_of, IsCodeOf, Around, Lined, LinedParts, lined, own, part}
 use Rattle.ir_builder_expressions.proofs.ArmLemmas.{Is}
 use Rattle.ir_builder_expressions.proofs.GoingLemmas.{next_of}
 
@@ -63,6 +64,12 @@ lined_node x e n a b is h = let P : TypedExpr → Type 0 = λ z. Lined x z a b i
 pub lined_leaf : (x : Setting) (e : TExpr) (n : TypedNode) (a b : Building) → Is e n → parts_of n ≡ [] → Extends a b → OwnLines e.span.line a b → Lined x (typed_expr e) a b
 lined_leaf x e n a b is none kept h = lined_node x e n a b is (let P : List TypedExpr → Type 0 = λ es. LinedParts x e.span.line es a b in subst P (sym none) (own (around_by e.span.line a b kept h)))
 
+-- a chain of comparisons
+pub lined_chain : (x : Setting) (e : TExpr) (p : TypedExpr) (more : tree.Comparisons) (a b : Building) → Is e (tree.Compare p more) → absence_in more ≡ None → LinedParts x e.span.line (p ∷ operands_in more) a b → Lined x (typed_expr e) a b
+lined_chain x e p more a b is none h =
+    let P : Option Unary → Type 0 = λ o. LinedParts x e.span.line (p ∷ operands_behind o more) a b in
+    lined_node x e (tree.Compare p more) a b is (subst P (sym none) h)
+
 -- one whose node is not looked at
 pub lined_whole : (x : Setting) (e : TExpr) (a b : Building) → LinedParts x e.span.line (parts_of (node_in (typed_expr e))) a b → Lined x (typed_expr e) a b
 lined_whole x e a b h =
@@ -83,8 +90,13 @@ lined_literal x e n a b is kept h =
 
 -- ---- operations on parts
 
+-- where it is only asked whether a part is None
+absence_parts : (e : TypedExpr) (more : tree.Comparisons) (p : Option Unary) (o : Applied) → option_map (λ op. operation.one op e) p ≡ Some o → e ∷ operands_behind p more ≡ parts_applied (Some o)
+absence_parts e more None o is = absurd (cc)
+absence_parts e more (Some op) o is = ap parts_applied is
+
 applied_parts : (n : TypedNode) (o : Applied) → applied_in n ≡ Some o → parts_of n ≡ parts_applied (Some o)
-applied_parts (tree.Compare e more) o is = let f : None ≡ Some o = is in absurd (cc)
+applied_parts (tree.Compare e more) o is = absence_parts e more (absence_in more) o is
 applied_parts (tree.And a b) o is = let f : None ≡ Some o = is in absurd (cc)
 applied_parts (tree.Or a b) o is = let f : None ≡ Some o = is in absurd (cc)
 applied_parts (tree.Cond a test b) o is = let f : None ≡ Some o = is in absurd (cc)

@@ -1,5 +1,5 @@
 -- Parts that are brought to a type of numbers, and what operators make of them there.
-use Rattle.ir_builder_expressions.proofs.Common.{◌≡◌, refl, sym, ap, ◌∙◌, subst, ℕ, true, false, [], ◌∷◌, Option, Some, None, ℤ, Value, BinOp, is_number, Sort, TypedExpr, type_of, State, Does, on_to, coerced, with_number, of_numbers, arithmetic, negated_as, negated, Reg, Declared, type_of_reg, Building, rtype_of, HasType, HasKind, Shows, HaveTypes, Attempts, ActsOnAll, type_below, is_arithmetic, is_whole, ActsOn, ActsOnTwo, is_known, operands_of, result_of, goes, arithmetic_of, negation_of, stays, as_one, as_two, attempts_as, attempts_then, two_attempts, native_in, sort_by, part_sort, literal_in}
+use Rattle.ir_builder_expressions.proofs.Common.{◌≡◌, refl, sym, ap, ◌∙◌, subst, ℕ, true, [], ◌∷◌, Option, Some, None, ℤ, Value, BinOp, is_number, Sort, TypedExpr, type_of, State, Does, on_to, coerced, with_number, of_numbers, arithmetic, negated_as, negated, Reg, Declared, type_of_reg, Building, rtype_of, HasType, HasKind, Shows, HaveTypes, Attempts, ActsOnAll, type_below, is_arithmetic, is_whole, ActsOn, ActsOnTwo, is_known, operands_of, result_of, goes, arithmetic_of, negation_of, stays, as_one, as_two, attempts_as, attempts_then, two_attempts, native_in, sort_by, part_sort, literal_in}
 use borrow.Author.Tests.{clash}
 use Rattle.py_typed.specs.Sorts as sort
 use Rattle.ir_core.specs.declared.code.RType.TheVariants as rtype

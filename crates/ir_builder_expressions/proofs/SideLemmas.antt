@@ -1,5 +1,5 @@
 -- An operand of a comparison: its type, and that of its register.
-use Rattle.ir_builder_expressions.proofs.Common.{◌≡◌, refl, sym, ap, ◌∙◌, subst, true, false, List, Option, Some, None, ◌⊎◌, inl, inr, ℤ, Span, TExpr, Sort, TypedExpr, TypedNode, typed, type_of, typed_expr, TypedModule, Variable, type_at, Reg, Building, Setting, rtype_of, means, Shows, Computes, is_scalar, native_in, sort_by, part_sort, literal_in, kind_sort, is_shown_as, Suits, EmitsPart, EmitsSide}
+use Rattle.ir_builder_expressions.proofs.Common.{◌≡◌, refl, sym, ap, ◌∙◌, subst, true, List, Option, Some, None, ◌⊎◌, inl, inr, ℤ, Span, TExpr, Sort, TypedExpr, TypedNode, typed, type_of, typed_expr, TypedModule, Variable, type_at, Reg, Building, Setting, rtype_of, means, Shows, Computes, is_scalar, native_in, sort_by, part_sort, literal_in, kind_sort, is_shown_as, Suits, EmitsPart, EmitsSide}
 use borrow.Author.Tests.{clash}
 use Rattle.py_typed.specs.Sorts as sort
 use Rattle.py_typed.specs.Sorts.{sort as sort_of}

@@ -21,7 +21,7 @@ module _ (e : TExpr) where
   found : (k : TKind-F TKind TExpr) → roll-TKind k ≡ e.kind → is_some (applied_in (node_as k)) ≡ true → is_some (applied_in (node_in (typed_expr e))) ≡ true
   found k is h = ap is_some (ap applied_in (ap node_in (has_node k is))) ∙ h
 
-  module _ (some : is_some (applied_in (node_in (typed_expr e))) ≡ true) (no_neg : (a : Part) → e.kind ≡ kind.Neg a → ⊥) (no_inverted : (a : Part) → e.kind ≡ kind.Not a → ⊥) (no_truth : (a : Part) → e.kind ≡ kind.Truth a → ⊥) (no_arith : (o : BinOp) (a b : Part) → e.kind ≡ kind.Arith o a b → ⊥) (no_concat : (a b : Part) → e.kind ≡ kind.Concat a b → ⊥) (no_at : (a b : Part) → e.kind ≡ kind.At a b → ⊥) (no_len : (a : Part) → e.kind ≡ kind.Len a → ⊥) (no_written : (a : Part) → e.kind ≡ kind.ToStr a → ⊥) (no_coerce : (a : Part) → e.kind ≡ kind.Coerce a → ⊥) (no_pop : (a : Part) → e.kind ≡ kind.Pop a → ⊥) (no_tuple_at : (a : Part) (i : ℕ) → e.kind ≡ kind.TupleAt a i → ⊥) (no_append : (a b : Part) → e.kind ≡ kind.Append a b → ⊥) where
+  module _ (some : is_some (applied_in (node_in (typed_expr e))) ≡ true) (no_neg : (a : Part) → e.kind ≡ kind.Neg a → ⊥) (no_inverted : (a : Part) → e.kind ≡ kind.Not a → ⊥) (no_truth : (a : Part) → e.kind ≡ kind.Truth a → ⊥) (no_arith : (o : BinOp) (a b : Part) → e.kind ≡ kind.Arith o a b → ⊥) (no_concat : (a b : Part) → e.kind ≡ kind.Concat a b → ⊥) (no_at : (a b : Part) → e.kind ≡ kind.At a b → ⊥) (no_len : (a : Part) → e.kind ≡ kind.Len a → ⊥) (no_written : (a : Part) → e.kind ≡ kind.ToStr a → ⊥) (no_coerce : (a : Part) → e.kind ≡ kind.Coerce a → ⊥) (no_pop : (a : Part) → e.kind ≡ kind.Pop a → ⊥) (no_tuple_at : (a : Part) (i : ℕ) → e.kind ≡ kind.TupleAt a i → ⊥) (no_append : (a b : Part) → e.kind ≡ kind.Append a b → ⊥) (no_compare : (a : Part) (cs : List (CmpOp × TExpr)) → e.kind ≡ kind.Compare a cs → ⊥) where
     unapplied : (k : TKind-F TKind TExpr) → roll-TKind k ≡ e.kind → is_some (applied_in (node_as k)) ≡ true → ⊥
     unapplied (TKind-F.Concat a b) is h = no_concat a b (sym is ∙ variant.rolls-Concat a b)
     unapplied (TKind-F.At a i) is h = no_at a i (sym is ∙ variant.rolls-At a i)
@@ -35,6 +35,7 @@ module _ (e : TExpr) where
     unapplied (TKind-F.Pop a) is h = no_pop a (sym is ∙ variant.rolls-Pop a)
     unapplied (TKind-F.TupleAt a i) is h = no_tuple_at a i (sym is ∙ variant.rolls-TupleAt a i)
     unapplied (TKind-F.Append a b) is h = no_append a b (sym is ∙ variant.rolls-Append a b)
+    unapplied (TKind-F.Compare a cs) is h = no_compare a cs (sym is ∙ variant.rolls-Compare a cs)
     unapplied k is h = absurd (clash h)
 
     pub none_left : ⊥

@@ -1,10 +1,11 @@
 -- The code of a declared expression of each kind, and what its parts need.
-use Rattle.ir_builder_expressions.proofs.Common.{◌≡◌, refl, sym, ◌∙◌, ap, subst, ℕ, ◌<◌, Bool, true, List, [], ◌∷◌, length, map, Some, ℤ, lies_within, IntVal, StrVal, TExpr, Sort, TypedExpr, Comparisons, type_of, typed_expr, exprs_of, look, next_line, type_at, RType, Reg, Lit, Holds, Building, Setting, rtype_of, Adds, HasRoom, parameter_sorts, Shows, Makes, Attempts, HaveTypes, Declared, Surrounding, IsAmong, head_of, Take, Calls, get_below, Acts, is_scalar, Side, kind_sort, Variable, ReadsAs, ReadsLocal, TakesLocal, boxed, objects, count_of, ◌≤◌, Does, Held, ActsOnAll, Computes, computes_of, means_all, on_to, give, Suits, SomeSuit, ComparisonsSuit, literal_of_truth, EmitsRead, Emits, EmitsAll, EmitsSide, EmitsChain, BoolVal, literal_makes, Gives, made_computes, means_node, looked_at, State, Itself, TypedNode, Value}
+use Rattle.ir_builder_expressions.proofs.Common.{◌≡◌, refl, sym, ◌∙◌, ap, subst, ℕ, ◌<◌, Bool, true, List, [], ◌∷◌, length, map, None, Some, ℤ, lies_within, IntVal, StrVal, TExpr, Sort, TypedExpr, Comparisons, type_of, typed_expr, exprs_of, look, next_line, type_at, RType, Reg, Lit, Holds, Building, Setting, rtype_of, Adds, HasRoom, parameter_sorts, Shows, Makes, Attempts, HaveTypes, Declared, Surrounding, IsAmong, head_of, Take, Calls, get_below, Acts, is_scalar, Side, kind_sort, Variable, ReadsAs, ReadsLocal, TakesLocal, boxed, objects, count_of, ◌≤◌, Does, ActsOnAll, Computes, computes_of, means_all, on_to, give, absence_in, Suits, SomeSuit, ComparisonsSuit, literal_of_truth, EmitsRead, Emits, EmitsAll, EmitsSide, EmitsChain, BoolVal, literal_makes, Gives, made_computes, means_node, looked_at, State, Itself, TypedNode, Value}
 use Rattle.py_typed.specs.Sorts as sort
 use Rattle.py_typed.specs.Sorts.{sort as sort_of}
 use Rattle.py_typed.specs.Expressions as tree
 use Rattle.ir_core.specs.declared.code.RType.TheVariants as rtype
 use Rattle.ir_core.specs.declared.code.Op.TheVariants.{Call as CallOp}
+use Rattle.ir_builder_expressions.proofs.AbsenceLemmas.{asked_by}
 use Rattle.ir_builder_expressions.proofs.ArmLemmas.{Is, asked, emits_as, emits_node}
 use Rattle.ir_builder_expressions.proofs.FollowLemmas.{acts_computes, all_attempts}
 use Rattle.ir_builder_expressions.proofs.LookedLemmas.{taken_emits}
@@ -112,18 +113,22 @@ module _ (x : Setting) (e : TExpr) (suits : Suits x.source x.variables (typed_ex
 
   -- ---- comparisons
 
-  pub compare_part : (p : TExpr) (more : Comparisons) → Is e (tree.Compare (typed_expr p) more) → (is_scalar (sort_of p.ty) ≡ true) × Suits x.source x.variables (typed_expr p)
-  compare_part p more is =
-      let n = asked x.source x.variables e (tree.Compare (typed_expr p) more) is suits in
+  module _ (p : TypedExpr) (more : Comparisons) (is : Is e (tree.Compare p more)) (none : absence_in more ≡ None) where
+    compare_asked : (sort_of e.ty ≡ sort.Bool) × (is_scalar (type_of p) ≡ true) × Suits x.source x.variables p × ComparisonsSuit x.source x.variables (type_of p) more
+    compare_asked = asked_by x.source x.variables p more (sort_of e.ty) None none (asked x.source x.variables e (tree.Compare p more) is suits)
+
+    pub compare_rest : (q : Side) (b c : Building) → EmitsSide x p q b c → ComparisonsSuit x.source x.variables (kind_sort q.own) more
+    compare_rest q b c side = subst (λ t. ComparisonsSuit x.source x.variables t more) (sym side.own) compare_asked.3
+
+    pub compare_walked : (b0 b1 b2 : Building) (q : Side) (r : ℕ) → HasRoom x b0 → EmitsSide x p q b0 b1 → EmitsChain x (kind_sort q.own) (kind_sort q.shown) q.reg.0 more b1 b2 r → Emits x (typed_expr e) b0 b2 r
+    compare_walked b0 b1 b2 q r room side chain =
+        let P : Sort → Type 0 = λ t. EmitsChain x t (kind_sort q.shown) q.reg.0 more b1 b2 r in
+        emits_node x e (tree.Compare p more) sort.Bool b0 b2 r is compare_asked.0 (compare_emits x (kind_sort q.shown) p more b0 b1 b2 q.reg.0 r room side.emits (subst P side.own chain))
+
+  pub compare_part : (p : TExpr) (more : Comparisons) → Is e (tree.Compare (typed_expr p) more) → absence_in more ≡ None → (is_scalar (sort_of p.ty) ≡ true) × Suits x.source x.variables (typed_expr p)
+  compare_part p more is none =
+      let n = compare_asked (typed_expr p) more is none in
       (subst (λ t. is_scalar t ≡ true) (type_at p) n.1, n.2)
-
-  pub compare_rest : (p : TypedExpr) (more : Comparisons) (q : Side) (b c : Building) → Is e (tree.Compare p more) → EmitsSide x p q b c → ComparisonsSuit x.source x.variables (kind_sort q.own) more
-  compare_rest p more q b c is side = subst (λ t. ComparisonsSuit x.source x.variables t more) (sym side.own) (asked x.source x.variables e (tree.Compare p more) is suits).3
-
-  pub compare_walked : (p : TypedExpr) (more : Comparisons) (b0 b1 b2 : Building) (q : Side) (r : ℕ) → Is e (tree.Compare p more) → HasRoom x b0 → EmitsSide x p q b0 b1 → EmitsChain x (kind_sort q.own) (kind_sort q.shown) q.reg.0 more b1 b2 r → Emits x (typed_expr e) b0 b2 r
-  compare_walked p more b0 b1 b2 q r is room side chain =
-      let P : Sort → Type 0 = λ t. EmitsChain x t (kind_sort q.shown) q.reg.0 more b1 b2 r in
-      emits_node x e (tree.Compare p more) sort.Bool b0 b2 r is (asked x.source x.variables e (tree.Compare p more) is suits).0 (compare_emits x (kind_sort q.shown) p more b0 b1 b2 q.reg.0 r room side.emits (subst P side.own chain))
 
   -- ---- calls
 

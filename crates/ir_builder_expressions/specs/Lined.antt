@@ -11,7 +11,8 @@ use Rattle.ir_builder_frames.specs.Settings.{Setting, rtype_of}
 use Rattle.ir_builder_frames.specs.Computing.{means, Shows, Computes}
 use Rattle.ir_builder_frames.specs.Placing.{Has}
 use Rattle.ir_builder_frames.specs.Lines.{OwnLines}
-use Rattle.ir_builder_expressions.specs.Applying.{Applied, one, two, applied_in}
+use Rattle.ir_builder_expressions.specs.declared.applying.Unary.{Unary}
+use Rattle.ir_builder_expressions.specs.Applying.{Applied, one, two, applied_in, absence_in}
 
 -- ---- the parts of an expression, in the order in which their code stands
 
@@ -32,8 +33,13 @@ parts_applied None = []
 parts_applied (Some (one op e)) = e ∷ []
 parts_applied (Some (two op a b)) = a ∷ b ∷ []
 
+-- where it is only asked whether a part is None, no operand is behind it: None has no code of its own
+abbrev pub operands_behind : Option Unary → Comparisons → List TypedExpr
+operands_behind None more = operands_in more
+operands_behind (Some op) more = []
+
 abbrev pub parts_of : TypedNode → List TypedExpr
-parts_of (Compare e more) = e ∷ operands_in more
+parts_of (Compare e more) = e ∷ operands_behind (absence_in more) more
 parts_of (And a b) = a ∷ b ∷ []
 parts_of (Or a b) = a ∷ b ∷ []
 parts_of (Cond a test b) = test ∷ a ∷ b ∷ []

@@ -1,17 +1,18 @@
 -- What is asked of an expression that is built: its form is one of those that are compiled, and its parts have the types of a
 -- well-typed one, in a function of a module with some variables.
-use Rattle.std.specs.Prelude.{◌≡◌, ◌≤◌, ◌⊎◌, ℕ, suc, true, List, [], ◌∷◌, Some, slice_get}
+use Rattle.std.specs.Prelude.{◌≡◌, ◌≤◌, ◌⊎◌, ℕ, suc, true, List, [], ◌∷◌, Option, Some, None, slice_get}
 use Rattle.value_core.specs.Arithmetic.{lies_within}
 use Rattle.py_typed.specs.Sorts as sort
 use Rattle.py_typed.specs.Sorts.{Sort, Sorts}
 use Rattle.py_typed.specs.Statements.{Variable, TypedFunc, TypedModule}
 use Rattle.py_typed.specs.Expressions.{TypedExpr, typed, TypedNode, Int, Str, Flag, Nothing, Local, Global, Neg, Not, Truth, Arith, Concat, Compare, And, Or, Cond, ListOf, TupleOf, At, TupleAt, Call, Input, Len, ToStr, Append, Pop, Coerce, TypedExprs, no_exprs, expr_then, Comparisons, no_comparisons, comparison_then, type_of, exprs_of}
 use Rattle.ir_builder_frames.specs.Settings.{parameter_sorts}
+use Rattle.ir_builder_expressions.specs.declared.applying.Unary.{Unary}
 use Rattle.ir_builder_expressions.specs.declared.applying.Unary.TheVariants.{Negated, Inverted, Tested, Counted, Written, Coerced, Popped, Part}
 use Rattle.ir_builder_expressions.specs.declared.applying.Binary.TheVariants.{Arithmetic, Joined, Appended}
 use Rattle.ir_builder_comparisons.specs.Comparing.{is_ordering}
 use Rattle.ir_builder_expressions.specs.Parts.{is_scalar, is_pair}
-use Rattle.ir_builder_expressions.specs.Applying.{UnarySuits, BinarySuits, sized_of, index_of}
+use Rattle.ir_builder_expressions.specs.Applying.{UnarySuits, BinarySuits, testable_of, sized_of, index_of, absence_in}
 
 -- how many expressions these are
 abbrev pub count_of : TypedExprs → ℕ
@@ -21,6 +22,16 @@ count_of (expr_then e more) = suc (count_of more)
 -- a variable of the first type is read as one of the second: of its own, or, where it may be None and is not, of the other one
 abbrev pub ReadsAs : Sort → Sort → Type 0
 ReadsAs s t = (s ≡ t) ⊎ (s ≡ sort.Optional t)
+
+-- the type of what stands behind the first operator of a chain
+abbrev pub behind_sort : Comparisons → Sort
+behind_sort no_comparisons = sort.Nothing
+behind_sort (comparison_then op e more) = type_of e
+
+-- what is asked of a part that is compared: the first where it is only asked whether it is None, and else the second
+abbrev pub ComparedSuits : Option Unary → (Unary → Type 0) → Type 0 → Type 0
+ComparedSuits (Some op) Absence Chain = Absence op
+ComparedSuits None Absence Chain = Chain
 
 module _ (m : TypedModule) (vs : List Variable) where
   abbrev mutual
@@ -36,11 +47,13 @@ module _ (m : TypedModule) (vs : List Variable) where
     NodeSuits (Global i) t = (v : Variable) × (slice_get m.globals i ≡ Some v) × (v.1 ≡ t)
     NodeSuits (Neg e) t = UnarySuits Negated t (type_of e) × Suits e
     NodeSuits (Not e) t = UnarySuits Inverted t (type_of e) × Suits e
-    NodeSuits (Truth e) t = UnarySuits Tested t (type_of e) × Suits e
+    NodeSuits (Truth e) t = UnarySuits (Tested (testable_of (type_of e))) t (type_of e) × Suits e
     NodeSuits (Arith op a b) t = BinarySuits (Arithmetic op) t (type_of a) (type_of b) × Suits a × Suits b
     NodeSuits (Concat a b) t = BinarySuits Joined t (type_of a) (type_of b) × Suits a × Suits b
     NodeSuits (Compare e more) t =
-        (t ≡ sort.Bool) × (is_scalar (type_of e) ≡ true) × Suits e × ComparisonsSuit (type_of e) more
+        ComparedSuits (absence_in more)
+        (λ op. UnarySuits op t (type_of e) × Suits e × (behind_sort more ≡ sort.Nothing))
+        ((t ≡ sort.Bool) × (is_scalar (type_of e) ≡ true) × Suits e × ComparisonsSuit (type_of e) more)
     NodeSuits (And a b) t = (is_scalar t ≡ true) × (type_of a ≡ t) × (type_of b ≡ t) × Suits a × Suits b
     NodeSuits (Or a b) t = (is_scalar t ≡ true) × (type_of a ≡ t) × (type_of b ≡ t) × Suits a × Suits b
     NodeSuits (Cond a test b) t =

@@ -1,8 +1,8 @@
 //! Operations on the values of one or two parts of an expression.
-ghost use Rattle.std.specs.Prelude.{◌≡◌, ◌<◌, IfOk, true, Some, is_some};
+ghost use Rattle.std.specs.Prelude.{◌≡◌, ◌<◌, IfOk, true, Some, is_some, map};
 ghost use Rattle.py_typed.specs.Fits.{is_number};
-ghost use Rattle.py_typed.specs.Sorts.{sort, Int, Nothing};
-ghost use Rattle.py_typed.specs.Expressions.{typed_expr, type_of};
+ghost use Rattle.py_typed.specs.Sorts.{sort, Int, Bool, Nothing};
+ghost use Rattle.py_typed.specs.Expressions.{typed_expr, type_of, comparisons_of, typed_comparison};
 ghost use Rattle.source_meaning.specs.Operations.{arithmetic, coerced, negated, append_item};
 ghost use Rattle.ir_builder_frames.specs.Building.{Extends};
 ghost use Rattle.ir_builder_frames.specs.Computing.{Shows, Attempts};
@@ -12,11 +12,11 @@ ghost use Rattle.ir_builder_frames.specs.Lines.{OwnLines};
 ghost use Rattle.ir_builder_operations.specs.Operating.{ActsOn, ActsOnTwo};
 ghost use Rattle.ir_builder_operations.specs.Selecting.{is_arithmetic, is_whole};
 ghost use Rattle.ir_builder_expressions.specs.Parts.{fitting_in, native_in, part_sort, literal_in};
-ghost use Rattle.ir_builder_expressions.specs.Applying.{unary_goes, binary_goes, UnarySuits, BinarySuits, sized_of, index_of, wanted_one, wanted_two, one_sort, two_sort, counting_of, arithmetic_of, negation_of, applied_in, node_in, seen};
+ghost use Rattle.ir_builder_expressions.specs.Applying.{tested_as, unary_goes, binary_goes, IsTestable, UnarySuits, BinarySuits, testable_of, sized_of, index_of, wanted_one, wanted_two, one_sort, two_sort, counting_of, arithmetic_of, negation_of, absence_of, absence_by, absence_in, applied_in, node_in, seen};
 ghost use Rattle.ir_builder_operations.specs.Boxes.{boxed};
 ghost use Rattle.ir_builder_operations.specs.Converting.{Converts};
 
-use crate::types::is_native;
+use crate::types::{is_native, register_type, truth};
 use ir_builder_comparisons::emit_truth;
 use ir_builder_frames::Emitter;
 use ir_builder_operations::{
@@ -24,10 +24,18 @@ use ir_builder_operations::{
     emit_text_of, emit_tuple_part, emit_unboxed,
 };
 use ir_core::{RType, Reg};
-use py_syntax::BinOp;
+use py_syntax::{BinOp, CmpOp};
 use py_typed::{TExpr, TKind, Ty};
 use std::alloc::Global;
 use value_core::{Memory, int_to_i64};
+
+/// What has a truth: a number, a bool or a text, a list, or a tuple.
+#[derive(Clone, Copy)]
+pub(crate) enum Testable {
+    Scalar,
+    List,
+    Tuple,
+}
 
 /// What has a size.
 #[derive(Clone, Copy)]
@@ -38,12 +46,12 @@ pub(crate) enum Sized {
 }
 
 /// An operation on one part: the other sign, the other truth, a truth, a length, the text of a value, a value as one of another
-/// type, and what is taken out of a list or a tuple.
+/// type, what is taken out of a list or a tuple, and whether a value is None.
 #[derive(Clone, Copy)]
 pub(crate) enum Unary {
     Negated,
     Inverted,
-    Tested,
+    Tested(Testable),
     Counted(Sized),
     Written,
     Coerced,
@@ -51,6 +59,9 @@ pub(crate) enum Unary {
     Popped,
     /// The part of a tuple with a number, from 0.
     Part(usize),
+    /// Whether a value is None, and whether it is not.
+    Absent,
+    Present,
 }
 
 /// An operation on two parts: of numbers, one text behind another, a letter of a text, an item of a list, and a value that is
@@ -69,6 +80,17 @@ pub enum Binary {
 pub(crate) enum Applied<'a> {
     One(Unary, &'a TExpr),
     Two(Binary, &'a TExpr, &'a TExpr),
+}
+
+// What has a truth, by its type.
+fn testable_by(t: &Ty) -> Testable
+    ensures { result ≡ testable_of (sort t.now) }
+{
+    match t {
+        Ty::List(_) => Testable::List,
+        Ty::Tuple(_) => Testable::Tuple,
+        _ => Testable::Scalar,
+    }
 }
 
 // What has a size, by its type.
@@ -92,6 +114,37 @@ fn indexed(t: &Ty) -> Binary
     }
 }
 
+// What an operator with None behind it asks of a part.
+fn absence_of(op: CmpOp) -> Option<Unary>
+    ensures { result ≡ absence_of op }
+{
+    match op {
+        CmpOp::Is => Some(Unary::Absent),
+        CmpOp::IsNot => Some(Unary::Present),
+        _ => None,
+    }
+}
+
+// What an operator with an operand behind it asks of a part, where the operand is None.
+fn absence_by(op: CmpOp, e: &TExpr) -> Option<Unary>
+    ensures { result ≡ absence_by op (typed_expr e.now) }
+{
+    match &e.kind {
+        TKind::Nothing => absence_of(op),
+        _ => None,
+    }
+}
+
+/// What is asked of a part by the comparisons behind it, where they are `is None` or `is not None` alone.
+pub(crate) fn absence_in(rest: &[(CmpOp, TExpr)]) -> Option<Unary>
+    ensures { result ≡ absence_in (comparisons_of (map typed_comparison rest.now)) }
+{
+    match rest {
+        [(op, e)] => absence_by(*op, e),
+        _ => None,
+    }
+}
+
 /// The operation that an expression is, with its parts.
 pub(crate) fn operation_in(e: &TExpr) -> Applied<'_>
     requires { is_some (applied_in (node_in (typed_expr e.now))) ≡ true }
@@ -100,7 +153,7 @@ pub(crate) fn operation_in(e: &TExpr) -> Applied<'_>
     match &e.kind {
         TKind::Neg(x) => Applied::One(Unary::Negated, x),
         TKind::Not(x) => Applied::One(Unary::Inverted, x),
-        TKind::Truth(x) => Applied::One(Unary::Tested, x),
+        TKind::Truth(x) => Applied::One(Unary::Tested(testable_by(&x.ty)), x),
         TKind::Len(x) => Applied::One(Unary::Counted(sized_by(&x.ty)), x),
         TKind::ToStr(x) => Applied::One(Unary::Written, x),
         TKind::Coerce(x) => Applied::One(Unary::Coerced, x),
@@ -110,6 +163,10 @@ pub(crate) fn operation_in(e: &TExpr) -> Applied<'_>
         TKind::Concat(x, y) => Applied::Two(Binary::Joined, x, y),
         TKind::At(x, y) => Applied::Two(indexed(&x.ty), x, y),
         TKind::Append(x, y) => Applied::Two(Binary::Appended, x, y),
+        TKind::Compare(x, rest) => match absence_in(rest.as_slice()) {
+            Some(op) => Applied::One(op, x),
+            None => unreachable!(),
+        },
         _ => unreachable!(),
     }
 }
@@ -362,6 +419,63 @@ fn emit_appended(
     emit_append(b, alloc, list, item, line)
 }
 
+// Whether a list has items (Python Library Reference, "Truth Value Testing").
+fn emit_filled(b: &mut Emitter, alloc: Global, list: Reg, line: usize) -> Result<Reg, Memory>
+    requires value { HasType b.old list.0 RType.Ref }
+    ensures kept { Extends b.old b.new }
+    ensures made { IfOk result (λ r. Attempts (Shows Bool) b.old b.new r.0 RType.Bool (ActsOn boxed list.0 (tested_as Testable.List))) }
+    ensures lined { OwnLines line b.old b.new }
+{
+    let length = emit_operation(b, alloc, Operation::ListLength, &[list], line)?;
+    emit_truth(b, alloc, &Ty::Int, length, line)
+}
+
+// The truth of a value of a type. A tuple is true.
+fn emit_tested(
+    b: &mut Emitter,
+    alloc: Global,
+    testable: Testable,
+    t: &Ty,
+    x: Reg,
+    line: usize,
+) -> Result<Reg, Memory>
+    requires fits { IsTestable testable (sort t.now) }
+    requires value { HasType b.old x.0 (rtype_of (sort t.now)) }
+    ensures kept { Extends b.old b.new }
+    ensures made { IfOk result (λ r. Attempts (Shows Bool) b.old b.new r.0 RType.Bool (ActsOn (sort t.now) x.0 (tested_as testable))) }
+    ensures lined { OwnLines line b.old b.new }
+{
+    match testable {
+        Testable::Scalar => emit_truth(b, alloc, t, x, line),
+        Testable::List => emit_filled(b, alloc, x, line),
+        Testable::Tuple => b.literal(RType::Bool, truth(true), line),
+    }
+}
+
+// Whether a value of a type is None. One that is no object is not.
+fn emit_absence(b: &mut Emitter, alloc: Global, t: &Ty, x: Reg, line: usize) -> Result<Reg, Memory>
+    requires value { HasType b.old x.0 (rtype_of (sort t.now)) }
+    ensures kept { Extends b.old b.new }
+    ensures made { IfOk result (λ r. Attempts (Shows Bool) b.old b.new r.0 RType.Bool (ActsOn (sort t.now) x.0 (unary_goes Unary.Absent Bool))) }
+    ensures lined { OwnLines line b.old b.new }
+{
+    match register_type(t) {
+        RType::Ref => emit_operation(b, alloc, Operation::Absence, &[x], line),
+        _ => b.literal(RType::Bool, truth(false), line),
+    }
+}
+
+// Whether a value of a type is not None.
+fn emit_presence(b: &mut Emitter, alloc: Global, t: &Ty, x: Reg, line: usize) -> Result<Reg, Memory>
+    requires value { HasType b.old x.0 (rtype_of (sort t.now)) }
+    ensures kept { Extends b.old b.new }
+    ensures made { IfOk result (λ r. Attempts (Shows Bool) b.old b.new r.0 RType.Bool (ActsOn (sort t.now) x.0 (unary_goes Unary.Present Bool))) }
+    ensures lined { OwnLines line b.old b.new }
+{
+    let absent = emit_absence(b, alloc, t, x, line)?;
+    emit_operation(b, alloc, Operation::Inversion, &[absent], line)
+}
+
 /// The result of an operation on a part, whose value is in a register.
 pub(crate) fn emit_unary(
     b: &mut Emitter,
@@ -381,12 +495,14 @@ pub(crate) fn emit_unary(
     match op {
         Unary::Negated => emit_negated(b, alloc, t, e, x, line),
         Unary::Inverted => emit_operation(b, alloc, Operation::Inversion, &[x], line),
-        Unary::Tested => emit_truth(b, alloc, &e.ty, x, line),
+        Unary::Tested(testable) => emit_tested(b, alloc, testable, &e.ty, x, line),
         Unary::Counted(sized) => emit_operation(b, alloc, counting(sized), &[x], line),
         Unary::Written => emit_text_of(b, alloc, &e.ty, x, line),
         Unary::Coerced => emit_converted(b, alloc, t, e, x, line),
         Unary::Popped => emit_popped(b, alloc, t, x, line),
         Unary::Part(number) => emit_part_of(b, alloc, t, x, number, line),
+        Unary::Absent => emit_absence(b, alloc, &e.ty, x, line),
+        Unary::Present => emit_presence(b, alloc, &e.ty, x, line),
     }
 }
 

@@ -17,8 +17,8 @@ ghost use Rattle.ir_builder_expressions.specs.Lined.{listed, operands_in, parts_
 ghost use Rattle.ir_builder_expressions.specs.Emitting.{Emits, EmitsPart, EmitsOne, EmitsTwo, EmitsAll, EmitsSide, EmitsChain};
 
 use crate::applying::{
-    Applied, Binary, Unary, emit_binary, emit_unary, native_literal, operation_in, wanted_of_part,
-    wanted_of_parts,
+    Applied, Binary, Unary, absence_in, emit_binary, emit_unary, native_literal, operation_in,
+    wanted_of_part, wanted_of_parts,
 };
 use crate::chain::{begin_link, meet_links};
 use crate::comparing::{Kind, Side, emit_pair, joined_kind, kind_of, shown_kind, type_of_kind};
@@ -65,11 +65,14 @@ pub fn emit_expression(b: &mut Emitter, site: Site, e: &TExpr) -> Result<Reg, Me
         TKind::Nothing => b.literal(RType::Ref, Lit::PyNone, site.line),
         TKind::Local(i) => emit_local_as(b, site, *i, &e.ty),
         TKind::Global(i) => emit_global_value(b, site, *i),
-        TKind::Compare(x, rest) => {
-            let other = other_kind(x, rest.as_slice());
-            let first = emit_side(b, site, other, x)?;
-            emit_chain(b, site, first, rest.as_slice())
-        }
+        TKind::Compare(x, rest) => match absence_in(rest.as_slice()) {
+            Some(_) => emit_applied(b, site, e),
+            None => {
+                let other = other_kind(x, rest.as_slice());
+                let first = emit_side(b, site, other, x)?;
+                emit_chain(b, site, first, rest.as_slice())
+            }
+        },
         TKind::And(x, y) => {
             let right = Some(&**y);
             emit_choice(b, site, &e.ty, x, right, None)

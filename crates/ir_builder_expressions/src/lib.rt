@@ -1,11 +1,10 @@
 //! From typed expressions to intermediate code.
 //!
-//! `specs/Suiting.antt` says what is asked of an expression that is built, which is one of numbers, bools and texts or a call
-//! that gives None, and `specs/Emitting.antt` what its code does. `emit_expression` goes over a tree and adds that code: operations
-//! on one or two parts (`specs/Applying.antt`), choices by the truth of a part (`specs/Arms.antt`), and for a chain of comparisons
-//! (`specs/Comparing.antt`) one choice behind the other (`specs/Linking.antt`). `emit_two_parts` and `emit_arguments` do so for
-//! parts of a statement. `proofs/WalkLemmas.antt` has for each kind of expression that its code does what it means where that of
-//! its parts does.
+//! `specs/Suiting.antt` says what is asked of an expression that is built, and `specs/Emitting.antt` what its code does.
+//! `emit_expression` goes over a tree and adds that code: operations on one or two parts (`specs/Applying.antt`), choices by the
+//! truth of a part (`specs/Arms.antt`), and for a chain of comparisons (`specs/Comparing.antt`) one choice behind the other
+//! (`specs/Linking.antt`). `emit_two_parts` and `emit_arguments` do so for parts of a statement. `proofs/WalkLemmas.antt` has for
+//! each kind of expression that its code does what it means where that of its parts does.
 #![tactic(auto)]
 
 mod applying;

@@ -7,36 +7,56 @@ use Rattle.ir_builder_expressions.proofs.GoingLemmas.{going_start, going_at, goi
 use Rattle.ir_builder_expressions.proofs.SideLemmas.{side_emits}
 use Rattle.ir_builder_expressions.proofs.WeightLemmas.{weight, weight_of_arm, member_weight, first_weight, later_weight}
 use Rattle.ir_builder_expressions.proofs.UnsuitedLemmas.{applied_left}
+use Rattle.ir_builder_expressions.proofs.AbsenceLemmas.{absence_as}
+use Rattle.ir_builder_expressions.proofs.FoundLemmas.{absence_there}
 use Rattle.ir_builder_expressions.proofs.AppliedLemmas.{applied_weight, applied_above, one_suits, two_suit, applied_emits}
 use Rattle.ir_builder_expressions.proofs.WalkLemmas.{int_within, int_walked, text_walked, input_walked, flag_walked, local_below, global_below, local_reads, local_walked, global_walked, nothing_walked, list_walked, tuple_walked, behind_slice, list_suits, tuple_suits, compare_part, compare_rest, compare_walked, call_suits, call_fits, call_walked}
 use Rattle.ir_builder_expressions.proofs.PieceLemmas.{int_fits, wanted_part, native_is, native_part, own_part, one_emits, two_emit}
 use Rattle.ir_builder_expressions.proofs.ArmLemmas.{emits_node, is_int, is_text, is_bool, is_local, is_global, is_input, is_nothing, is_list, is_tuple, is_compare, is_and, is_or, is_cond, is_call, and_asked, or_asked, cond_asked}
 use Rattle.ir_builder_expressions.proofs.ChosenLemmas.{arm_asked, arm_there, arm_missing, test_written, tested_type, arm_typed, choice_made}
 use Rattle.ir_builder_frames.proofs.HeldLemmas.{on_ok_map}
-use Rattle.ir_builder_expressions.proofs.LinedLemmas.{always, around_by, lined_first, lined_then, lined_leaf, ok_lined, ok_to, lined_one, lined_two, lined_node, lined_whole, lined_literal, lined_applied, listed_of, operands_of_all, rest_start, rest_own, argument_lined, arguments_lined, chain_started, chain_next, chain_over, chain_none, arm_lined, arm_none, choice_lined}
+use Rattle.ir_builder_expressions.proofs.LinedLemmas.{always, around_by, lined_first, lined_then, lined_leaf, ok_lined, ok_to, lined_one, lined_two, lined_node, lined_whole, lined_chain, lined_literal, lined_applied, listed_of, operands_of_all, rest_start, rest_own, argument_lined, arguments_lined, chain_started, chain_next, chain_over, chain_none, arm_lined, arm_none, choice_lined}
 use Rattle.ir_builder_expressions.proofs.expression.+expression.Goals as goal
+
+pub emit_expression-emit_applied-requires : goal.emit_expression-emit_applied-requires
+emit_expression-emit_applied-requires t c =
+    let e = c.args.e.now in
+    let x : Setting = setting_of c.args.site in
+    let at = absence_as _ _ _ _ _ c.as_slice.ensures refl c.absence_in.ensures c.in-Some.is in
+    let is = absence_there e _ _ _ (is_compare e c.in-Compare.x c.in-Compare.rest c.in-Compare.rest _ c.in-Compare.is refl refl) at in
+    let h = applied_above x e c.requires.suits is in
+    (omega (arith, h), (is, (c.requires.suits, c.requires.room)))
+
+pub emit_expression-returns-in-Some : goal.emit_expression-returns-in-Some
+emit_expression-returns-in-Some t c =
+    let e = c.emit_applied.ensures in
+    let x : Setting = setting_of c.args.site in
+    record { lined = on_ok_map _ _ _ (λ z. lined_whole x c.args.e.now _ _ z) e.lined; kept = e.kept; emitted = e.emitted }
 
 pub emit_expression-emit_side-requires : goal.emit_expression-emit_side-requires
 emit_expression-emit_side-requires t c =
     let x : Setting = setting_of c.args.site in
-    let is = is_compare c.args.e.now c.in-Compare.x c.in-Compare.rest c.in-Compare.rest _ c.in-Compare.is c.deref-in-Compare.ensures refl in
-    let part = compare_part x c.args.e.now c.requires.suits _ _ is in
+    let none = absence_as _ _ _ _ _ c.as_slice.ensures refl c.absence_in.ensures c.in-None.is in
+    let is = is_compare c.args.e.now c.in-Compare.x c.in-Compare.rest c.in-Compare.rest _ c.in-Compare.is c.deref-in-None.ensures refl in
+    let part = compare_part x c.args.e.now c.requires.suits _ _ is none in
     (omega (arith, ap weight is), (part.0, (part.1, c.requires.room)))
 
 pub emit_expression-emit_chain-requires : goal.emit_expression-emit_chain-requires
 emit_expression-emit_chain-requires t c =
     let x : Setting = setting_of c.args.site in
-    let is = is_compare c.args.e.now c.in-Compare.x c.in-Compare.rest _ _ c.in-Compare.is c.deref-in-Compare.ensures c.as_slice-in-Compare.ensures in
-    let side = c.in_ok-first-in-Compare.ensures in
-    (omega (arith, ap weight is), (compare_rest x c.args.e.now c.requires.suits _ _ _ _ _ is side.emitted, (side.emitted.shown, (room_on _ _ _ side.kept c.requires.room, side.emitted.emits.type))))
+    let none = absence_as _ _ _ _ _ c.as_slice.ensures c.as_slice-in-None-2.ensures c.absence_in.ensures c.in-None.is in
+    let is = is_compare c.args.e.now c.in-Compare.x c.in-Compare.rest _ _ c.in-Compare.is c.deref-in-None.ensures c.as_slice-in-None-2.ensures in
+    let side = c.in_ok-first-in-None.ensures in
+    (omega (arith, ap weight is), (compare_rest x c.args.e.now c.requires.suits _ _ is none _ _ _ side.emitted, (side.emitted.shown, (room_on _ _ _ side.kept c.requires.room, side.emitted.emits.type))))
 
-pub emit_expression-returns-in_ok-first-in-Compare : goal.emit_expression-returns-in_ok-first-in-Compare
-emit_expression-returns-in_ok-first-in-Compare t c =
+pub emit_expression-returns-in_ok-first-in-None : goal.emit_expression-returns-in_ok-first-in-None
+emit_expression-returns-in_ok-first-in-None t c =
     let x : Setting = setting_of c.args.site in
-    let is = is_compare c.args.e.now c.in-Compare.x c.in-Compare.rest _ _ c.in-Compare.is c.deref-in-Compare.ensures c.as_slice-in-Compare.ensures in
-    let side = c.in_ok-first-in-Compare.ensures in
-    let q : Side = c.in_ok-first-in-Compare.first in
-    record { lined = on_ok_map _ _ _ (λ z. lined_node x c.args.e.now _ _ _ is (lined_first x _ _ _ _ _ _ (kind_sort q.shown, q.reg.0, side.emitted.emits) side.lined z)) c.emit_chain.ensures.lined; kept = extends_trans _ _ _ side.kept c.emit_chain.ensures.kept; emitted = ok_map _ _ _ (λ (r : Reg) z. compare_walked x c.args.e.now c.requires.suits _ _ _ _ _ q r.0 is c.requires.room side.emitted z) c.emit_chain.ensures.emitted }
+    let none = absence_as _ _ _ _ _ c.as_slice.ensures c.as_slice-in-None-2.ensures c.absence_in.ensures c.in-None.is in
+    let is = is_compare c.args.e.now c.in-Compare.x c.in-Compare.rest _ _ c.in-Compare.is c.deref-in-None.ensures c.as_slice-in-None-2.ensures in
+    let side = c.in_ok-first-in-None.ensures in
+    let q : Side = c.in_ok-first-in-None.first in
+    record { lined = on_ok_map _ _ _ (λ z. lined_chain x c.args.e.now _ _ _ _ is none (lined_first x _ _ _ _ _ _ (kind_sort q.shown, q.reg.0, side.emitted.emits) side.lined z)) c.emit_chain.ensures.lined; kept = extends_trans _ _ _ side.kept c.emit_chain.ensures.kept; emitted = ok_map _ _ _ (λ (r : Reg) z. compare_walked x c.args.e.now c.requires.suits _ _ is none _ _ _ q r.0 c.requires.room side.emitted z) c.emit_chain.ensures.emitted }
 
 pub emit_expression-returns-in-Int : goal.emit_expression-returns-in-Int
 emit_expression-returns-in-Int t c =
@@ -74,19 +94,19 @@ emit_expression-returns-in-Input t c =
     let e = c.emit_input.ensures in
     record { lined = always _ _ (lined_leaf x c.args.e.now _ _ _ is refl e.kept e.lined); kept = e.kept; emitted = ok_map _ _ _ (λ (r : Reg) a. input_walked x c.args.e.now c.requires.suits _ _ r.0 is c.requires.room a) e.made }
 
-pub emit_expression-emit_applied-requires : goal.emit_expression-emit_applied-requires
-emit_expression-emit_applied-requires t c =
+pub emit_expression-emit_applied-requires-in_default : goal.emit_expression-emit_applied-requires-in_default
+emit_expression-emit_applied-requires-in_default t c =
     let m : TypedModule = typed_module c.args.site.checked.now in
     let vs : List Variable = map variable c.args.site.locals.now in
     let x : Setting = setting_of c.args.site in
     let d = c.in_default in
     let is = applied_left m vs c.args.e.now c.requires.suits d.not-Int d.not-Str d.not-Bool d.not-Nothing d.not-Local d.not-Global d.not-Compare d.not-And d.not-Or d.not-Cond d.not-List d.not-Tuple d.not-Call d.not-Input in
     let h = applied_above x c.args.e.now c.requires.suits is in
-    (omega (arith, h.1), (is, (c.requires.suits, c.requires.room)))
+    (omega (arith, h), (is, (c.requires.suits, c.requires.room)))
 
 pub emit_expression-returns-in_default : goal.emit_expression-returns-in_default
 emit_expression-returns-in_default t c =
-    let e = c.emit_applied.ensures in
+    let e = c.emit_applied-in_default.ensures in
     let x : Setting = setting_of c.args.site in
     record { lined = on_ok_map _ _ _ (λ z. lined_whole x c.args.e.now _ _ z) e.lined; kept = e.kept; emitted = e.emitted }
 
