@@ -10,7 +10,7 @@ pub use Rattle.ir_builder_frames.specs.Matching.{CallsWork, HasKind, HasRoom, Is
 pub use Rattle.ir_builder_frames.specs.Placing.{Has, HasType, Placed, Within, or_other}
 pub use Rattle.ir_builder_frames.specs.Settings.{Setting, rtype_of}
 pub use Rattle.ir_builder_frames.specs.Shaped.{Higher}
-pub use Rattle.ir_builder_loops_and_jumps.specs.Around.{Begins, EndsArm, EndsLoop, Joins, Splits, SplitsBy, joining, looping_to}
+pub use Rattle.ir_builder_loops_and_jumps.specs.Around.{Begins, EndsArm, EndsLoop, Joins, NothingBetween, Splits, SplitsBy, joining, looping_to}
 pub use Rattle.ir_builder_loops_and_jumps.specs.Loops.{Always, Asked, Asks, Steps, WorksAt}
 pub use Rattle.ir_builder_loops_and_jumps.specs.Runs.{Back, Brings, Emitted, Flows, Joining, JumpTo, LeavesNoLoop, OpenIn, Works, all_jumping, jumping}
 pub use Rattle.ir_builder_loops_and_jumps.specs.Ways.{by, is_same_way, left, number_or, planned, stays, uses}

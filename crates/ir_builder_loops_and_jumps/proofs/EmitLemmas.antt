@@ -1,5 +1,5 @@
 -- What is emitted for each kind of statement does what the statement means.
-use Rattle.ir_builder_loops_and_jumps.proofs.Common.{◌≡◌, ℕ, ◌≤◌, suc, ◌+◌, ◌<◌, Bool, true, false, List, [], ◌∷◌, ◌++◌, length, map, Option, Some, None, refl, sym, ap, ◌∙◌, subst, arith, append_assoc, append-nil, le_refl, get_or, drop, if◌then◌else◌, drop_more, or_parts, or_from, Sort, TExpr, TypedExpr, typed_expr, type_of, TypedAct, on_line, typed_stmt, typed_suite, typed_target, maybe_typed, State, Gives, on_to, truth_of, Flow, Goes, loop, Goto, Unreachable, Building, held, End, Setting, rtype_of, Open, Closes, HasRoom, means, Shows, Meaning, Computes, Way, Break, Continue, Join, Exit, Test, LoopStart, uses, is_same_way, stays, planned, left, Works, Joining, LeavesNoLoop, Emitted, OpenIn, Always, Asks, Splits, SplitsBy, EndsArm, joining, Joins, looping_to, EndsLoop, Begins, ends_of, extends_refl, extends_trans, type_kept, room_on}
+use Rattle.ir_builder_loops_and_jumps.proofs.Common.{◌≡◌, ℕ, ◌≤◌, suc, ◌+◌, ◌<◌, Bool, true, false, List, [], ◌∷◌, ◌++◌, length, map, Option, Some, None, refl, sym, ap, ◌∙◌, subst, arith, append_assoc, append-nil, le_refl, get_or, drop, if◌then◌else◌, drop_more, or_parts, or_from, Sort, TExpr, TypedExpr, typed_expr, type_of, TypedAct, on_line, typed_stmt, typed_suite, typed_target, maybe_typed, State, Gives, on_to, truth_of, Flow, Goes, loop, Goto, Unreachable, Building, Extends, held, End, Setting, rtype_of, Open, Closes, HasRoom, means, Shows, Meaning, Computes, Way, Break, Continue, Join, Exit, Test, LoopStart, uses, is_same_way, stays, planned, left, Works, Joining, LeavesNoLoop, Emitted, OpenIn, Always, Asks, Splits, SplitsBy, EndsArm, joining, Joins, looping_to, NothingBetween, EndsLoop, Begins, ends_of, extends_refl, extends_trans, type_kept, room_on}
 use Rattle.py_syntax.specs.declared.expression.BinOp.{BinOp}
 use Rattle.py_typed.specs.Sorts as sort
 use Rattle.py_typed.specs.Sorts.{sort as sort_of}
@@ -135,7 +135,7 @@ answered x e b0 b1 t bool room sp =
     record { middle = sp.middle; answered = asks_by x (means x e) b0 sp.middle t.condition.0 room (subst P bool sp.answered); block = sp.block; closes = sp.closes; start = sp.start }
 
 -- a `while` was begun
-pub while_begins : (x : Setting) (e : TypedExpr) (ss : tree.TypedSuite) (line : ℕ) (b0 b1 b3 : Building) (o : LoopStart) → HasRoom x b0 → type_of e ≡ sort.Bool → o.head ≡ length b1.blocks → Closes b0 b1 (Goto o.head) → SplitsBy x e b1 b3 o.test → Begins x (means_loop x (on_line (tree.While e ss) line)) b0 b3 o
+pub while_begins : (x : Setting) (e : TypedExpr) (ss : tree.TypedSuite) (line : ℕ) (b0 b1 b3 : Building) (o : LoopStart) → HasRoom x b0 → type_of e ≡ sort.Bool → o.head ≡ length b1.blocks → Closes b0 b1 (Goto o.head) → SplitsBy x e b1 b3 o.test → Begins x NothingBetween (means_loop x (on_line (tree.While e ss) line)) b0 b3 o
 while_begins x e ss line b0 b1 b3 o room bool is_head c1 sp =
     let split = answered x e b1 b3 o.test bool (room_on x b0 b1 c1.extends room) sp in
     let test : ℕ → Meaning Bool = λ i n u. on_to (means x e n u) truth_of in
@@ -147,30 +147,32 @@ while_begins x e ss line b0 b1 b3 o room bool is_head c1 sp =
       waits = record { place = length split.middle.ops; is = subst P (sym split.block) split.closes.at };
       start = (omega arith, omega arith);
       type = type_kept split.middle b3 o.test.condition.0 BoolType split.closes.extends split.answered.type;
-      works = λ result m b4 b5 b9 next xs x0 x1 q is_next c5 l.
+      works = λ result m b4 b5 b6 b9 next xs x0 x1 q is_next c5 same l.
           at_works x result (Always ℕ) (λ i n. loop (suc n) (λ j. test j n) (λ j. m n) (λ j. j) i) b0 b9 (left (planned (looping_to l.exit next)) xs) 0 (λ regs. tt)
-          (loop_works x result (Always ℕ) (Always ℕ) test (λ i. m) (λ i. i) (length b0.regs) b0 b1 b3 b4 b5 b5 b9 o next xs x0 x1 (le_refl _) (λ i regs now kept held. tt) is_head c1 split (works_at x result (Always ℕ) m b3 b4 xs q) is_next c5 (no_step x (length b0.regs) b5) l);
+          (loop_works x result (Always ℕ) (Always ℕ) test (λ i. m) (λ i. i) (length b0.regs) b0 b1 b3 b4 b5 b6 b9 o next xs x0 x1 (le_refl _) (λ i regs now kept held. tt) is_head c1 split (works_at x result (Always ℕ) m b3 b4 xs q) is_next c5 (no_step x (length b0.regs) b5 b6 same) l);
     }
 
 -- what is open where a loop ends
-pub loop_open : (x : Setting) (result : Option Sort) (whole : Meaning Flow → Meaning Flow) (m : Meaning Flow) (b0 b3 b4 b5 : Building) (o : LoopStart) (next : ℕ) (xs0 xs ks : List Exit) → Begins x whole b0 b3 o → xs0 ≡ [] → Emitted x result true m b3 b4 xs0 xs → next ≡ length b5.blocks → Closes b4 b5 (Goto next) → ks ≡ xs → (o.head ≤ length b5.blocks) × Open b5 o.test.block × (o.test.start ≤ next) × OpenIn b5 o.test.start next ks
-loop_open x result whole m b0 b3 b4 b5 o next xs0 xs ks g none p is_next c5 same =
-    let x35 = extends_trans b3 b4 b5 p.works.extends c5.extends in
-    let k = p.works.extends.blocks_grow in let n5 = c5.blocks in let low = g.head.1 in let start = g.start.1 in
-    let P : List Exit → Type 0 = λ z. OpenIn b5 o.test.start next z in (
+pub loop_open : (x : Setting) (result : Option Sort) (Between : Building → Building → Type 0) (whole : Meaning Flow → Meaning Flow) (m : Meaning Flow) (b0 b3 b4 b5 b6 : Building) (o : LoopStart) (next : ℕ) (xs0 xs ks : List Exit) → Begins x Between whole b0 b3 o → xs0 ≡ [] → Emitted x result true m b3 b4 xs0 xs → next ≡ length b5.blocks → Closes b4 b5 (Goto next) → Extends b5 b6 → ks ≡ xs → (o.head ≤ length b6.blocks) × Open b6 o.test.block × (o.test.start ≤ next) × (next ≤ length b6.blocks) × OpenIn b6 o.test.start next ks
+loop_open x result Between whole m b0 b3 b4 b5 b6 o next xs0 xs ks g none p is_next c5 more same =
+    let x46 = extends_trans b4 b5 b6 c5.extends more in
+    let x36 = extends_trans b3 b4 b6 p.works.extends x46 in
+    let k = p.works.extends.blocks_grow in let n5 = c5.blocks in let k6 = more.blocks_grow in let low = g.head.1 in let start = g.start.1 in
+    let P : List Exit → Type 0 = λ z. OpenIn b6 o.test.start next z in (
       omega arith,
-      record { place = g.waits.place; is = x35.items _ _ _ g.waits.is },
+      record { place = g.waits.place; is = x36.items _ _ _ g.waits.is },
       omega arith,
-      subst P (sym (same ∙ p.is ∙ ap (λ z. z ++ p.mine) none)) (open_on b4 b5 (length b3.blocks) (length b4.blocks) o.test.start next p.mine (stays_by b4 b5 _ _ c5.extends) start (omega arith) p.works.opens),
+      omega arith,
+      subst P (sym (same ∙ p.is ∙ ap (λ z. z ++ p.mine) none)) (open_on b4 b6 (length b3.blocks) (length b4.blocks) o.test.start next p.mine (stays_by b4 b6 _ _ x46) start (omega arith) p.works.opens),
     )
 
 -- a loop does what it means, whatever it goes over; of the exits of its body it hands on those that leave the function
-pub loop_emitted : (x : Setting) (result : Option Sort) (looping : Bool) (whole : Meaning Flow → Meaning Flow) (m m' : Meaning Flow) (b0 b3 b4 b5 b9 : Building) (o : LoopStart) (next : ℕ) (x0 x1 xs0 xs ks : List Exit) → ((n : ℕ) (s : State) → m' n s ≡ whole m n s) → Begins x whole b0 b3 o → xs0 ≡ [] → Emitted x result true m b3 b4 xs0 xs → next ≡ length b5.blocks → Closes b4 b5 (Goto next) → ks ≡ xs → EndsLoop b5 b9 o next ks x0 x1 → Emitted x result looping m' b0 b9 x0 x1
-loop_emitted x result looping whole m m' b0 b3 b4 b5 b9 o next x0 x1 xs0 xs ks is g none p is_next c5 same e =
-    let P : List Exit → Type 0 = λ z. EndsLoop b5 b9 o next z x0 x1 in
-    let l : EndsLoop b5 b9 o next p.mine x0 x1 = subst P (same ∙ p.is ∙ ap (λ z. z ++ p.mine) none) e in
+pub loop_emitted : (x : Setting) (result : Option Sort) (looping : Bool) (Between : Building → Building → Type 0) (whole : Meaning Flow → Meaning Flow) (m m' : Meaning Flow) (b0 b3 b4 b5 b6 b9 : Building) (o : LoopStart) (next : ℕ) (x0 x1 xs0 xs ks : List Exit) → ((n : ℕ) (s : State) → m' n s ≡ whole m n s) → Begins x Between whole b0 b3 o → xs0 ≡ [] → Emitted x result true m b3 b4 xs0 xs → next ≡ length b5.blocks → Closes b4 b5 (Goto next) → Between b5 b6 → ks ≡ xs → EndsLoop b6 b9 o next ks x0 x1 → Emitted x result looping m' b0 b9 x0 x1
+loop_emitted x result looping Between whole m m' b0 b3 b4 b5 b6 b9 o next x0 x1 xs0 xs ks is g none p is_next c5 between same e =
+    let P : List Exit → Type 0 = λ z. EndsLoop b6 b9 o next z x0 x1 in
+    let l : EndsLoop b6 b9 o next p.mine x0 x1 = subst P (same ∙ p.is ∙ ap (λ z. z ++ p.mine) none) e in
     let plan : Way → Option ℕ = planned (looping_to l.exit next) in
-    emitted_as x result looping m' (whole m) b0 b9 x0 x1 (left plan p.mine) is l.passed (g.works result m b4 b5 b9 next p.mine x0 x1 p.works is_next c5 l) (λ z. (planned_none plan Break l.exit p.mine refl, planned_none plan Continue next p.mine refl))
+    emitted_as x result looping m' (whole m) b0 b9 x0 x1 (left plan p.mine) is l.passed (g.works result m b4 b5 b6 b9 next p.mine x0 x1 p.works is_next c5 between l) (λ z. (planned_none plan Break l.exit p.mine refl, planned_none plan Continue next p.mine refl))
 
 -- ---- an `if`
 

@@ -129,5 +129,7 @@ loop_works x result At Inside test body next keep b0 b1 b3 b4 b5 b6 b9 o on xs x
     }
 
 -- a loop that holds nothing takes no step
-pub no_step : {X : Type 0} (x : Setting) (keep : ℕ) (b : Building) → Steps x (Always X) (Always X) (λ i. i) keep b b
-no_step x keep b = record { extends = extends_refl b; runs = λ p fn h at i regs below s held match. (regs, leads_refl p _, tt, match, λ j a z o. refl) }
+pub no_step : {X : Type 0} (x : Setting) (keep : ℕ) (b c : Building) → c ≡ b → Steps x (Always X) (Always X) (λ i. i) keep b c
+no_step {X = X} x keep b c same =
+    let P : Building → Type 0 = λ z. Steps x (Always X) (Always X) (λ i. i) keep b z in
+    subst P (sym same) record { extends = extends_refl b; runs = λ p fn h at i regs below s held match. (regs, leads_refl p _, tt, match, λ j a z o. refl) }

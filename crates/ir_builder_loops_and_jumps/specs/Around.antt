@@ -58,6 +58,10 @@ pub record Joins (old new : Building) (inner before after : List Exit) : Type 0 
 abbrev pub looping_to : ℕ → ℕ → ExitPlan
 looping_to exit next = record { breaks = Some exit; continues = Some next; returns = None; joins = None }
 
+-- nothing stands there
+abbrev pub NothingBetween : Building → Building → Type 0
+NothingBetween b c = c ≡ b
+
 -- a turn is spent, and the test of a loop comes again
 pub record EndsLoop (old new : Building) (o : LoopStart) (next : ℕ) (inner before after : List Exit) : Type 0 where
   pub turned : Building
@@ -72,11 +76,11 @@ pub record EndsLoop (old new : Building) (o : LoopStart) (next : ℕ) (inner bef
   pub set : tested ≡ record closed { blocks = with_last closed.blocks o.test.block (If o.test.condition o.test.start exit) }
   pub jumps : new ≡ all_jumping (planned (looping_to exit next)) inner tested
 
--- a loop was begun: whatever its body means, where the code of the body works behind this, and the loop is ended behind that, the whole
--- means the loop with this body
-pub record Begins (x : Setting) (whole : Meaning Flow → Meaning Flow) (old new : Building) (o : LoopStart) : Type 0 where
+-- a loop was begun, with what stands between its body and its turn: whatever its body means, where the code of the body works behind
+-- this, and the loop is ended behind that, the whole means the loop with this body
+pub record Begins (x : Setting) (Between : Building → Building → Type 0) (whole : Meaning Flow → Meaning Flow) (old new : Building) (o : LoopStart) : Type 0 where
   pub head : (1 ≤ o.head) × (o.head ≤ length new.blocks)
   pub waits : Open new o.test.block
   pub start : (o.test.block < o.test.start) × (o.test.start ≤ length new.blocks)
   pub type : HasType new o.test.condition.0 Bool
-  pub works : (result : Option Sort) (body : Meaning Flow) (left_body behind end : Building) (next : ℕ) (xs before after : List Exit) → Works x result body new left_body xs → next ≡ length behind.blocks → Closes left_body behind (Goto next) → (l : EndsLoop behind end o next xs before after) → Works x result (whole body) old end (left (planned (looping_to l.exit next)) xs)
+  pub works : (result : Option Sort) (body : Meaning Flow) (left_body behind stepped end : Building) (next : ℕ) (xs before after : List Exit) → Works x result body new left_body xs → next ≡ length behind.blocks → Closes left_body behind (Goto next) → Between behind stepped → (l : EndsLoop stepped end o next xs before after) → Works x result (whole body) old end (left (planned (looping_to l.exit next)) xs)

@@ -1,8 +1,9 @@
 -- Assignments to a variable, and updates of one, do in their code what they mean.
-use Rattle.ir_builder_statements.proofs.Common.{◌≡◌, ℕ, true, List, [], ◌∷◌, map, get_or, Option, Some, None, refl, sym, ap, ◌∙◌, subst, inl, inr, slice_get, if◌then◌else◌, Value, Target, Sort, sort_step, TypedExpr, type_of, Variable, TypedModule, TypedTarget, LocalTarget, GlobalTarget, AttrTarget, ItemTarget, typed_target, State, Outcome, Gives, Raises, Stops, Does, Calls, on_to, give, coerced, combined, Reg, Building, Extends, Setting, rtype_of, HasType, HasKind, HasRoom, means, Shows, Meaning, Computes, Attempts, room_on, computes_of, is_whole, ActsOn, is_scalar, binary_goes, BinarySuits, Suits, Emits, EmitsTwo, means_assignment, means_update, Works, set_works, works_of, IsVariable, IsOnly, UpdateSuits, VariableUpdates, TakesRegister, SetsVariable, reading_of, update_binary, TurnsInto, Span, BinOp, Ty, fold-roll-Ty}
+use Rattle.ir_builder_statements.proofs.Common.{◌≡◌, ℕ, true, List, [], ◌∷◌, map, get_or, Option, Some, None, refl, sym, ap, ◌∙◌, subst, inl, inr, slice_get, if◌then◌else◌, Value, Target, Sort, sort_step, TExpr, TypedExpr, typed_expr, type_of, Variable, TypedModule, TypedTarget, LocalTarget, GlobalTarget, AttrTarget, ItemTarget, typed_target, State, Outcome, Gives, Raises, Stops, Does, Calls, on_to, give, coerced, combined, Reg, Building, Extends, Setting, rtype_of, HasType, HasKind, HasRoom, means, Shows, Meaning, Computes, Attempts, room_on, computes_of, is_whole, ActsOn, is_scalar, binary_goes, BinarySuits, Suits, Emits, EmitsTwo, means_assignment, means_update, Works, set_works, works_of, IsVariable, ItemSuits, TakesValue, TargetSuits, UpdateSuits, VariableUpdates, TakesRegister, SetsVariable, reading_of, update_binary, TurnsInto, Span, BinOp, Ty, fold-roll-Ty}
 use Rattle.value_core.specs.Value.{NoneVal}
 use Rattle.py_typed.specs.declared.types.Ty.TheVariants as declared
 use Rattle.py_typed.specs.declared.types.Ty.TheOpen.{Ty-F}
+use Rattle.py_typed.specs.declared.statement.Target.TheVariants.{Local, Global, Attr, At}
 use Rattle.py_typed.specs.Sorts as sort
 use Rattle.py_typed.specs.Sorts.{sort as sort_of}
 use Rattle.py_typed.specs.Classes.{ClassEntry}
@@ -11,6 +12,7 @@ use Rattle.source_meaning.specs.StatementMeaning.{target_sort}
 use Rattle.source_meaning.specs.ExpressionMeaning.{read_local, read_global}
 use Rattle.source_soundness.specs.Watched.{bare, bind, assign, unpack, update, changed}
 use Rattle.py_typed.specs.TargetTypes.{sort_at}
+use Rattle.ir_builder_statements.specs.Lined.{target_pieces}
 use Rattle.ir_builder_frames.specs.Watching.{watch, calls_in}
 use Rattle.ir_builder_loops_and_jumps.specs.Simple.{storing}
 use Rattle.source_meaning.specs.WaysOut.{Flow, Goes}
@@ -27,7 +29,7 @@ none_itself : (t : Sort) (s : State) → coerced t NoneVal s ≡ Gives NoneVal s
 none_itself (sort.Optional t) s = none_itself t s
 none_itself t s = refl
 
-coerced_itself : (t : Sort) (v : Value) (s : State) → HasKind t v → coerced t v s ≡ Gives v s
+pub coerced_itself : (t : Sort) (v : Value) (s : State) → HasKind t v → coerced t v s ≡ Gives v s
 coerced_itself sort.I64 v s k =
     ap (λ z. coerced sort.I64 z s) k.1 ∙ native_kept k.0 s k.2 ∙ ap (λ z. Gives z s) (sym k.1)
 coerced_itself sort.Int v s k = ap (λ z. coerced sort.Int z s) k.1 ∙ ap (λ z. Gives z s) (sym k.1)
@@ -55,53 +57,80 @@ module _ (x : Setting) (n : ℕ) where
   abbrev Is : TypedTarget → Sort → Type 0
   Is = IsVariable x.source x.variables None
 
-  type_is : (target : TypedTarget) (t : Sort) → Is target t → target_type target ≡ t
+  pub type_is : (target : TypedTarget) (t : Sort) → Is target t → target_type target ≡ t
   type_is (LocalTarget k) t v = sort_is x.variables k v.0 t v.1 v.2
   type_is (GlobalTarget i) t v = sort_is x.source.globals i v.0 t v.1 v.2
   type_is (AttrTarget e name) t v = absurd v
   type_is (ItemTarget e i) t v = absurd v
 
-  assigned : (target : TypedTarget) (t : Sort) (s : State) (w : Value) → Is target t → putting target w s ≡ storing target w s
+  pub assigned : (target : TypedTarget) (t : Sort) (s : State) (w : Value) → Is target t → putting target w s ≡ storing target w s
   assigned (LocalTarget k) t s w v = refl
   assigned (GlobalTarget i) t s w v = refl
   assigned (AttrTarget e name) t s w v = absurd v
   assigned (ItemTarget e i) t s w v = absurd v
 
-  bound : (target : TypedTarget) (t : Sort) (s : State) (w : Value) → Is target t → HasKind t w → bind (watch x.source) classes call x.source.globals x.variables (target ∷ []) t w s ≡ storing target w s
-  bound target t s w v kind =
+  -- a value that fits
+  pub bound_as : (target : TypedTarget) (t u : Sort) (s : State) (w : Value) → Is target u → fits classes t u ≡ true → bind (watch x.source) classes call x.source.globals x.variables (target ∷ []) t w s ≡ on_to (coerced u w s) (storing target)
+  bound_as target t u s w v fit =
       let one : Does (Unit {0}) = λ u. on_to (coerced (target_type target) w u) (putting target) in
       let other : Does (Unit {0}) = unpack (watch x.source) classes call x.source.globals x.variables (target ∷ []) w in
-      ap (λ z. (if fits classes t z then one else other) s) (type_is target t v)
-      ∙ ap (λ b. (if b then one else other) s) (fits_itself classes t)
-      ∙ ap (λ z. on_to (coerced z w s) (putting target)) (type_is target t v)
-      ∙ ap (λ o. on_to o (putting target)) (coerced_itself t w s kind)
-      ∙ assigned target t s w v
+      ap (λ z. (if fits classes t z then one else other) s) (type_is target u v)
+      ∙ ap (λ b. (if b then one else other) s) fit
+      ∙ ap (λ z. on_to (coerced z w s) (putting target)) (type_is target u v)
+      ∙ after (coerced u w s)
+    where
+      after : (o : Outcome Value) → on_to o (putting target) ≡ on_to o (storing target)
+      after (Gives z i) = assigned target u i z v
+      after (Raises z i) = refl
+      after (Stops z i) = refl
+
+  bound : (target : TypedTarget) (t : Sort) (s : State) (w : Value) → Is target t → HasKind t w → bind (watch x.source) classes call x.source.globals x.variables (target ∷ []) t w s ≡ storing target w s
+  bound target t s w v kind =
+      bound_as target t t s w v (fits_itself classes t) ∙ ap (λ o. on_to o (storing target)) (coerced_itself t w s kind)
 
 -- ---- assignment
 
 -- the target that stands alone
-pub only_target : (x : Setting) (targets : List Target) (target : Target) (t : Sort) → target ≡ get_or targets 0 target → IsOnly x.source x.variables None (map typed_target targets) t → (map typed_target targets ≡ typed_target target ∷ []) × IsVariable x.source x.variables None (typed_target target) t
-only_target x [] target t is only = absurd only
-only_target x (u ∷ []) target t is only =
-    let P : Target → Type 0 = λ z. IsVariable x.source x.variables None (typed_target z) t in
-    (ap (λ z. typed_target z ∷ []) (sym is), subst P (sym is) only)
-only_target x (u ∷ w ∷ targets) target t is only = absurd only
+module _ (m : TypedModule) (vs : List Variable) (targets : List Target) (target : Target) (t : Sort) (first : target ≡ get_or targets 0 target) where
+  target_alone : (us : List Target) → target ≡ get_or us 0 target → TargetSuits m vs None (map typed_target us) t → (map typed_target us ≡ typed_target target ∷ []) × TakesValue m vs None (typed_target target) t
+  target_alone [] is suits = absurd suits
+  target_alone (u ∷ []) is suits =
+      let P : Target → Type 0 = λ z. TakesValue m vs None (typed_target z) t in
+      (ap (λ z. typed_target z ∷ []) (sym is), subst P (sym is) suits)
+  target_alone (u ∷ w ∷ us) is suits = absurd suits
 
-pub assignment_code : (x : Setting) (targets : List Target) (target : Target) (e : TypedExpr) (b0 b1 b2 : Building) (r : Reg) → target ≡ get_or targets 0 target → IsOnly x.source x.variables None (map typed_target targets) (type_of e) → HasRoom x b0 → Emits x e b0 b1 r.0 → SetsVariable x.source x.frame (typed_target target) r.0 b1 b2 → (gives : Option Sort) → Works x gives (means_assignment x (map typed_target targets) e) b0 b2 []
-assignment_code x targets target e b0 b1 b2 r is only room cx q gives =
+  named : (u : Target) → ((a i : TExpr) → u ≡ At a i → ⊥) → TakesValue m vs None (typed_target u) t → IsVariable m vs None (typed_target u) t
+  named (Local k) none takes = takes
+  named (Global k) none takes = takes
+  named (Attr a name) none takes = takes
+  named (At a i) none takes = absurd (none a i refl)
+
+  pub only_named : ((a i : TExpr) → target ≡ At a i → ⊥) → TargetSuits m vs None (map typed_target targets) t → (map typed_target targets ≡ typed_target target ∷ []) × IsVariable m vs None (typed_target target) t
+  only_named none suits = let h = target_alone targets first suits in (h.0, named target none h.1)
+
+  pub only_item : (a i : TExpr) → target ≡ At a i → TargetSuits m vs None (map typed_target targets) t → (map typed_target targets ≡ ItemTarget (typed_expr a) (typed_expr i) ∷ []) × ItemSuits m vs None (typed_expr a) (typed_expr i) t
+  only_item a i is suits =
+      let h = target_alone targets first suits in
+      let P : Target → Type 0 = λ z. TakesValue m vs None (typed_target z) t in
+      (h.0 ∙ ap (λ z. typed_target z ∷ []) is, subst P is h.1)
+
+-- a variable has no parts
+pub no_pieces : (m : TypedModule) (vs : List Variable) (target : TypedTarget) (t : Sort) → IsVariable m vs None target t → target_pieces target ≡ []
+no_pieces m vs (LocalTarget k) t v = refl
+no_pieces m vs (GlobalTarget i) t v = refl
+no_pieces m vs (AttrTarget e name) t v = absurd v
+no_pieces m vs (ItemTarget a i) t v = absurd v
+
+pub assignment_code : (x : Setting) (target : TypedTarget) (e : TypedExpr) (b0 b1 b2 : Building) (r : Reg) → IsVariable x.source x.variables None target (type_of e) → HasRoom x b0 → Emits x e b0 b1 r.0 → SetsVariable x.source x.frame target r.0 b1 b2 → (gives : Option Sort) → Works x gives (means_assignment x (target ∷ []) e) b0 b2 []
+assignment_code x target e b0 b1 b2 r variable room cx q gives =
     let t = type_of e in
-    let one = only_target x targets target t is only in
-    let sets = q x.variables t (room_on x b0 b1 cx.extends room) one.1 cx.type in
-    let P : List TypedTarget → Type 0 = λ z. Works x gives (means_assignment x z e) b0 b2 [] in
-    let go : ℕ → Value → Does (Unit {0}) = λ n. bind (watch x.source) (classes x n) (call x n) x.source.globals x.variables (typed_target target ∷ []) t in
-    subst P (sym one.0)
-    (set_works x gives (means x e) t (typed_target target) r.0 go b0 b1 b2 room cx sets
-    (λ n w s kind. bound x n (typed_target target) t s w one.1 kind))
+    let sets = q x.variables t (room_on x b0 b1 cx.extends room) variable cx.type in
+    let go : ℕ → Value → Does (Unit {0}) = λ n. bind (watch x.source) (classes x n) (call x n) x.source.globals x.variables (target ∷ []) t in
+    set_works x gives (means x e) t target r.0 go b0 b1 b2 room cx sets (λ n w s kind. bound x n target t s w variable kind)
 
 -- the register of the value has the variable's type
-pub assignment_takes : (x : Setting) (targets : List Target) (target : Target) (e : TypedExpr) (b0 b1 : Building) (r : ℕ) → target ≡ get_or targets 0 target → IsOnly x.source x.variables None (map typed_target targets) (type_of e) → HasRoom x b0 → Emits x e b0 b1 r → TakesRegister x.source x.frame (typed_target target) r b1
-assignment_takes x targets target e b0 b1 r is only room cx =
-    (x.variables, type_of e, room_on x b0 b1 cx.extends room, (only_target x targets target (type_of e) is only).1, cx.type)
+pub assignment_takes : (x : Setting) (target : TypedTarget) (e : TypedExpr) (b0 b1 : Building) (r : ℕ) → IsVariable x.source x.variables None target (type_of e) → HasRoom x b0 → Emits x e b0 b1 r → TakesRegister x.source x.frame target r b1
+assignment_takes x target e b0 b1 r variable room cx = (x.variables, type_of e, room_on x b0 b1 cx.extends room, variable, cx.type)
 
 -- ---- updates
 
@@ -125,7 +154,7 @@ abbrev pub Reads : Setting → TypedTarget → TypedExpr → Type 0
 Reads x target before =
     (n : ℕ) (f : Value → Does Value) (s : State) → update (watch x.source) x.source.classes.classes (calls_in x.source n) x.source.globals x.variables target f s ≡ on_to (on_to (means x before n s) f) (assign (watch x.source) x.source.classes.classes (calls_in x.source n) x.source.globals x.variables target)
 
-bare_simple : (t : Sort) → is_scalar t ≡ true → bare t ≡ t
+pub bare_simple : (t : Sort) → is_scalar t ≡ true → bare t ≡ t
 bare_simple (sort.Optional t) h = absurd (cc)
 bare_simple t h = refl
 
@@ -156,7 +185,7 @@ module _ (m : TypedModule) (vs : List Variable) where
   one_found : (o : Option Variable) (t u : Sort) → (v : Variable) × (o ≡ Some v) × (v.1 ≡ t) → (v : Variable) × (o ≡ Some v) × (v.1 ≡ u) → t ≡ u
   one_found o t u v w = let e : Some v.0 ≡ Some w.0 = sym v.1 ∙ w.1 in let same : v.0 ≡ w.0 = cc in sym v.2 ∙ ap (λ (z : Variable). z.1) same ∙ w.2
 
-  one_sort : (target : TypedTarget) (t u : Sort) → IsVariable m vs None target t → IsVariable m vs None target u → t ≡ u
+  pub one_sort : (target : TypedTarget) (t u : Sort) → IsVariable m vs None target t → IsVariable m vs None target u → t ≡ u
   one_sort (LocalTarget k) t u v w = one_found (slice_get vs k) t u v w
   one_sort (GlobalTarget i) t u v w = one_found (slice_get m.globals i) t u v w
   one_sort (AttrTarget e name) t u v w = absurd v

@@ -1,7 +1,11 @@
 -- What the parts of statements do makes what they do.
-use Rattle.ir_builder_statements.proofs.Common.{◌≡◌, List, [], length, Option, Some, None, sym, subst, Result, Ok, Err, OnOk, TExpr, TStmt, Sort, TypedExpr, typed_expr, type_of, Variable, TypedModule, TypedStmt, typed_stmt, typed_suite, maybe_typed, typed_stmt-While, Goto, Building, Extends, Setting, rtype_of, HasType, Closes, HasRoom, Surrounding, IsOf, type_kept, Exit, means_loop, means_statement, means_return, returned_type, LoopStart, Works, Emitted, return_emitted, while_begins, TestSuits, ReturnSuits, GivesResult, Bool, BoolType, Test, SplitsBy, Begins, ◌<◌, ◌≤◌, ℕ, arith, le_refl, If, Reg, with_last, Open, patches, OpenIn, stays_by, stays_patch_below, open_on, refl, NoneVal, Ref, Return, PyNone, Lit, Holds, Adds, Shows, made_computes, Emits, means_returned, leaves_none, return_works, ComputesReturned}
+use Rattle.ir_builder_statements.proofs.Common.{◌≡◌, List, [], map, length, Option, Some, None, sym, subst, Result, Ok, Err, OnOk, TExpr, TStmt, Sort, TypedExpr, typed_expr, type_of, Variable, TypedModule, TypedStmt, typed_stmt, typed_suite, maybe_typed, Target, typed_target, typed_stmt-While, Goto, Building, Extends, Setting, rtype_of, HasType, Closes, HasRoom, Surrounding, IsOf, type_kept, Exit, means_loop, means_statement, means_return, returned_type, LoopStart, Works, Emitted, return_emitted, while_begins, TestSuits, ReturnSuits, GivesResult, Bool, BoolType, Test, SplitsBy, Begins, NothingBetween, ◌<◌, ◌≤◌, ℕ, arith, le_refl, If, Reg, with_last, Open, patches, OpenIn, stays_by, stays_patch_below, open_on, refl, NoneVal, Ref, Return, PyNone, Lit, Holds, Adds, Shows, made_computes, Emits, means_returned, leaves_none, return_works, ComputesReturned}
 use Rattle.py_typed.specs.declared.statement.TStmtKind as kind
 use Rattle.py_typed.specs.Sorts as sort
+use Rattle.ir_builder_loops_and_jumps.specs.Means.{means_range, means_list}
+use Rattle.ir_builder_statements.specs.declared.counting.Begun.{Begun}
+use Rattle.ir_builder_statements.specs.Counting.{StepsOn}
+use Rattle.ir_builder_statements.proofs.SuiteLemmas.{typed_stmt-ForRange, typed_stmt-ForList}
 use Rattle.ir_builder_frames.proofs.StepLemmas.{literal_makes}
 
 pub on_ok_both : {A E : Type 0} (res : Result A E) (P Q R : Type 0) → (P → Q → R) → OnOk res P → OnOk res Q → OnOk res R
@@ -51,10 +55,24 @@ condition_type x gives e b1 b2 b3 t suits sp more =
 
 -- ---- loops
 
-pub while_begun : (x : Setting) (s : TStmt) (e : TExpr) (ss : List TStmt) (b0 b1 b3 : Building) (o : LoopStart) → s.kind ≡ kind.While e ss → HasRoom x b0 → type_of (typed_expr e) ≡ sort.Bool → o.head ≡ length b1.blocks → Closes b0 b1 (Goto o.head) → SplitsBy x (typed_expr e) b1 b3 o.test → Begins x (means_loop x (typed_stmt s)) b0 b3 o
+pub while_begun : (x : Setting) (s : TStmt) (e : TExpr) (ss : List TStmt) (b0 b1 b3 : Building) (o : LoopStart) → s.kind ≡ kind.While e ss → HasRoom x b0 → type_of (typed_expr e) ≡ sort.Bool → o.head ≡ length b1.blocks → Closes b0 b1 (Goto o.head) → SplitsBy x (typed_expr e) b1 b3 o.test → Begins x NothingBetween (means_loop x (typed_stmt s)) b0 b3 o
 while_begun x s e ss b0 b1 b3 o is room bool is_head c1 sp =
-    let P : TypedStmt → Type 0 = λ z. Begins x (means_loop x z) b0 b3 o in
+    let P : TypedStmt → Type 0 = λ z. Begins x NothingBetween (means_loop x z) b0 b3 o in
     subst P (sym (typed_stmt-While s e ss is)) (while_begins x (typed_expr e) (typed_suite ss) s.line b0 b1 b3 o room bool is_head c1 sp)
+
+-- and a `for` over a range
+pub range_loop : (x : Setting) (s : TStmt) (ts all : List Target) (a : Option TExpr) (e : TExpr) (ss : List TStmt) (b0 b3 : Building) (o : Begun) → s.kind ≡ kind.ForRange all a e ss → ts ≡ all → Begins x (StepsOn o.counter) (means_range x (map typed_target ts) (maybe_typed a) (typed_expr e)) b0 b3 o.start → Begins x (StepsOn o.counter) (means_loop x (typed_stmt s)) b0 b3 o.start
+range_loop x s ts all a e ss b0 b3 o is same g =
+    let P : TypedStmt → Type 0 = λ z. Begins x (StepsOn o.counter) (means_loop x z) b0 b3 o.start in
+    let Q : List Target → Type 0 = λ z. Begins x (StepsOn o.counter) (means_range x (map typed_target z) (maybe_typed a) (typed_expr e)) b0 b3 o.start in
+    subst P (sym (typed_stmt-ForRange s all a e ss is)) (subst Q same g)
+
+-- and one over a list
+pub list_loop : (x : Setting) (s : TStmt) (ts all : List Target) (e : TExpr) (ss : List TStmt) (b0 b3 : Building) (o : Begun) → s.kind ≡ kind.ForList all e ss → ts ≡ all → Begins x (StepsOn o.counter) (means_list x (map typed_target ts) (typed_expr e)) b0 b3 o.start → Begins x (StepsOn o.counter) (means_loop x (typed_stmt s)) b0 b3 o.start
+list_loop x s ts all e ss b0 b3 o is same g =
+    let P : TypedStmt → Type 0 = λ z. Begins x (StepsOn o.counter) (means_loop x z) b0 b3 o.start in
+    let Q : List Target → Type 0 = λ z. Begins x (StepsOn o.counter) (means_list x (map typed_target z) (typed_expr e)) b0 b3 o.start in
+    subst P (sym (typed_stmt-ForList s all e ss is)) (subst Q same g)
 
 -- ---- what is open stays so, while the parts of `if` and `while` end
 

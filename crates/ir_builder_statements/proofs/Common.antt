@@ -28,8 +28,8 @@ pub use Rattle.ir_builder_loops_and_jumps.specs.declared.ways.LoopStart.{LoopSta
 pub use Rattle.ir_builder_operations.specs.Operating.{ActsOn, is_written}
 pub use Rattle.ir_builder_operations.specs.Selecting.{is_whole}
 pub use Rattle.ir_builder_statements.specs.Kinds.{GivesResult}
-pub use Rattle.ir_builder_statements.specs.Parts.{ComputesReturned, HasFlag, SetsGlobal, SetsLocal, SetsVariable, TakesGlobal, TakesRegister, TurnsInto, reading_of, update_binary}
-pub use Rattle.ir_builder_statements.specs.Suiting.{ActSuits, ArmsSuit, DoSuits, IsOnly, IsVariable, LoopSuits, PrintSuits, ReturnSuits, StatementSuits, SuiteSuits, TestSuits, UpdateSuits, VariableUpdates}
+pub use Rattle.ir_builder_statements.specs.Parts.{ComputesReturned, HasFlag, SetsGlobal, SetsLocal, SetsVariable, TakesGlobal, TakesRegister, TurnsInto, reading_of, update_binary, EmitsObject, changed_as}
+pub use Rattle.ir_builder_statements.specs.Suiting.{ActSuits, ArmsSuit, DoSuits, IsVariable, ListSuits, LoopSuits, PrintSuits, RangeSuits, ReturnSuits, StatementSuits, SuiteSuits, TestSuits, UpdateSuits, VariableUpdates, ItemSuits, ItemUpdates, TakesValue, TargetSuits, TargetUpdates}
 pub use Rattle.ir_builder_frames.specs.Building.{Building, Extends, held}
 pub use Rattle.ir_core.specs.Building.{with_last}
 pub use Rattle.ir_core.specs.Registers.{Holds}
@@ -40,7 +40,7 @@ pub use Rattle.ir_core.specs.declared.code.PArg.{PArg}
 pub use Rattle.ir_core.specs.declared.code.RType.TheVariants.{Bool as BoolType, Ref}
 pub use Rattle.ir_core.specs.declared.code.Reg.{Reg}
 pub use Rattle.py_typed.proofs.ExpressionLemmas.{type_at, typed_node-Print}
-pub use Rattle.py_typed.proofs.StatementLemmas.{typed_act-Break, typed_act-Continue, typed_act-If, typed_act-Return, typed_act-While, typed_stmt-While, typed_stmt_of, typed_stmt_at, typed_stmt-If, typed_act-Expr, typed_act-Assign, typed_act-Aug, typed_act-Pass}
+pub use Rattle.py_typed.proofs.StatementLemmas.{typed_act-Break, typed_act-Continue, typed_act-If, typed_act-Return, typed_act-While, typed_stmt-While, typed_stmt_of, typed_stmt_at, typed_stmt-If, typed_act-Expr, typed_act-Assign, typed_act-Aug, typed_act-Pass, typed_act-ForRange, typed_act-ForList}
 pub use Rattle.py_typed.specs.Expressions.{TypedExpr, exprs_of, type_of, typed_expr}
 pub use Rattle.py_typed.specs.Sorts.{Sort, sort, sort_step}
 pub use Rattle.py_typed.specs.Statements.{AttrTarget, GlobalTarget, ItemTarget, LocalTarget, TypedAct, TypedModule, TypedStmt, TypedSuite, TypedTarget, Variable, arms_of, maybe_typed, on_line, typed_act, typed_arm, typed_module, typed_stmt, typed_suite, typed_target, variable}
@@ -50,7 +50,7 @@ pub use Rattle.py_typed.specs.declared.statement.TStmt.{TStmt, size-TStmt, the_l
 pub use Rattle.py_typed.specs.declared.statement.Target.{Target}
 pub use Rattle.source_meaning.specs.Operations.{coerced, combined, line_of}
 pub use Rattle.source_meaning.specs.State.{Calls, Does, Gives, Outcome, Raises, State, Stops, give, on_to}
-pub use Rattle.std.proofs.Common.{Err, List, None, Ok, OnOk, Option, Result, Some, [], ap, arith, drop, get_or, inl, inr, le_refl, length, map, max, refl, rules, subst, suc, sym, true, zero, ℕ, ◌*◌, ◌++◌, ◌+◌, ◌<◌, ◌∙◌, ◌∷◌, ◌≡◌, ◌≤◌, Bool}
+pub use Rattle.std.proofs.Common.{Err, List, None, Ok, OnOk, Option, Result, Some, [], ap, arith, drop, false, get_or, inl, inr, le_refl, length, map, max, refl, rules, subst, suc, sym, true, zero, ℕ, ◌*◌, ◌++◌, ◌+◌, ◌<◌, ◌∙◌, ◌∷◌, ◌≡◌, ◌≤◌, Bool}
 pub use Rattle.std.specs.Option.{option_copied, option_map}
 pub use Rattle.std.specs.Prelude.{if◌then◌else◌, pos, slice_get}
 pub use Rattle.value_core.specs.Value.{NoneVal, Value}
@@ -58,7 +58,7 @@ pub use Rattle.py_syntax.specs.declared.token.Span.{Span}
 pub use Rattle.py_syntax.specs.declared.expression.BinOp.{BinOp}
 pub use Rattle.py_typed.specs.declared.types.Ty.{Ty, fold-roll-Ty}
 pub use Rattle.ir_builder_loops_and_jumps.specs.declared.ways.Test.{Test}
-pub use Rattle.ir_builder_loops_and_jumps.specs.Around.{SplitsBy, Begins, EndsArm, Joins, EndsLoop, joining, looping_to}
+pub use Rattle.ir_builder_loops_and_jumps.specs.Around.{SplitsBy, Begins, NothingBetween, EndsArm, Joins, EndsLoop, joining, looping_to}
 pub use Rattle.std.proofs.lemmas.List.{drop_more, drop_all}
 pub use Rattle.ir_builder_frames.specs.Lines.{OwnLines}
 pub use Rattle.ir_builder_expressions.specs.Lined.{Around, IsCodeOf, Lined, LinedParts, lined, own, part}

@@ -6,3 +6,7 @@ pub mod SuiteLemmas
 pub mod BodyLemmas
 pub mod Common
 pub mod LinedLemmas
+pub mod CountLemmas
+pub mod ForLemmas
+pub mod ListLemmas
+pub mod ItemLemmas

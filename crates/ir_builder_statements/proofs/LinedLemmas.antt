@@ -6,7 +6,8 @@ use Rattle.py_typed.specs.declared.expression.TKind as expr
 use Rattle.py_typed.specs.declared.statement.TStmtKind as kind
 use Rattle.py_typed.specs.declared.statement.TStmtKind.{TStmtKind}
 use Rattle.ir_builder_statements.proofs.AloneLemmas.{print_is}
-use Rattle.ir_builder_statements.specs.Lined.{Piece, value, alone, body, arm_pieces, returned_pieces, head_pieces, pieces_of, IsCodeOfSuite, IsCodeOfStatement, IsCodeOfPiece, of_value, of_alone, of_body, LinedPieces, own as bare, piece, LinedStatement, lined as stands, LinedSuite, none, next}
+use Rattle.ir_builder_statements.proofs.SuiteLemmas.{typed_stmt-ForRange, typed_stmt-ForList}
+use Rattle.ir_builder_statements.specs.Lined.{Piece, value, alone, body, arm_pieces, returned_pieces, bound_pieces, head_pieces, pieces_of, IsCodeOfSuite, IsCodeOfStatement, IsCodeOfPiece, of_value, of_alone, of_body, LinedPieces, own as bare, piece, LinedStatement, lined as stands, LinedSuite, none, next, target_pieces, all_target_pieces}
 use Rattle.ir_builder_statements.proofs.BodyLemmas.{open_kept, open_tested, still_open}
 
 -- ---- pieces one behind the other
@@ -135,10 +136,12 @@ module _ (x : Setting) (s : TStmt) (b c : Building) where
   pub alone_lined : (e : TExpr) → s.kind ≡ kind.Expr e → IsCodeOfPiece x (alone (typed_expr e)) b c → Lined x (typed_expr e) b c → LinedStatement x (typed_stmt s) b c
   alone_lined e is code one = statement_lined x s (tree.Do (typed_expr e)) b c (act_is s _ _ (typed_act-Expr e) is) (piece (around_none s.line b) code (of_alone one) (bare (around_none s.line c)))
 
-  pub assign_lined : (targets : List Target) (e : TExpr) → s.kind ≡ kind.Assign targets e → LinedPieces x s.line (value (typed_expr e) ∷ []) b c → LinedStatement x (typed_stmt s) b c
-  assign_lined targets e is h = statement_lined x s (tree.Assign (map typed_target targets) (typed_expr e)) b c (act_is s _ _ (typed_act-Assign targets e) is) h
+  pub assign_lined : (targets all : List Target) (e : TExpr) → s.kind ≡ kind.Assign all e → targets ≡ all → LinedPieces x s.line (value (typed_expr e) ∷ all_target_pieces (map typed_target targets)) b c → LinedStatement x (typed_stmt s) b c
+  assign_lined targets all e is same h =
+      let P : List Target → Type 0 = λ z. LinedPieces x s.line (value (typed_expr e) ∷ all_target_pieces (map typed_target z)) b c in
+      statement_lined x s (tree.Assign (map typed_target all) (typed_expr e)) b c (act_is s _ _ (typed_act-Assign all e) is) (subst P same h)
 
-  pub update_lined : (target : Target) (op : BinOp) (e : TExpr) (t : Ty) → s.kind ≡ kind.Aug target op e t → LinedPieces x s.line (value (typed_expr e) ∷ []) b c → LinedStatement x (typed_stmt s) b c
+  pub update_lined : (target : Target) (op : BinOp) (e : TExpr) (t : Ty) → s.kind ≡ kind.Aug target op e t → LinedPieces x s.line (target_pieces (typed_target target) ++ value (typed_expr e) ∷ []) b c → LinedStatement x (typed_stmt s) b c
   update_lined target op e t is h = statement_lined x s (tree.Aug (typed_target target) op (typed_expr e) (sort t)) b c (act_is s _ _ (typed_act-Aug target op e t) is) h
 
   pub return_lined : (o : Option TExpr) → s.kind ≡ kind.Return o → LinedPieces x s.line (returned_pieces (maybe_typed o)) b c → LinedStatement x (typed_stmt s) b c
@@ -165,6 +168,14 @@ loop_pieces x gives (on_line (tree.While test same) line) ss l b c is suits h =
     let P : TypedSuite → Type 0 = λ z. LinedPieces x l (value test ∷ body z ∷ []) b c in
     let Q : ℕ → Type 0 = λ k. LinedPieces x k (value test ∷ body same ∷ []) b c in
     stands (subst Q (sym is) (subst P (sym suits.0) h))
+loop_pieces x gives (on_line (tree.ForRange ts a e same) line) ss l b c is suits h =
+    let P : TypedSuite → Type 0 = λ z. LinedPieces x l (bound_pieces a e ++ body z ∷ []) b c in
+    let Q : ℕ → Type 0 = λ k. LinedPieces x k (bound_pieces a e ++ body same ∷ []) b c in
+    stands (subst Q (sym is) (subst P (sym suits.0) h))
+loop_pieces x gives (on_line (tree.ForList ts e same) line) ss l b c is suits h =
+    let P : TypedSuite → Type 0 = λ z. LinedPieces x l (value e ∷ body z ∷ []) b c in
+    let Q : ℕ → Type 0 = λ k. LinedPieces x k (value e ∷ body same ∷ []) b c in
+    stands (subst Q (sym is) (subst P (sym suits.0) h))
 loop_pieces x gives (on_line _ line) ss l b c is suits h = absurd suits
 
 pub loop_lined : (x : Setting) (gives : Option Sort) (s : TStmt) (ss : TypedSuite) (b0 b3 b4 b5 b9 : Building) → LoopSuits x.source x.variables gives (typed_stmt s) ss → LinedPieces x s.line (head_pieces (typed_stmt s)) b0 b3 → IsCodeOfSuite x ss b3 b4 → LinedSuite x ss b3 b4 → Around s.line b4 b5 → Around s.line b5 b9 → LinedStatement x (typed_stmt s) b0 b9
@@ -177,6 +188,17 @@ while_head x s e ss l b0 b1 b3 is before test =
     let P : TypedStmt → Type 0 = λ z. LinedPieces x l (head_pieces z) b0 b3 in
     subst P (sym (typed_stmt-While s e ss is)) (pieces_behind before test)
 
+-- and before that of a `for`
+pub range_head : (x : Setting) (s : TStmt) (ts : List Target) (a : Option TExpr) (e : TExpr) (ss : List TStmt) (b0 b3 : Building) → s.kind ≡ kind.ForRange ts a e ss → LinedPieces x s.line (bound_pieces (maybe_typed a) (typed_expr e)) b0 b3 → LinedPieces x s.line (head_pieces (typed_stmt s)) b0 b3
+range_head x s ts a e ss b0 b3 is h =
+    let P : TypedStmt → Type 0 = λ z. LinedPieces x s.line (head_pieces z) b0 b3 in
+    subst P (sym (typed_stmt-ForRange s ts a e ss is)) h
+
+pub list_head : (x : Setting) (s : TStmt) (ts : List Target) (e : TExpr) (ss : List TStmt) (b0 b3 : Building) → s.kind ≡ kind.ForList ts e ss → LinedPieces x s.line (value (typed_expr e) ∷ []) b0 b3 → LinedPieces x s.line (head_pieces (typed_stmt s)) b0 b3
+list_head x s ts e ss b0 b3 is h =
+    let P : TypedStmt → Type 0 = λ z. LinedPieces x s.line (head_pieces z) b0 b3 in
+    subst P (sym (typed_stmt-ForList s ts e ss is)) h
+
 -- ---- returned values
 
 pub none_lined : (x : Setting) (l : ℕ) (o : Option TExpr) (a b : Building) → o ≡ None → Around l a b → LinedPieces x l (returned_pieces (maybe_typed o)) a b
@@ -186,6 +208,9 @@ pub some_lined : (x : Setting) (l : ℕ) (o : Option TExpr) (e : TExpr) (a b : B
 some_lined x l o e a b r is code one =
     let P : Option TExpr → Type 0 = λ z. LinedPieces x l (returned_pieces (maybe_typed z)) a b in
     subst P (sym is) (value_piece x l (typed_expr e) a b b (type_of (typed_expr e), r, code) one (around_none l b))
+
+pub one_lined : (x : Setting) (l : ℕ) (o : Option TExpr) (e : TExpr) (a b : Building) → o ≡ Some e → LinedPieces x l (value (typed_expr e) ∷ []) a b → LinedPieces x l (returned_pieces (maybe_typed o)) a b
+one_lined x l o e a b is h = let P : Option TExpr → Type 0 = λ z. LinedPieces x l (returned_pieces (maybe_typed z)) a b in subst P (sym is) h
 
 -- ---- `print`
 

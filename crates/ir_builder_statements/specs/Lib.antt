@@ -3,3 +3,4 @@ pub mod Modules
 pub mod Kinds
 pub mod Parts
 pub mod Lined
+pub mod Counting

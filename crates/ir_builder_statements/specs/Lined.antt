@@ -3,7 +3,7 @@
 use Rattle.std.specs.Prelude.{ℕ, List, [], ◌∷◌, ◌++◌, Option, Some, None}
 use Rattle.py_typed.specs.Sorts.{Sort}
 use Rattle.py_typed.specs.Expressions.{TypedExpr}
-use Rattle.py_typed.specs.Statements.{TypedStmt, on_line, TypedAct, Do, Assign, Aug, If, While, Return, TypedSuite, no_stmts, stmt_then, Arms, no_arms, arm_then}
+use Rattle.py_typed.specs.Statements.{TypedStmt, on_line, TypedAct, Do, Assign, Aug, If, While, ForRange, ForList, Return, TypedSuite, no_stmts, stmt_then, Arms, no_arms, arm_then, TypedTarget, AttrTarget, ItemTarget}
 use Rattle.ir_builder_frames.specs.Building.{Building}
 use Rattle.ir_builder_frames.specs.Settings.{Setting}
 use Rattle.ir_builder_expressions.specs.Lined.{Around, IsCodeOf, Lined}
@@ -27,18 +27,36 @@ abbrev pub returned_pieces : Option TypedExpr → List Piece
 returned_pieces None = []
 returned_pieces (Some e) = value e ∷ []
 
+-- of the bounds of a range
+abbrev pub bound_pieces : Option TypedExpr → TypedExpr → List Piece
+bound_pieces start stop = returned_pieces start ++ value stop ∷ []
+
+-- of what is assigned to: the parts that say which attribute or item it is
+abbrev pub target_pieces : TypedTarget → List Piece
+target_pieces (AttrTarget e name) = value e ∷ []
+target_pieces (ItemTarget e i) = value e ∷ value i ∷ []
+target_pieces target = []
+
+abbrev pub all_target_pieces : List TypedTarget → List Piece
+all_target_pieces [] = []
+all_target_pieces (target ∷ targets) = target_pieces target ++ all_target_pieces targets
+
 -- of a loop before its body
 abbrev pub head_pieces : TypedStmt → List Piece
 head_pieces (on_line (While test suite) l) = value test ∷ []
+head_pieces (on_line (ForRange targets start stop suite) l) = bound_pieces start stop
+head_pieces (on_line (ForList targets e suite) l) = value e ∷ []
 head_pieces s = []
 
 -- in the order in which their code stands
 abbrev pub pieces_of : TypedAct → List Piece
 pieces_of (Do e) = alone e ∷ []
-pieces_of (Assign targets e) = value e ∷ []
-pieces_of (Aug target op e t) = value e ∷ []
+pieces_of (Assign targets e) = value e ∷ all_target_pieces targets
+pieces_of (Aug target op e t) = target_pieces target ++ value e ∷ []
 pieces_of (If arms other) = arm_pieces arms ++ body other ∷ []
 pieces_of (While test suite) = value test ∷ body suite ∷ []
+pieces_of (ForRange targets start stop suite) = bound_pieces start stop ++ body suite ∷ []
+pieces_of (ForList targets e suite) = value e ∷ body suite ∷ []
 pieces_of (Return o) = returned_pieces o
 pieces_of _ = []
 

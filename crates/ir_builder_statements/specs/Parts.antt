@@ -2,18 +2,22 @@
 use Rattle.std.specs.Prelude.{◌≡◌, ◌<◌, ◌≤◌, ◌⊎◌, ℕ, true, List, Option, Some, None, slice_get}
 use Rattle.py_syntax.specs.declared.token.Span.{Span}
 use Rattle.py_syntax.specs.declared.expression.BinOp.{BinOp}
+use Rattle.value_core.specs.Value.{Value}
 use Rattle.py_typed.specs.Fits.{is_number}
 use Rattle.py_typed.specs.Sorts as sort
 use Rattle.py_typed.specs.Sorts.{Sort}
-use Rattle.py_typed.specs.Expressions.{TypedExpr, typed, Local, Global, Nothing}
+use Rattle.py_typed.specs.Expressions.{TypedExpr, typed, Local, Global, Nothing, type_of}
 use Rattle.py_typed.specs.Statements.{Variable, TypedModule, TypedTarget, LocalTarget, GlobalTarget}
+use Rattle.source_meaning.specs.State.{Does, on_to, ◌>>=◌}
+use Rattle.source_meaning.specs.Operations.{coerced, combined}
 use Rattle.ir_builder_frames.specs.Building.{Building}
-use Rattle.ir_core.specs.declared.code.RType.TheVariants.{Bool}
+use Rattle.ir_core.specs.declared.code.RType.TheVariants.{Bool, Ref}
 use Rattle.ir_builder_frames.specs.declared.frame.Frame.{Frame}
 use Rattle.ir_builder_frames.specs.Settings.{Setting, rtype_of}
 use Rattle.ir_builder_frames.specs.Placing.{HasType}
 use Rattle.ir_builder_frames.specs.Matching.{flag_of, HasRoom}
-use Rattle.ir_builder_frames.specs.Computing.{Shows, Computes}
+use Rattle.ir_builder_frames.specs.Computing.{Shows, Computes, means}
+use Rattle.ir_builder_operations.specs.Boxes.{boxed}
 use Rattle.ir_builder_operations.specs.Selecting.{is_whole}
 use Rattle.ir_builder_expressions.specs.declared.applying.Binary.{Binary}
 use Rattle.ir_builder_expressions.specs.declared.applying.Binary.TheVariants.{Arithmetic, Joined}
@@ -75,3 +79,13 @@ TurnsInto t u = ((is_number t ≡ true) × (is_whole u ≡ true)) ⊎ ((t ≡ so
 abbrev pub ComputesReturned : Setting → Option TypedExpr → Building → Building → ℕ → Type 0
 ComputesReturned x o old new r =
     Computes x (Shows (returned_type o)) (rtype_of (returned_type o)) (means_returned x o) old new r
+
+-- ---- items of lists
+
+-- the value of an expression, as one of the expression's type, is in a register for objects
+abbrev pub EmitsObject : Setting → TypedExpr → Building → Building → ℕ → Type 0
+EmitsObject x e old new r = Computes x (Shows boxed) Ref (λ n s. on_to (means x e n s) (coerced (type_of e))) old new r
+
+-- of an old value of a type and an operand, by an operator in another type, a value of the old one's type
+abbrev pub changed_as : Sort → BinOp → Sort → Value → Value → Does Value
+changed_as own op t v w = combined t op v w >>= coerced own

@@ -6,7 +6,10 @@ use Rattle.py_syntax.specs.declared.expression.BinOp.TheVariants.{Add}
 use Rattle.py_typed.specs.Sorts as sort
 use Rattle.py_typed.specs.Sorts.{Sort}
 use Rattle.py_typed.specs.Expressions.{TypedExpr, typed, Print, TypedExprs, no_exprs, expr_then, type_of}
-use Rattle.py_typed.specs.Statements.{Variable, TypedModule, TypedTarget, LocalTarget, GlobalTarget, TypedStmt, on_line, TypedAct, Do, Assign, Aug, If, While, Return, Break, Continue, Pass, TypedSuite, no_stmts, stmt_then, Arms, no_arms, arm_then}
+use Rattle.py_typed.specs.Statements.{Variable, TypedModule, TypedTarget, LocalTarget, GlobalTarget, TypedStmt, on_line, TypedAct, Do, Assign, Aug, If, While, ForRange, ForList, Return, Break, Continue, Pass, TypedSuite, no_stmts, stmt_then, Arms, no_arms, arm_then, ItemTarget}
+use Rattle.py_typed.specs.Fits.{fits}
+use Rattle.py_typed.specs.TargetTypes.{item_sort}
+use Rattle.ir_builder_operations.specs.Converting.{is_flat}
 use Rattle.ir_builder_operations.specs.Selecting.{is_whole}
 use Rattle.ir_builder_expressions.specs.declared.applying.Binary.TheVariants.{Arithmetic, Joined}
 use Rattle.ir_builder_expressions.specs.Parts.{is_scalar}
@@ -31,12 +34,21 @@ module _ (m : TypedModule) (vs : List Variable) (gives : Option Sort) where
   IsVariable (GlobalTarget i) t = (v : Variable) × (slice_get m.globals i ≡ Some v) × (v.1 ≡ t)
   IsVariable target t = ⊥
 
-  abbrev pub IsOnly : List TypedTarget → Sort → Type 0
-  IsOnly (target ∷ []) t = IsVariable target t
-  IsOnly targets t = ⊥
+  -- a list whose items have a type, and an index
+  abbrev pub ItemSuits : TypedExpr → TypedExpr → Sort → Type 0
+  ItemSuits a i t = (type_of a ≡ sort.ListOf t) × (type_of i ≡ sort.Int) × Suits m vs a × Suits m vs i
 
-  -- the operator of an update of a variable of the first type, done in the second type, by a value of the third: arithmetic, where
-  -- the variable is a whole number, or two texts that are joined
+  -- what a value of a type is assigned to: a variable of that type, or an item of a list of such values
+  abbrev pub TakesValue : TypedTarget → Sort → Type 0
+  TakesValue (ItemTarget a i) t = ItemSuits a i t
+  TakesValue target t = IsVariable target t
+
+  abbrev pub TargetSuits : List TypedTarget → Sort → Type 0
+  TargetSuits (target ∷ []) t = TakesValue target t
+  TargetSuits targets t = ⊥
+
+  -- the operator of an update of what has the first type, done in the second type, by a value of the third: arithmetic, where the
+  -- old value is a whole number, or two texts that are joined
   abbrev pub UpdateSuits : BinOp → Sort → Sort → Sort → Type 0
   UpdateSuits op u t s =
       ((is_whole u ≡ true) × BinarySuits (Arithmetic op) t u s) ⊎ ((op ≡ Add) × BinarySuits Joined t u s)
@@ -44,6 +56,36 @@ module _ (m : TypedModule) (vs : List Variable) (gives : Option Sort) where
   -- a variable is updated so, whatever its type is
   abbrev pub VariableUpdates : TypedTarget → BinOp → Sort → Sort → Type 0
   VariableUpdates target op t s = (u : Sort) × IsVariable target u × UpdateSuits op u t s
+
+  -- so is an item of a list
+  abbrev pub ItemUpdates : TypedExpr → TypedExpr → BinOp → Sort → Sort → Type 0
+  ItemUpdates a i op t s = (u : Sort) × ItemSuits a i u × UpdateSuits op u t s
+
+  -- and so is either of them
+  abbrev pub TargetUpdates : TypedTarget → BinOp → Sort → Sort → Type 0
+  TargetUpdates (ItemTarget a i) op t s = ItemUpdates a i op t s
+  TargetUpdates target op t s = VariableUpdates target op t s
+
+  -- a value of a type is bound to a variable, whose type it fits
+  abbrev pub NameTakes : TypedTarget → Sort → Type 0
+  NameTakes target s = (u : Sort) × IsVariable target u × (fits m.classes.classes s u ≡ true) × (is_flat u ≡ true)
+
+  abbrev pub OneTakes : List TypedTarget → Sort → Type 0
+  OneTakes (target ∷ []) s = NameTakes target s
+  OneTakes targets s = ⊥
+
+  -- a range begins at a number of a type, or at 0, and its numbers, of the type of the bound, are bound to a variable
+  abbrev pub StartSuits : Option TypedExpr → Sort → Type 0
+  StartSuits None t = Unit {0}
+  StartSuits (Some e) t = (type_of e ≡ t) × Suits m vs e
+
+  abbrev pub RangeSuits : List TypedTarget → Option TypedExpr → TypedExpr → Type 0
+  RangeSuits targets start stop =
+      (is_whole (type_of stop) ≡ true) × StartSuits start (type_of stop) × Suits m vs stop × OneTakes targets (type_of stop)
+
+  -- the items of a list are bound to a variable
+  abbrev pub ListSuits : List TypedTarget → TypedExpr → Type 0
+  ListSuits targets e = (u : Sort) × (type_of e ≡ sort.ListOf u) × Suits m vs e × OneTakes targets (item_sort (type_of e))
 
   abbrev pub ReturnSuits : Option TypedExpr → Type 0
   ReturnSuits None = gives ≡ Some sort.Nothing
@@ -60,10 +102,12 @@ module _ (m : TypedModule) (vs : List Variable) (gives : Option Sort) where
 
     pub ActSuits : Bool → TypedAct → Type 0
     ActSuits looping (Do e) = DoSuits e
-    ActSuits looping (Assign targets e) = IsOnly targets (type_of e) × Suits m vs e
-    ActSuits looping (Aug target op e t) = VariableUpdates target op t (type_of e) × Suits m vs e
+    ActSuits looping (Assign targets e) = TargetSuits targets (type_of e) × Suits m vs e
+    ActSuits looping (Aug target op e t) = TargetUpdates target op t (type_of e) × Suits m vs e
     ActSuits looping (If arms other) = ArmsSuit looping arms × SuiteSuits looping other
     ActSuits looping (While test body) = TestSuits test × SuiteSuits true body
+    ActSuits looping (ForRange targets start stop body) = RangeSuits targets start stop × SuiteSuits true body
+    ActSuits looping (ForList targets e body) = ListSuits targets e × SuiteSuits true body
     ActSuits looping (Return e) = ReturnSuits e
     ActSuits looping Break = looping ≡ true
     ActSuits looping Continue = looping ≡ true
@@ -81,4 +125,6 @@ module _ (m : TypedModule) (vs : List Variable) (gives : Option Sort) where
   -- a loop with this body
   abbrev pub LoopSuits : TypedStmt → TypedSuite → Type 0
   LoopSuits (on_line (While test b) line) body = (b ≡ body) × TestSuits test × SuiteSuits true b
+  LoopSuits (on_line (ForRange targets start stop b) line) body = (b ≡ body) × RangeSuits targets start stop × SuiteSuits true b
+  LoopSuits (on_line (ForList targets e b) line) body = (b ≡ body) × ListSuits targets e × SuiteSuits true b
   LoopSuits s body = ⊥

@@ -1,5 +1,5 @@
 //! The code of simple statements.
-ghost use Rattle.std.specs.Prelude.{◌≡◌, [], true, map, Option, Some, None, IfOk, OnOk, ◌∷◌};
+ghost use Rattle.std.specs.Prelude.{◌≡◌, [], true, map, Option, Some, None, IfOk, OnOk, ◌∷◌, ◌++◌};
 ghost use Rattle.py_typed.specs.Sorts.{Sort, sort};
 ghost use Rattle.py_typed.specs.Expressions.{typed_expr, type_of};
 ghost use Rattle.py_typed.specs.Statements.{typed_target, maybe_typed, variable};
@@ -16,12 +16,13 @@ ghost use Rattle.ir_builder_expressions.specs.Emitting.{EmitsTwo};
 ghost use Rattle.ir_builder_expressions.specs.Lined.{LinedParts};
 ghost use Rattle.ir_builder_loops_and_jumps.specs.Means.{means_assignment, means_update, means_return, returned_type};
 ghost use Rattle.ir_builder_loops_and_jumps.specs.Runs.{Works};
-ghost use Rattle.ir_builder_statements.specs.Suiting.{IsOnly, IsVariable, UpdateSuits, VariableUpdates, ReturnSuits};
+ghost use Rattle.ir_builder_statements.specs.Suiting.{IsVariable, TargetSuits, UpdateSuits, VariableUpdates, TargetUpdates, ReturnSuits};
 ghost use Rattle.ir_builder_statements.specs.Kinds.{GivesResult};
 ghost use Rattle.ir_builder_statements.specs.Parts.{ComputesReturned, update_binary, reading_of, TurnsInto};
 ghost use Rattle.ir_builder_frames.specs.Lines.{OwnLines};
-ghost use Rattle.ir_builder_statements.specs.Lined.{value as value_piece, returned_pieces, LinedPieces};
+ghost use Rattle.ir_builder_statements.specs.Lined.{value as value_piece, returned_pieces, target_pieces, all_target_pieces, LinedPieces};
 
+use crate::items::{emit_item_assignment, emit_item_update};
 use crate::variables::{emit_set, reading, variable_type};
 use ir_builder_expressions::{Binary, Site, emit_expression, emit_two_parts};
 use ir_builder_frames::Emitter;
@@ -32,23 +33,44 @@ use py_typed::{TExpr, Target, Ty};
 use std::alloc::Global;
 use value_core::Memory;
 
-/// Assigns to a variable (Python Language Reference, "Assignment statements").
+// Assigns to a variable.
+fn emit_variable_assignment(
+    b: &mut Emitter,
+    site: Site,
+    target: &Target,
+    e: &TExpr,
+) -> Result<(), Memory>
+    requires variable { IsVariable (setting_of site).source (setting_of site).variables None (typed_target target.now) (type_of (typed_expr e.now)) }
+    requires suits { Suits (setting_of site).source (setting_of site).variables (typed_expr e.now) }
+    requires room { HasRoom (setting_of site) b.old }
+    ensures kept { Extends b.old b.new }
+    ensures works { OnOk result ((gives : Option Sort) → Works (setting_of site.entry) gives (means_assignment (setting_of site.entry) (typed_target target.now ∷ []) (typed_expr e.now)) b.old b.new []) }
+    ensures lined { OnOk result (LinedPieces (setting_of site.entry) site.entry.line (value_piece (typed_expr e.now) ∷ []) b.old b.new) }
+{
+    let r = emit_expression(b, site, e)?;
+    emit_set(b, site, target, r)
+}
+
+/// Assigns to a variable or to an item of a list (Python Language Reference, "Assignment statements"). The parts of the target are
+/// evaluated behind the value. At run time an index out of range raises IndexError.
 pub(crate) fn emit_assignment(
     b: &mut Emitter,
     site: Site,
     targets: &[Target],
     e: &TExpr,
 ) -> Result<(), Memory>
-    requires target { IsOnly (setting_of site).source (setting_of site).variables None (map typed_target targets.now) (type_of (typed_expr e.now)) }
+    requires target { TargetSuits (setting_of site).source (setting_of site).variables None (map typed_target targets.now) (type_of (typed_expr e.now)) }
     requires suits { Suits (setting_of site).source (setting_of site).variables (typed_expr e.now) }
     requires room { HasRoom (setting_of site) b.old }
     ensures kept { Extends b.old b.new }
     ensures works { OnOk result ((gives : Option Sort) → Works (setting_of site.entry) gives (means_assignment (setting_of site.entry) (map typed_target targets.now) (typed_expr e.now)) b.old b.new []) }
-    ensures lined { OnOk result (LinedPieces (setting_of site.entry) site.entry.line (value_piece (typed_expr e.now) ∷ []) b.old b.new) }
+    ensures lined { OnOk result (LinedPieces (setting_of site.entry) site.entry.line (value_piece (typed_expr e.now) ∷ all_target_pieces (map typed_target targets.now)) b.old b.new) }
 {
     let target = &targets[0];
-    let r = emit_expression(b, site, e)?;
-    emit_set(b, site, target, r)
+    match target {
+        Target::At(list, index) => emit_item_assignment(b, site, list, index, e),
+        _ => emit_variable_assignment(b, site, target, e),
+    }
 }
 
 // The operation of an update in a type.
@@ -61,8 +83,8 @@ fn updating(op: BinOp, t: &Ty) -> Binary
     }
 }
 
-// The result of an operation in a type, as a value of the variable's own type.
-fn emit_own(
+/// The result of an operation in a type, as a value of the target's own type.
+pub(crate) fn emit_own(
     b: &mut Emitter,
     alloc: Global,
     t: &Ty,
@@ -109,10 +131,9 @@ fn emit_updated(
     emit_two_parts(b, site, updating(op, t), t, &before, e)
 }
 
-/// Changes a variable by an operation in a type (Python Language Reference, "Augmented assignment statements"): it is read, then
-/// the operand is evaluated, and the result is turned into the variable's own type. All of it but the operand has the line of the
-/// statement.
-pub(crate) fn emit_update(
+// Changes a variable by an operation in a type: it is read, then the operand is evaluated, and the result is turned into the
+// variable's own type. All of it but the operand has the line of the statement.
+fn emit_variable_update(
     b: &mut Emitter,
     site: Site,
     target: &Target,
@@ -131,6 +152,31 @@ pub(crate) fn emit_update(
     let result = emit_updated(b, site, target, own, op, e, t)?;
     let value = emit_own(b, site.alloc, t, own, result, site.line)?;
     emit_set(b, site, target, value)
+}
+
+/// Changes a variable or an item of a list by an operation in a type (Python Language Reference, "Augmented assignment statements"):
+/// the parts of the target are evaluated once, and then it is read, before the operand is evaluated. The result is turned into the
+/// target's own type. All of it but the parts and the operand has the line of the statement. At run time an index out of range
+/// raises IndexError.
+pub(crate) fn emit_update(
+    b: &mut Emitter,
+    site: Site,
+    target: &Target,
+    op: BinOp,
+    e: &TExpr,
+    t: &Ty,
+) -> Result<(), Memory>
+    requires fits { TargetUpdates (setting_of site).source (setting_of site).variables None (typed_target target.now) op (sort t.now) (type_of (typed_expr e.now)) }
+    requires suits { Suits (setting_of site).source (setting_of site).variables (typed_expr e.now) }
+    requires room { HasRoom (setting_of site) b.old }
+    ensures kept { Extends b.old b.new }
+    ensures works { OnOk result ((gives : Option Sort) → Works (setting_of site.entry) gives (means_update (setting_of site.entry) (typed_target target.now) op (typed_expr e.now) (sort t.now)) b.old b.new []) }
+    ensures lined { OnOk result (LinedPieces (setting_of site.entry) site.entry.line (target_pieces (typed_target target.now) ++ value_piece (typed_expr e.now) ∷ []) b.old b.new) }
+{
+    match target {
+        Target::At(list, index) => emit_item_update(b, site, list, index, op, e, t),
+        _ => emit_variable_update(b, site, target, op, e, t),
+    }
 }
 
 // The value that is returned, in a register. Without one it is None.

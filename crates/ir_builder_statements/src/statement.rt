@@ -11,12 +11,16 @@ ghost use Rattle.ir_builder_loops_and_jumps.specs.Around.{Begins};
 ghost use Rattle.ir_builder_loops_and_jumps.specs.Runs.{Emitted};
 ghost use Rattle.ir_builder_loops_and_jumps.specs.Tested.{Tested};
 ghost use Rattle.ir_builder_statements.specs.Suiting.{LoopSuits, StatementSuits, SuiteSuits, ArmsSuit};
+ghost use Rattle.ir_builder_statements.specs.Counting.{StepsOn, HasCounter};
 ghost use Rattle.ir_builder_statements.specs.Kinds.{GivesResult};
 ghost use Rattle.ir_builder_statements.specs.Lined.{arm_pieces, head_pieces, LinedPieces, LinedStatement, LinedSuite};
 
 use crate::alone::emit_alone;
 use crate::branch::{emit_split, end_arm, end_loop, join};
+use crate::counting::{Begun, emit_step};
 use crate::exits::leave_by;
+use crate::lists::begin_list;
+use crate::ranges::begin_range;
 use crate::simple::{emit_assignment, emit_return, emit_update};
 use ir_builder_expressions::Site;
 use ir_builder_frames::Emitter;
@@ -88,6 +92,14 @@ fn emit_statement(
             let body = body.as_slice();
             emit_loop(b, site, gives, looping, s, body, exits)
         }
+        TStmtKind::ForRange(_, _, _, body) => {
+            let body = body.as_slice();
+            emit_loop(b, site, gives, looping, s, body, exits)
+        }
+        TStmtKind::ForList(_, _, body) => {
+            let body = body.as_slice();
+            emit_loop(b, site, gives, looping, s, body, exits)
+        }
         TStmtKind::Return(value) => emit_return(b, site, value),
         TStmtKind::Break => leave_by(b, Way::Break, exits),
         TStmtKind::Continue => leave_by(b, Way::Continue, exits),
@@ -153,18 +165,38 @@ fn emit_arms(
 }
 
 // Begins the loop `s`: what comes before its body.
-fn begin_loop(b: &mut Emitter, site: Site, s: &TStmt) -> Result<LoopStart, Memory>
+fn begin_loop(b: &mut Emitter, site: Site, s: &TStmt) -> Result<Begun, Memory>
     requires suits { (gives : Option Sort) × (body : TypedSuite) × LoopSuits (setting_of site).source (setting_of site).variables gives (typed_stmt s.now) body }
     requires room { HasRoom (setting_of site) b.old }
     ensures kept { Extends b.old b.new }
-    ensures begins { IfOk result (λ o. Begins (setting_of site.entry) (means_loop (setting_of site.entry) (typed_stmt s.now)) b.old b.new o) }
-    ensures lined { OnOk result ((l : ℕ) → LinedPieces (setting_of site.entry) l (head_pieces (typed_stmt s.now)) b.old b.new) }
+    ensures begins { IfOk result (λ o. Begins (setting_of site.entry) (StepsOn o.counter) (means_loop (setting_of site.entry) (typed_stmt s.now)) b.old b.new o.start) }
+    ensures counter { IfOk result (λ o. HasCounter o.counter b.new) }
+    ensures lined { OnOk result (LinedPieces (setting_of site.entry) s.now.line (head_pieces (typed_stmt s.now)) b.old b.new) }
 {
     match &s.kind {
         TStmtKind::While(e, _) => {
             let head = b.step_on()?;
             let test = emit_split(b, site, e)?;
-            Ok(LoopStart { head, test })
+            Ok(Begun {
+                start: LoopStart { head, test },
+                counter: None,
+            })
+        }
+        TStmtKind::ForRange(targets, start, stop, _) => {
+            let site = Site {
+                line: s.line,
+                ..site
+            };
+            let targets = targets.as_slice();
+            begin_range(b, site, targets, start, stop)
+        }
+        TStmtKind::ForList(targets, e, _) => {
+            let site = Site {
+                line: s.line,
+                ..site
+            };
+            let targets = targets.as_slice();
+            begin_list(b, site, targets, e)
         }
         _ => unreachable!(),
     }
@@ -190,8 +222,9 @@ fn emit_loop(
     ensures lined { OnOk result (LinedStatement (setting_of site.entry) (typed_stmt s.now) b.old b.new) }
 {
     let mut inner = Vec::new(site.alloc);
-    let start = begin_loop(b, site, s)?;
+    let begun = begin_loop(b, site, s)?;
     emit_block(b, site, gives, true, body, &mut inner)?;
     let next = b.step_on()?;
-    end_loop(b, start, next, &inner, exits, s.line)
+    emit_step(b, site.alloc, begun.counter, s.line)?;
+    end_loop(b, begun.start, next, &inner, exits, s.line)
 }

@@ -1,6 +1,7 @@
-use Rattle.ir_builder_statements.proofs.Common.{option_map, option_copied, sort, rules, map, true, le_refl, the_lemmas, typed_expr, maybe_typed, typed_stmt, typed_suite, typed_arm, arms_of, Setting, HasRoom, extends_refl, extends_trans, type_kept, on_ok_map, either_way, room_on, means_loop, means_statement, means_suite, nothing_emitted, next_emitted, alone_emitted, assignment_emitted, update_emitted, loop_open, loop_emitted, nothing_tested, next_tested, if_emitted, pass_emitted, break_emitted, continue_emitted, join_open, SuiteSuits, ArmsSuit, LoopSuits, GivesResult, setting_of, BoolType, ℕ, Around, always, around_by}
-use Rattle.ir_builder_statements.proofs.SuiteLemmas.{suite_step, arms_step, loop_suits, loop_body, loop_means, alone_suits, assign_suits, update_suits, if_suits, return_suits, break_suits, continue_suits, none_left}
+use Rattle.ir_builder_statements.proofs.Common.{option_map, option_copied, sort, rules, map, true, le_refl, the_lemmas, typed_expr, maybe_typed, typed_stmt, typed_suite, typed_arm, arms_of, Setting, HasRoom, extends_refl, extends_trans, type_kept, on_ok_map, either_way, room_on, means_loop, means_statement, means_suite, nothing_emitted, next_emitted, alone_emitted, assignment_emitted, update_emitted, loop_open, loop_emitted, nothing_tested, next_tested, if_emitted, pass_emitted, break_emitted, continue_emitted, join_open, SuiteSuits, ArmsSuit, LoopSuits, GivesResult, setting_of, BoolType, ℕ, Around, always, around_by, around_both}
+use Rattle.ir_builder_statements.proofs.SuiteLemmas.{suite_step, arms_step, loop_suits, loop_body, loop_means, alone_suits, assign_suits, update_suits, if_suits, return_suits, break_suits, continue_suits, none_left, range_loop_suits, list_loop_suits}
 use Rattle.ir_builder_statements.proofs.BodyLemmas.{on_ok_both, return_made, returns_given, gives_on, condition_type}
+use Rattle.ir_builder_statements.proofs.CountLemmas.{counter_kept}
 use Rattle.ir_builder_statements.proofs.LinedLemmas.{pieces_join, body_piece, suite_next, suite_over, suite_code, arms_next, arms_over, arm_around, alone_lined, assign_lined, update_lined, return_lined, break_lined, continue_lined, pass_lined, if_lined, loop_lined}
 use Rattle.ir_builder_statements.proofs.statement.+statement.Goals as goal
 
@@ -186,13 +187,25 @@ pub emit_statement-unreachable-requires : goal.emit_statement-unreachable-requir
 emit_statement-unreachable-requires t c =
     let x : Setting = setting_of c.args.site in
     let d = c.in_default in
-    none_left x.source x.variables (option_map sort (option_copied c.args.gives)) c.args.looping c.args.s.now c.requires.suits d.not-Expr d.not-Assign d.not-Aug d.not-If d.not-While d.not-Return d.not-Break d.not-Continue d.not-Pass
+    none_left x.source x.variables (option_map sort (option_copied c.args.gives)) c.args.looping c.args.s.now c.requires.suits d.not-Expr d.not-Assign d.not-Aug d.not-If d.not-While d.not-ForRange d.not-ForList d.not-Return d.not-Break d.not-Continue d.not-Pass
 
 pub emit_statement-emit_loop-requires : goal.emit_statement-emit_loop-requires
 emit_statement-emit_loop-requires t c =
     let x : Setting = setting_of c.args.site in
     let suits : LoopSuits x.source x.variables (option_map sort (option_copied c.args.gives)) (typed_stmt c.args.s.now) (typed_suite c.as_slice-body.result.now) = loop_suits x.source x.variables (option_map sort (option_copied c.args.gives)) c.args.looping c.args.s.now c.requires.suits _ _ c.as_slice-body.result.now c.in-While.is c.as_slice-body.ensures in
     (search (rules, the_lemmas), (suits, (c.requires.room, (c.requires.alone, c.requires.result))))
+
+pub emit_statement-emit_loop-requires-in-ForRange : goal.emit_statement-emit_loop-requires-in-ForRange
+emit_statement-emit_loop-requires-in-ForRange t c =
+    let x : Setting = setting_of c.args.site in
+    let suits : LoopSuits x.source x.variables (option_map sort (option_copied c.args.gives)) (typed_stmt c.args.s.now) (typed_suite c.as_slice-body-in-ForRange.result.now) = range_loop_suits x.source x.variables (option_map sort (option_copied c.args.gives)) c.args.looping c.args.s.now c.requires.suits _ _ _ _ c.as_slice-body-in-ForRange.result.now c.in-ForRange.is c.as_slice-body-in-ForRange.ensures in
+    search (rules, the_lemmas)
+
+pub emit_statement-emit_loop-requires-in-ForList : goal.emit_statement-emit_loop-requires-in-ForList
+emit_statement-emit_loop-requires-in-ForList t c =
+    let x : Setting = setting_of c.args.site in
+    let suits : LoopSuits x.source x.variables (option_map sort (option_copied c.args.gives)) (typed_stmt c.args.s.now) (typed_suite c.as_slice-body-in-ForList.result.now) = list_loop_suits x.source x.variables (option_map sort (option_copied c.args.gives)) c.args.looping c.args.s.now c.requires.suits _ _ _ c.as_slice-body-in-ForList.result.now c.in-ForList.is c.as_slice-body-in-ForList.ensures in
+    search (rules, the_lemmas)
 
 pub emit_loop-begin_loop-requires : goal.emit_loop-begin_loop-requires
 emit_loop-begin_loop-requires t c = record {
@@ -204,28 +217,33 @@ pub emit_loop-emit_block-requires : goal.emit_loop-emit_block-requires
 emit_loop-emit_block-requires t c =
     let x : Setting = setting_of c.args.site in
     let suits : SuiteSuits x.source x.variables (option_map sort (option_copied c.args.gives)) true (typed_suite c.args.body.now) = loop_body x (option_map sort (option_copied c.args.gives)) (typed_stmt c.args.s.now) (typed_suite c.args.body.now) c.requires.suits in
-    let room : HasRoom x c.begin_loop.new.b = room_on x _ _ c.in_ok-start.ensures.kept c.requires.room in
-    let result : GivesResult (option_map sort (option_copied c.args.gives)) c.begin_loop.new.b.among = gives_on (option_map sort (option_copied c.args.gives)) _ _ c.in_ok-start.ensures.kept c.requires.result in
+    let room : HasRoom x c.begin_loop.new.b = room_on x _ _ c.in_ok-begun.ensures.kept c.requires.room in
+    let result : GivesResult (option_map sort (option_copied c.args.gives)) c.begin_loop.new.b.among = gives_on (option_map sort (option_copied c.args.gives)) _ _ c.in_ok-begun.ensures.kept c.requires.result in
     (search (rules, the_lemmas), (suits, (room, (c.requires.alone, result))))
 
 pub emit_loop-returns-in_err-emit_block-clause-kept : goal.emit_loop-returns-in_err-emit_block-clause-kept
-emit_loop-returns-in_err-emit_block-clause-kept t c = extends_trans _ _ _ c.in_ok-start.ensures.kept c.in_err-emit_block.ensures.kept
+emit_loop-returns-in_err-emit_block-clause-kept t c = extends_trans _ _ _ c.in_ok-begun.ensures.kept c.in_err-emit_block.ensures.kept
 
 pub emit_loop-returns-in_err-next-clause-kept : goal.emit_loop-returns-in_err-next-clause-kept
-emit_loop-returns-in_err-next-clause-kept t c = extends_trans _ _ _ c.in_ok-start.ensures.kept (extends_trans _ _ _ c.in_ok-emit_block.ensures.kept c.in_err-next.ensures.kept)
+emit_loop-returns-in_err-next-clause-kept t c = extends_trans _ _ _ c.in_ok-begun.ensures.kept (extends_trans _ _ _ c.in_ok-emit_block.ensures.kept c.in_err-next.ensures.kept)
+
+pub emit_loop-emit_step-requires : goal.emit_loop-emit_step-requires
+emit_loop-emit_step-requires t c =
+    record { counter = counter_kept c.in_ok-begun.begun.counter _ _ (extends_trans _ _ _ c.in_ok-emit_block.ensures.kept c.in_ok-next.ensures.kept) c.in_ok-begun.ensures.counter }
 
 pub emit_loop-end_loop-requires : goal.emit_loop-end_loop-requires
 emit_loop-end_loop-requires t c =
-    let g = c.in_ok-start.ensures.begins in
-    let k = loop_open (setting_of c.args.site) (option_map sort (option_copied c.args.gives)) _ _ _ _ _ _ c.in_ok-start.start c.in_ok-next.next _ _ c.deref.result.now g c.new-inner.ensures.items c.in_ok-emit_block.ensures.emitted c.in_ok-next.ensures.number c.in_ok-next.ensures.closed c.deref.ensures.value in
+    let g = c.in_ok-begun.ensures.begins in
+    let step = c.in_ok-emit_step.ensures in
+    let k = loop_open (setting_of c.args.site) (option_map sort (option_copied c.args.gives)) _ _ _ _ _ _ _ _ c.in_ok-begun.begun.start c.in_ok-next.next _ _ c.deref.result.now g c.new-inner.ensures.items c.in_ok-emit_block.ensures.emitted c.in_ok-next.ensures.number c.in_ok-next.ensures.closed step.kept c.deref.ensures.value in
     record {
       head = (g.head.0, k.0);
       «open» = k.1;
       start = g.start.0;
       here = k.2;
-      next = rw c.in_ok-next.ensures.number (le_refl _);
-      opens = k.3;
-      flag = type_kept c.begin_loop.new.b c.step_on.new.self c.in_ok-start.start.test.condition.0 BoolType (extends_trans _ _ _ c.in_ok-emit_block.ensures.kept c.in_ok-next.ensures.kept) g.type;
+      next = k.3;
+      opens = k.4;
+      flag = type_kept c.begin_loop.new.b c.emit_step.new.b c.in_ok-begun.begun.start.test.condition.0 BoolType (extends_trans _ _ _ c.in_ok-emit_block.ensures.kept (extends_trans _ _ _ c.in_ok-next.ensures.kept step.kept)) g.type;
     }
 
 pub emit_loop-returns : goal.emit_loop-returns
@@ -233,14 +251,16 @@ emit_loop-returns t c =
     let x : Setting = setting_of c.args.site in
     let s = c.args.s.now in
     let ss = typed_suite c.args.body.now in
-    let start = c.in_ok-start.ensures in
+    let begun = c.in_ok-begun.ensures in
     let inside = c.in_ok-emit_block.ensures in
     let next = c.in_ok-next.ensures in
-    let made = loop_emitted x (option_map sort (option_copied c.args.gives)) c.args.looping (means_loop x (typed_stmt s)) (means_suite x ss) (means_statement x (typed_stmt s)) c.args.b.now c.begin_loop.new.b c.emit_block.new.b c.step_on.new.self c.end_loop.new.b c.in_ok-start.start c.in_ok-next.next c.args.exits.now.items c.end_loop.new.exits.items _ _ c.deref.result.now (loop_means x (option_map sort (option_copied c.args.gives)) (typed_stmt s) ss c.requires.suits) start.begins c.new-inner.ensures.items inside.emitted next.number next.closed c.deref.ensures.value in
+    let step = c.in_ok-emit_step.ensures in
+    let made = loop_emitted x (option_map sort (option_copied c.args.gives)) c.args.looping _ (means_loop x (typed_stmt s)) (means_suite x ss) (means_statement x (typed_stmt s)) c.args.b.now c.begin_loop.new.b c.emit_block.new.b c.step_on.new.self c.emit_step.new.b c.end_loop.new.b c.in_ok-begun.begun.start c.in_ok-next.next c.args.exits.now.items c.end_loop.new.exits.items _ _ c.deref.result.now (loop_means x (option_map sort (option_copied c.args.gives)) (typed_stmt s) ss c.requires.suits) begun.begins c.new-inner.ensures.items inside.emitted next.number next.closed step.steps c.deref.ensures.value in
+    let to_turn = around_both s.line _ _ _ (around_by s.line _ _ next.kept (next.lined s.line)) (around_by s.line _ _ step.kept step.lined) in
     record {
-      kept = either_way c.end_loop.result _ _ _ (λ l. (made l).works.extends) (λ k. extends_trans _ _ _ start.kept (extends_trans _ _ _ inside.kept (extends_trans _ _ _ next.kept k))) c.end_loop.ensures.ends c.end_loop.ensures.kept;
+      kept = either_way c.end_loop.result _ _ _ (λ l. (made l).works.extends) (λ k. extends_trans _ _ _ begun.kept (extends_trans _ _ _ inside.kept (extends_trans _ _ _ next.kept (extends_trans _ _ _ step.kept k)))) c.end_loop.ensures.ends c.end_loop.ensures.kept;
       emitted = on_ok_map _ _ _ made c.end_loop.ensures.ends;
-      lined = on_ok_map _ _ _ (λ (end : Around s.line c.step_on.new.self c.end_loop.new.b). loop_lined x (option_map sort (option_copied c.args.gives)) s ss _ _ _ _ _ c.requires.suits (start.lined s.line) (suite_code x _ _ ss _ _ _ _ inside.emitted) inside.lined (around_by s.line _ _ next.kept (next.lined s.line)) end) c.end_loop.ensures.lined;
+      lined = on_ok_map _ _ _ (λ (end : Around s.line c.emit_step.new.b c.end_loop.new.b). loop_lined x (option_map sort (option_copied c.args.gives)) s ss _ _ _ _ _ c.requires.suits begun.lined (suite_code x _ _ ss _ _ _ _ inside.emitted) inside.lined to_turn end) c.end_loop.ensures.lined;
     }
 
 -- ---- the lines
@@ -255,7 +275,7 @@ emit_statement-returns-in-Expr-clause-lined t c =
 
 pub emit_statement-returns-in-Assign-clause-lined : goal.emit_statement-returns-in-Assign-clause-lined
 emit_statement-returns-in-Assign-clause-lined t c =
-    on_ok_map _ _ _ (assign_lined (setting_of c.args.site) c.args.s.now _ _ c.in-Assign.targets c.in-Assign.e c.in-Assign.is) c.emit_assignment.ensures.lined
+    on_ok_map _ _ _ (assign_lined (setting_of c.args.site) c.args.s.now _ _ c.as_slice-targets.result.now c.in-Assign.targets c.in-Assign.e c.in-Assign.is c.as_slice-targets.ensures) c.emit_assignment.ensures.lined
 
 pub emit_statement-returns-in-Aug-clause-lined : goal.emit_statement-returns-in-Aug-clause-lined
 emit_statement-returns-in-Aug-clause-lined t c =
