@@ -1,11 +1,13 @@
 -- A well typed expression in which nothing is said to be not compiled suits, where the signature of each function is that of its
 -- definition.
-use Rattle.ir_builder_supported.proofs.Common.{◌≡◌, refl, sym, ◌∙◌, ap, subst, ℕ, Bool, true, false, List, [], ◌∷◌, ◌++◌, Option, Some, None, ⊎_elim, or_cases, ℤ, pos, negsuc, if◌then◌else◌, slice_get, option_map, Sort, sorts_of, Signature, is_same_type, are_same_types, is_nothing, TypedExpr, typed, TypedNode, Int, Str, Flag, Local, Neg, Not, Truth, Arith, Concat, Compare, And, Or, Cond, At, Call, Input, Len, ToStr, Coerce, TypedExprs, no_exprs, expr_then, Comparisons, no_comparisons, comparison_then, type_of, Variable, TypedFunc, TypedModule, is_in, facts, stands, parts_typed, are_values, chain_typed, rule, types_of, is_type, indexed, is_literal, reads_as, declared, call_fits, and_left, and_right, one_type, parameter_sorts, is_bool, is_int, is_text, is_scalar, is_result, is_whole, Suits, NodeSuits, ArgumentsSuit, ComparisonsSuit, are_pairs, is_form, expression_forms, part_forms, row_forms, chain_forms, BinarySuits, IsSized, index_of, sized_of, is_pair, AllSuit, ReadsAs, count_of, is_flat, is_indexed, is_counted, is_value, Nothing, Append, ListOf, TupleOf, TupleAt, Pop, Global, is_number, Sorts, listed_sorts, is_printable, is_result_type, tuple_sort, are_value_types, row_fits, nat_lt, not, list_any, arith, inl, inr, length, suc, ◌<◌, ◌≤◌, ltb-true, slice_get_within, ◌&&◌}
+use Rattle.ir_builder_supported.proofs.Common.{◌≡◌, refl, sym, ◌∙◌, ap, subst, ℕ, Bool, true, false, List, [], ◌∷◌, ◌++◌, Option, Some, None, ⊎_elim, or_cases, ℤ, pos, negsuc, if◌then◌else◌, is_some, CmpOp, Span, IsTestable, absence_by, testable_of, behind_sort, is_asked, is_testable, slice_get, option_map, Sort, sorts_of, Signature, is_same_type, are_same_types, is_nothing, TypedExpr, typed, TypedNode, Int, Str, Flag, Local, Neg, Not, Truth, Arith, Concat, Compare, And, Or, Cond, At, Call, Input, Len, ToStr, Coerce, TypedExprs, no_exprs, expr_then, Comparisons, no_comparisons, comparison_then, type_of, Variable, TypedFunc, TypedModule, is_in, facts, stands, parts_typed, are_values, chain_typed, rule, types_of, is_type, indexed, is_literal, reads_as, declared, call_fits, and_left, and_right, one_type, parameter_sorts, is_bool, is_int, is_text, is_scalar, is_result, is_whole, Suits, NodeSuits, ArgumentsSuit, ComparisonsSuit, are_pairs, is_form, expression_forms, part_forms, row_forms, chain_forms, BinarySuits, IsSized, index_of, sized_of, is_pair, AllSuit, ReadsAs, count_of, is_flat, is_indexed, is_counted, is_value, Nothing, Append, ListOf, TupleOf, TupleAt, Pop, Global, is_number, Sorts, listed_sorts, is_printable, is_result_type, tuple_sort, are_value_types, row_fits, nat_lt, not, list_any, arith, inl, inr, length, suc, ◌<◌, ◌≤◌, ltb-true, slice_get_within, ◌&&◌}
 use Rattle.ir_builder_supported.proofs.FormLemmas.{none_left, none_right, compiled, both}
 use Rattle.value_core.specs.Arithmetic.{lies_within}
+use Rattle.py_syntax.specs.declared.expression.CmpOp.TheVariants as compare
 use Rattle.py_typed.specs.Sorts as sort
 use Rattle.py_typed.specs.WellTypedExpr.{is_function}
 use Rattle.ir_builder_comparisons.specs.Comparing.{is_ordering}
+use Rattle.ir_builder_expressions.proofs.AbsenceLemmas.{chain_suits}
 
 -- ---- types
 
@@ -92,6 +94,11 @@ length_suits sort.Str h = refl
 length_suits (sort.ListOf t) h = (t, refl)
 length_suits (sort.TupleOf ts) h = (ts, refl)
 length_suits _ h = absurd (cc)
+
+testable_suits : (s : Sort) → is_testable s ≡ true → IsTestable (testable_of s) s
+testable_suits (sort.ListOf t) h = (t, refl)
+testable_suits (sort.TupleOf ts) h = (ts, refl)
+testable_suits s h = h
 
 there : (o : Option Sort) (t : Sort) → is_type o t ≡ true → (s : Sort) × (o ≡ Some s)
 there None t h = absurd (cc)
@@ -181,6 +188,30 @@ module _ (m : TypedModule) (vs : List Variable) (init : Option ℕ) where
       ⊎_elim (λ h. let v = declared_as (slice_get vs i) t h in (v.0, v.1, inl v.2)) (read_as (is_in known i) (slice_get vs i) t)
       (or_cases (is_type (declared vs i) t) (is_type (option_map (reads_as (is_in known i)) (declared vs i)) t) r)
 
+  -- ---- whether a part is None
+
+  own_rule : (testing : Bool) (known : List ℕ) (n : TypedNode) (t : Sort) (place : Span) → stands m vs init testing known (typed n t place) ≡ true → rule m vs init known n t ≡ true
+  own_rule testing known n t place h = and_right _ _ (and_left _ _ (and_left _ _ (and_left _ _ h)))
+
+  asked_by : (e b : TypedExpr) (o : CmpOp) (t : Sort) → is_some (absence_by o b) ≡ true → t ≡ sort.Bool → Suits m vs e → type_of b ≡ sort.Nothing → NodeSuits m vs (Compare e (comparison_then o b no_comparisons)) t
+  asked_by e (typed Nothing u place) compare.Is t a is first none = (is, first, none)
+  asked_by e (typed Nothing u place) compare.IsNot t a is first none = (is, first, none)
+  asked_by e b o t a is first none = absurd (cc)
+
+  -- it is asked of a part of any type, and gives a bool
+  asked_suits : (e : TypedExpr) (more : Comparisons) (t : Sort) → is_asked more ≡ true → t ≡ sort.Bool → Suits m vs e → behind_sort more ≡ sort.Nothing → NodeSuits m vs (Compare e more) t
+  asked_suits e (comparison_then o b no_comparisons) t a is first none = asked_by e b o t a is first none
+  asked_suits e more t a is first none = absurd (cc)
+
+  none_behind : (known : List ℕ) (b : TypedExpr) (o : CmpOp) → is_some (absence_by o b) ≡ true → stands m vs init false known b ≡ true → type_of b ≡ sort.Nothing
+  none_behind known (typed Nothing u place) o a h = nothing_is u (own_rule false known Nothing u place h)
+  none_behind known b o a h = absurd (cc)
+
+  -- what stands behind it has the type of None
+  asked_behind : (known : List ℕ) (e : TypedExpr) (more : Comparisons) → is_asked more ≡ true → chain_typed m vs init known e more ≡ true → behind_sort more ≡ sort.Nothing
+  asked_behind known e (comparison_then o b no_comparisons) a h = none_behind known b o a (and_left _ _ (and_left _ _ h))
+  asked_behind known e more a h = absurd (cc)
+
   -- ---- displays
 
   list_suits : (known : List ℕ) (es : TypedExprs) (t : Sort) → rule m vs init known (ListOf es) t ≡ true → (u : Sort) × (t ≡ sort.ListOf u)
@@ -234,7 +265,7 @@ module _ (m : TypedModule) (vs : List Variable) (init : Option ℕ) where
       well_typed_node testing known (Global i) t p r g f q = declared_as (slice_get m.globals i) t r
       well_typed_node testing known (Neg e) t p r g f q = ((f, and_left _ _ r), well_typed_suits false known e p q)
       well_typed_node testing known (Not e) t p r g f q = ((bool_is t f, one_type (type_of e) sort.Bool (and_left _ _ r)), well_typed_suits true known e p q)
-      well_typed_node testing known (Truth e) t p r g f q = ((bool_is t (and_left _ _ f), and_right (is_bool t) _ f), well_typed_suits false known e p q)
+      well_typed_node testing known (Truth e) t p r g f q = ((bool_is t (and_left _ _ f), testable_suits (type_of e) (and_right (is_bool t) _ f)), well_typed_suits false known e p q)
       well_typed_node testing known (Arith op a b) t p r g f q =
           let parts = both (well_typed_suits false known a) (well_typed_suits false known b) p q in
           let numbers = and_left _ _ r in
@@ -244,9 +275,11 @@ module _ (m : TypedModule) (vs : List Variable) (init : Option ℕ) where
           let texts = and_left _ _ r in
           ((text_is t f, one_type (type_of a) sort.Str (and_left _ _ texts), one_type (type_of b) sort.Str (and_right _ _ texts)), parts.0, parts.1)
       well_typed_node testing known (Compare e more) t p r g f q =
-          let pairs = and_right (is_bool t) _ f in
-          let parts = both (well_typed_suits false known e) (λ h. well_typed_chain known e more h (and_right _ _ pairs)) p q in
-          (bool_is t (and_left _ _ f), and_left _ _ pairs, parts.0, parts.1)
+          let first = well_typed_suits false known e (and_left _ _ p) (none_left _ _ q) in
+          let is = bool_is t (and_left _ _ f) in
+          ⊎_elim (λ a. asked_suits e more t a is first (asked_behind known e more a (and_right _ _ p)))
+          (λ pairs. chain_suits m vs e more t is (and_left _ _ pairs) first (well_typed_chain known e more (and_right _ _ p) (and_right _ _ pairs) (none_right _ _ q)))
+          (or_cases (is_asked more) (is_scalar (type_of e) && are_pairs (type_of e) more) (and_right (is_bool t) _ f))
       well_typed_node testing known (And a b) t p r g f q =
           let parts = both (well_typed_suits testing known a) (well_typed_suits testing (facts true a ++ known) b) p q in
           (f, one_type (type_of a) t (and_left _ _ r), one_type (type_of b) t (and_right _ _ r), parts.0, parts.1)

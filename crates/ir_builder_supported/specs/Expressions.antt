@@ -1,12 +1,13 @@
 -- The expressions that are not compiled, and the lines on which they stand. An expression stands on the line where it begins, so
 -- what stands inside of one that is not compiled stands on no line before it.
-use Rattle.std.specs.Prelude.{Bool, true, false, ◌&&◌, if◌then◌else◌, List, [], ◌∷◌, ◌++◌}
+use Rattle.std.specs.Prelude.{Bool, true, false, ◌&&◌, ◌||◌, if◌then◌else◌, is_some, List, [], ◌∷◌, ◌++◌}
 use Rattle.py_typed.specs.Sorts as sort
 use Rattle.py_typed.specs.Sorts.{Sort}
 use Rattle.py_typed.specs.Expressions.{TypedExpr, typed, TypedNode, Int, Str, Flag, Nothing, Local, Global, Neg, Not, Truth, Arith, Concat, Compare, And, Or, Cond, ListOf, TupleOf, At, TupleAt, Call, Input, Len, ToStr, Append, Pop, Coerce, TypedExprs, no_exprs, expr_then, Comparisons, no_comparisons, comparison_then, type_of}
 use Rattle.ir_builder_forms.specs.declared.form.Unbuilt.{Unbuilt}
 use Rattle.ir_builder_operations.specs.Selecting.{is_arithmetic, is_whole}
 use Rattle.ir_builder_comparisons.specs.Comparing.{is_ordering}
+use Rattle.ir_builder_expressions.specs.Applying.{absence_in}
 use Rattle.ir_builder_expressions.specs.Parts.{is_bool, is_int, is_text, is_scalar, is_pair}
 use Rattle.ir_builder_supported.specs.Forms.{is_value, is_result, unbuilt, node_form}
 
@@ -19,7 +20,16 @@ abbrev pub are_pairs : Sort → Comparisons → Bool
 are_pairs s no_comparisons = true
 are_pairs s (comparison_then op e more) = is_ordering op && (is_pair s (type_of e) && are_pairs (type_of e) more)
 
--- the types of what has items that are read by an index, and of what has a length
+-- a part is only asked whether it is None: `is None` or `is not None` alone stands behind it
+abbrev pub is_asked : Comparisons → Bool
+is_asked more = is_some (absence_in more)
+
+-- what stands behind a part of a type is compiled: of a part of any type it is asked whether it is None, and numbers, bools and texts
+-- are compared
+abbrev pub are_compared : Sort → Comparisons → Bool
+are_compared s more = is_asked more || (is_scalar s && are_pairs s more)
+
+-- the types of what has items that are read by an index, of what has a length, and of what has a truth
 abbrev pub is_indexed : Sort → Bool
 is_indexed sort.Str = true
 is_indexed (sort.ListOf t) = true
@@ -31,6 +41,11 @@ is_counted (sort.ListOf t) = true
 is_counted (sort.TupleOf ts) = true
 is_counted t = false
 
+abbrev pub is_testable : Sort → Bool
+is_testable (sort.ListOf t) = true
+is_testable (sort.TupleOf ts) = true
+is_testable t = is_scalar t
+
 -- whether an expression of a type is of a form that is compiled, whatever its parts are
 abbrev pub is_form : TypedNode → Sort → Bool
 is_form (Int n) t = is_int t
@@ -41,10 +56,10 @@ is_form (Local i) t = is_value t
 is_form (Global i) t = is_value t
 is_form (Neg e) t = is_whole t
 is_form (Not e) t = is_bool t
-is_form (Truth e) t = is_bool t && is_scalar (type_of e)
+is_form (Truth e) t = is_bool t && is_testable (type_of e)
 is_form (Arith op a b) t = is_whole t && is_arithmetic op
 is_form (Concat a b) t = is_text t
-is_form (Compare e more) t = is_bool t && (is_scalar (type_of e) && are_pairs (type_of e) more)
+is_form (Compare e more) t = is_bool t && are_compared (type_of e) more
 is_form (And a b) t = is_scalar t
 is_form (Or a b) t = is_scalar t
 is_form (Cond a test b) t = is_value t

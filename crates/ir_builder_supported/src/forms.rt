@@ -1,10 +1,13 @@
 //! Whether a type, an operation or a node is one of those that are compiled, whatever stands in it.
-ghost use Rattle.std.specs.Prelude.{◌≡◌, ◌&&◌, map, slice_get};
+ghost use Rattle.std.specs.Prelude.{◌≡◌, ◌&&◌, is_some, map, slice_get};
 ghost use Rattle.py_typed.specs.Sorts.{sort, sorts_of};
 ghost use Rattle.py_typed.specs.Expressions.{typed_expr, typed_node, typed_comparison, comparisons_of};
 ghost use Rattle.py_typed.specs.Statements.{typed_target, typed_func, variable};
 ghost use Rattle.ir_builder_comparisons.specs.Comparing as comparing;
+ghost use Rattle.py_typed.specs.TargetTypes.{item_sort};
+ghost use Rattle.ir_builder_operations.specs.Converting as converting;
 ghost use Rattle.ir_builder_operations.specs.Selecting as selecting;
+ghost use Rattle.ir_builder_expressions.specs.Applying as applying;
 ghost use Rattle.ir_builder_expressions.specs.Parts as sorts;
 ghost use Rattle.ir_builder_supported.specs.Expressions as form;
 ghost use Rattle.ir_builder_supported.specs.Forms as spec;
@@ -115,6 +118,39 @@ fn are_pairs(first: &Ty, more: &[(CmpOp, TExpr)]) -> bool
     true
 }
 
+fn is_identity(op: CmpOp) -> bool
+    ensures { result ≡ is_some (applying.absence_of op) }
+{
+    matches!(op, CmpOp::Is | CmpOp::IsNot)
+}
+
+/// Whether an operator asks whether a part is None, where this operand stands behind it.
+fn asks_absence(op: CmpOp, e: &TExpr) -> bool
+    ensures { result ≡ is_some (applying.absence_by op (typed_expr e.now)) }
+{
+    match &e.kind {
+        TKind::Nothing => is_identity(op),
+        _ => false,
+    }
+}
+
+/// Whether a part is only asked whether it is None: `is None` or `is not None` alone stands behind it.
+fn is_asked(more: &[(CmpOp, TExpr)]) -> bool
+    ensures { result ≡ form.is_asked (comparisons_of (map typed_comparison more.now)) }
+{
+    match more {
+        [(op, e)] => asks_absence(*op, e),
+        _ => false,
+    }
+}
+
+/// Whether what stands behind a part of a type is compiled.
+fn are_compared(first: &Ty, more: &[(CmpOp, TExpr)]) -> bool
+    ensures { result ≡ form.are_compared (sort first.now) (comparisons_of (map typed_comparison more.now)) }
+{
+    is_asked(more) || (is_scalar(first) && are_pairs(first, more))
+}
+
 /// Whether values of a type have items that are read by an index.
 fn is_indexed(t: &Ty) -> bool
     ensures { result ≡ form.is_indexed (sort t.now) }
@@ -127,6 +163,16 @@ fn is_counted(t: &Ty) -> bool
     ensures { result ≡ form.is_counted (sort t.now) }
 {
     matches!(t, Ty::Str | Ty::List(_) | Ty::Tuple(_))
+}
+
+/// Whether values of a type have a truth that is compiled: numbers, bools and texts, lists and tuples.
+fn is_testable(t: &Ty) -> bool
+    ensures { result ≡ form.is_testable (sort t.now) }
+{
+    matches!(
+        t,
+        Ty::Int | Ty::I64 | Ty::Bool | Ty::Str | Ty::List(_) | Ty::Tuple(_)
+    )
 }
 
 /// Whether an expression is of a form that is compiled, whatever its parts are.
@@ -148,10 +194,10 @@ pub(crate) fn is_form(e: &TExpr) -> bool
         | TKind::Coerce(_) => is_value(&e.ty),
         TKind::And(_, _) | TKind::Or(_, _) => is_scalar(&e.ty),
         TKind::Neg(_) => is_whole(&e.ty),
-        TKind::Truth(a) => is_bool(&e.ty) && is_scalar(&a.ty),
+        TKind::Truth(a) => is_bool(&e.ty) && is_testable(&a.ty),
         TKind::Arith(op, _, _) => is_whole(&e.ty) && is_arithmetic(*op),
         TKind::Compare(first, more) => {
-            is_bool(&e.ty) && (is_scalar(&first.ty) && are_pairs(&first.ty, more.as_slice()))
+            is_bool(&e.ty) && are_compared(&first.ty, more.as_slice())
         }
         TKind::At(a, _) => is_indexed(&a.ty),
         TKind::Call(_, _) => is_result(&e.ty),
@@ -178,13 +224,25 @@ fn has_type(variables: &[Var], i: usize, t: &Ty) -> bool
     }
 }
 
-/// Whether one name is assigned to, of a function or of a module with these variables, and has the type of the value.
+/// Whether a type is that of lists of values of another type.
+fn is_list_of(t: &Ty, list: &Ty) -> bool
+    ensures { result ≡ statement.is_list_of (sort t.now) (sort list.now) }
+{
+    match list {
+        Ty::List(item) => is_same_type(item, t),
+        _ => false,
+    }
+}
+
+/// Whether one name is assigned to, of a function or of a module with these variables, and has the type of the value, or an item of a
+/// list of such values.
 pub(crate) fn is_assigned(locals: &[Var], globals: &[Var], targets: &[Target], t: &Ty) -> bool
     ensures { result ≡ statement.is_assigned (map variable locals.now) (map variable globals.now) (map typed_target targets.now) (sort t.now) }
 {
     match targets {
         [Target::Local(i)] => has_type(locals, *i, t),
         [Target::Global(i)] => has_type(globals, *i, t),
+        [Target::At(list, _)] => is_list_of(t, &list.ty),
         _ => false,
     }
 }
@@ -206,13 +264,25 @@ fn takes_result(variables: &[Var], i: usize, t: &Ty) -> bool
     }
 }
 
-/// Whether a target is one name, of a function or of a module with these variables, that takes what an operation of a type gives.
-fn is_updated_name(locals: &[Var], globals: &[Var], target: &Target, t: &Ty) -> bool
+/// Whether a type is that of lists whose items take what an operation of a type gives.
+fn takes_item_result(t: &Ty, list: &Ty) -> bool
+    ensures { result ≡ statement.takes_item_result (sort t.now) (sort list.now) }
+{
+    match list {
+        Ty::List(item) => is_taken(item, t),
+        _ => false,
+    }
+}
+
+/// Whether a target is one name, of a function or of a module with these variables, or an item of a list, that takes what an operation
+/// of a type gives.
+fn is_updated_target(locals: &[Var], globals: &[Var], target: &Target, t: &Ty) -> bool
     ensures { result ≡ statement.is_updated (map variable locals.now) (map variable globals.now) (typed_target target.now) (sort t.now) }
 {
     match target {
         Target::Local(i) => takes_result(locals, *i, t),
         Target::Global(i) => takes_result(globals, *i, t),
+        Target::At(list, _) => takes_item_result(t, &list.ty),
         _ => false,
     }
 }
@@ -227,7 +297,68 @@ pub(crate) fn is_updated(
 ) -> bool
     ensures { result ≡ (statement.is_updated (map variable locals.now) (map variable globals.now) (typed_target target.now) (sort t.now) && (sorts.is_scalar (sort t.now) && selecting.is_arithmetic op)) }
 {
-    is_updated_name(locals, globals, target, t) && (is_scalar(t) && is_arithmetic(op))
+    is_updated_target(locals, globals, target, t) && (is_scalar(t) && is_arithmetic(op))
+}
+
+/// Whether no Optional stands under another one at once.
+fn is_flat(t: &Ty) -> bool
+    ensures { result ≡ converting.is_flat (sort t.now) }
+{
+    match t {
+        Ty::Optional(inner) => !matches!(&**inner, Ty::Optional(_)),
+        _ => true,
+    }
+}
+
+/// Whether this is one type.
+fn is_one(ts: &[Ty]) -> bool
+    ensures { result ≡ statement.is_one (sorts_of (map sort ts.now)) }
+{
+    match ts {
+        [_] => true,
+        _ => false,
+    }
+}
+
+/// Whether a type is one of tuples of one part.
+fn is_lone(t: &Ty) -> bool
+    ensures { result ≡ statement.is_lone (sort t.now) }
+{
+    match t {
+        Ty::Tuple(ts) => is_one(ts.as_slice()),
+        _ => false,
+    }
+}
+
+/// Whether a value of a type that fits is bound to the variable of a number, and not the part of a tuple.
+fn is_bound_to(variables: &[Var], i: usize, t: &Ty) -> bool
+    ensures { result ≡ statement.is_bound_to (sort t.now) (slice_get (map variable variables.now) i) }
+{
+    match variables.get(i) {
+        None => false,
+        Some(v) => is_flat(&v.ty) && (is_same_type(&v.ty, t) || !is_lone(t)),
+    }
+}
+
+/// Whether the numbers or items of a loop, of this type, are bound to one name, of a function or of a module with these variables.
+pub(crate) fn is_bound(locals: &[Var], globals: &[Var], targets: &[Target], t: &Ty) -> bool
+    ensures { result ≡ statement.is_bound (map variable locals.now) (map variable globals.now) (map typed_target targets.now) (sort t.now) }
+{
+    match targets {
+        [Target::Local(i)] => is_bound_to(locals, *i, t),
+        [Target::Global(i)] => is_bound_to(globals, *i, t),
+        _ => false,
+    }
+}
+
+/// The type of the items of a list.
+pub(crate) fn item_type(t: &Ty) -> &Ty
+    ensures { sort result.now ≡ item_sort (sort t.now) }
+{
+    match t {
+        Ty::List(item) | Ty::Dict(_, item) => item,
+        _ => t,
+    }
 }
 
 fn hold_values(variables: &[Var]) -> bool

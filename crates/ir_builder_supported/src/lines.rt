@@ -10,16 +10,16 @@ ghost use Rattle.ir_builder_forms.specs.Least.{lesser, least};
 ghost use Rattle.py_syntax.specs.Statements.{module_tree, stmt_tree, body_tree};
 ghost use Rattle.py_check_names.specs.Walked.{trees};
 ghost use Rattle.py_typed.specs.Expressions.{typed_expr, exprs_of, comparisons_of, typed_comparison};
-ghost use Rattle.py_typed.specs.Statements.{typed_stmt, typed_suite, typed_arm, arms_of, maybe_typed, variable, typed_func, typed_module};
+ghost use Rattle.py_typed.specs.Statements.{typed_stmt, typed_target, typed_suite, typed_arm, arms_of, maybe_typed, variable, typed_func, typed_module};
 ghost use Rattle.ir_builder_supported.specs.Expressions.{or_parts, expression_forms, row_forms, chain_forms};
-ghost use Rattle.ir_builder_supported.specs.Statements.{alone_forms, returned_forms, statement_forms, suite_forms, arms_forms, function_forms, functions_forms, class_form, uncompiled_form, def_line, def_lines, lines_held, function_lines, line_or_none};
+ghost use Rattle.ir_builder_supported.specs.Statements.{alone_forms, maybe_forms, target_forms, targets_forms, statement_forms, suite_forms, arms_forms, function_forms, functions_forms, class_form, uncompiled_form, def_line, def_lines, lines_held, function_lines, line_or_none};
 
-use crate::forms::{is_assigned, is_form, is_function, is_updated};
+use crate::forms::{is_assigned, is_bound, is_form, is_function, is_updated, item_type};
 use crate::naming::{expression_at, function_form, targets_form, unbuilt, update_form};
 use ir_builder_forms::{Form, Unbuilt, lesser};
 use py_check_names::definitions_in;
 use py_syntax::{CmpOp, Module, Stmt, StmtKind};
-use py_typed::{Checked, TExpr, TFunc, TKind, TStmt, TStmtKind, Var};
+use py_typed::{Checked, TExpr, TFunc, TKind, TStmt, TStmtKind, Target, Var};
 use std::alloc::Global;
 use value_core::{Many, Memory};
 
@@ -120,13 +120,34 @@ fn in_alone(e: &TExpr, found: Option<Unbuilt>) -> Option<Unbuilt>
     }
 }
 
-fn in_returned(e: &Option<TExpr>, found: Option<Unbuilt>) -> Option<Unbuilt>
-    ensures { result ≡ least found (returned_forms (maybe_typed e.now)) }
+/// In an expression that may be missing.
+fn in_maybe(e: &Option<TExpr>, found: Option<Unbuilt>) -> Option<Unbuilt>
+    ensures { result ≡ least found (maybe_forms (maybe_typed e.now)) }
 {
     match e {
         None => found,
         Some(e) => in_expression(e, found),
     }
+}
+
+/// In what is assigned to: in the parts that say which item it is.
+fn in_target(target: &Target, found: Option<Unbuilt>) -> Option<Unbuilt>
+    ensures { result ≡ least found (target_forms (typed_target target.now)) }
+{
+    match target {
+        Target::At(list, index) => in_expression(index, in_expression(list, found)),
+        _ => found,
+    }
+}
+
+fn in_targets(targets: &[Target], found: Option<Unbuilt>) -> Option<Unbuilt>
+    ensures { result ≡ least found (targets_forms (map typed_target targets.now)) }
+{
+    let mut found = found;
+    for target in targets {
+        found = in_target(target, found);
+    }
+    found
 }
 
 /// In an expression, where what it stands in is compiled; else that itself.
@@ -135,6 +156,57 @@ fn in_part(compiled: bool, e: &TExpr, here: Unbuilt, found: Option<Unbuilt>) -> 
 {
     if compiled {
         in_expression(e, found)
+    } else {
+        Some(lesser(here, found))
+    }
+}
+
+/// In a value and in what it is assigned to, where the assignment is compiled; else that itself.
+fn in_assignment(
+    compiled: bool,
+    targets: &[Target],
+    e: &TExpr,
+    here: Unbuilt,
+    found: Option<Unbuilt>,
+) -> Option<Unbuilt>
+    ensures { result ≡ least found (or_parts compiled here (expression_forms (typed_expr e.now) ++ targets_forms (map typed_target targets.now))) }
+{
+    if compiled {
+        in_targets(targets, in_expression(e, found))
+    } else {
+        Some(lesser(here, found))
+    }
+}
+
+/// In what is updated and in the operand, where the update is compiled; else that itself.
+fn in_update(
+    compiled: bool,
+    target: &Target,
+    e: &TExpr,
+    here: Unbuilt,
+    found: Option<Unbuilt>,
+) -> Option<Unbuilt>
+    ensures { result ≡ least found (or_parts compiled here (target_forms (typed_target target.now) ++ expression_forms (typed_expr e.now))) }
+{
+    if compiled {
+        in_expression(e, in_target(target, found))
+    } else {
+        Some(lesser(here, found))
+    }
+}
+
+/// In the bounds of a range, where the loop over it is compiled; else that itself.
+fn in_range(
+    compiled: bool,
+    start: &Option<TExpr>,
+    stop: &TExpr,
+    here: Unbuilt,
+    found: Option<Unbuilt>,
+) -> Option<Unbuilt>
+    ensures { result ≡ least found (or_parts compiled here (maybe_forms (maybe_typed start.now) ++ expression_forms (typed_expr stop.now))) }
+{
+    if compiled {
+        in_expression(stop, in_maybe(start, found))
     } else {
         Some(lesser(here, found))
     }
@@ -167,14 +239,16 @@ fn in_statement(
 {
     match &s.kind {
         TStmtKind::Expr(e) => in_alone(e, found),
-        TStmtKind::Assign(targets, e) => in_part(
+        TStmtKind::Assign(targets, e) => in_assignment(
             is_assigned(locals, globals, targets.as_slice(), &e.ty),
+            targets.as_slice(),
             e,
             unbuilt(s.line, targets_form(targets.as_slice())),
             found,
         ),
-        TStmtKind::Aug(target, op, e, t) => in_part(
+        TStmtKind::Aug(target, op, e, t) => in_update(
             is_updated(locals, globals, target, *op, t),
+            target,
             e,
             unbuilt(s.line, update_form(target, t)),
             found,
@@ -188,12 +262,33 @@ fn in_statement(
         TStmtKind::While(test, body) => {
             in_suite(body.as_slice(), locals, globals, in_expression(test, found))
         }
-        TStmtKind::Return(e) => in_returned(e, found),
+        TStmtKind::Return(e) => in_maybe(e, found),
         TStmtKind::Break | TStmtKind::Continue | TStmtKind::Pass => found,
         TStmtKind::Del(_, _) => Some(lesser(unbuilt(s.line, Form::Del), found)),
-        TStmtKind::ForRange(_, _, _, _)
-        | TStmtKind::ForList(_, _, _)
-        | TStmtKind::ForDict(_, _, _) => Some(lesser(unbuilt(s.line, Form::For), found)),
+        TStmtKind::ForRange(targets, start, stop, body) => in_suite(
+            body.as_slice(),
+            locals,
+            globals,
+            in_range(
+                is_bound(locals, globals, targets.as_slice(), &stop.ty),
+                start,
+                stop,
+                unbuilt(s.line, targets_form(targets.as_slice())),
+                found,
+            ),
+        ),
+        TStmtKind::ForList(targets, e, body) => in_suite(
+            body.as_slice(),
+            locals,
+            globals,
+            in_part(
+                is_bound(locals, globals, targets.as_slice(), item_type(&e.ty)),
+                e,
+                unbuilt(s.line, targets_form(targets.as_slice())),
+                found,
+            ),
+        ),
+        TStmtKind::ForDict(_, _, _) => Some(lesser(unbuilt(s.line, Form::For), found)),
         TStmtKind::Try(_, _, _) => Some(lesser(unbuilt(s.line, Form::Try), found)),
         TStmtKind::Raise(_) => Some(lesser(unbuilt(s.line, Form::Raise), found)),
         TStmtKind::Assert(_, _) => Some(lesser(unbuilt(s.line, Form::Assert), found)),
