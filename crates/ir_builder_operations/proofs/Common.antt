@@ -17,12 +17,12 @@ pub use Rattle.ir_builder_frames.specs.Placing.{Has, HasType, Placed}
 pub use Rattle.ir_builder_frames.specs.Settings.{Setting, rtype_of}
 pub use Rattle.ir_builder_operations.specs.Converting.{coercion, text_operation, unboxed_in}
 pub use Rattle.ir_builder_operations.specs.Operating.{Acts, ActsOn, ActsOnTwo, is_written}
-pub use Rattle.ir_builder_operations.specs.Rows.{box_primitive, compares, goes, inverts, is_absent, is_known, item_changed, list_length, of_none, of_one, of_three, of_two, operands_of, primitive_of, result_of, tested, tuple_length, unbox_primitive, unboxed_sort, written}
-pub use Rattle.ir_builder_operations.specs.Boxes.{boxed, is_of, taken_as}
+pub use Rattle.ir_builder_operations.specs.Rows.{box_primitive, compares, dict_length, entry_deleted, entry_put, goes, if_same_size, inverts, is_absent, is_known, item_changed, key_found, key_of_pair, key_there, keyed, list_length, of_none, of_one, of_three, of_two, operands_of, primitive_of, result_of, size_checked, tested, tuple_length, unbox_primitive, unboxed_sort, written}
+pub use Rattle.ir_builder_operations.specs.Boxes.{boxed, is_of, may_be_key, taken_as}
 pub use Rattle.ir_builder_operations.specs.Selecting.{int_primitive, is_arithmetic, is_whole, native_primitive, test_primitive}
 pub use Rattle.ir_builder_operations.specs.declared.operation.Compared.TheVariants.{Ints, Natives, Texts}
 pub use Rattle.ir_builder_operations.specs.declared.operation.Operation.{Operation}
-pub use Rattle.ir_builder_operations.specs.declared.operation.Operation.TheVariants.{Absence, BoolText, BoolToInt, BoolToNative, Boxing, Comparison, Concatenation, EmptyList, IntArithmetic, IntNegation, IntText, IntToNative, Inversion, Item, ItemChange, LastItem, Length, Letter, Line, ListLength, NativeArithmetic, NativeNegation, NativeText, NativeToInt, TupleLength, Unboxing}
+pub use Rattle.ir_builder_operations.specs.declared.operation.Operation.TheVariants.{Absence, BoolText, BoolToInt, BoolToNative, Boxing, Comparison, Concatenation, Deletion, DictItem, DictLength, EmptyDict, EmptyList, IntArithmetic, IntNegation, IntText, IntToNative, Inversion, Item, ItemChange, KeyAt, LastItem, Length, Letter, Line, ListLength, Membership, NativeArithmetic, NativeNegation, NativeText, NativeToInt, SizeCheck, TupleLength, Unboxing}
 pub use Rattle.ir_builder_operations.specs.declared.operation.Test.TheVariants.{AtMost, Equal, Less}
 pub use Rattle.ir_builder_frames.specs.Building.{Building}
 pub use Rattle.ir_core.specs.Effects.{Effect, Given, World, Written, Wrong, effect, fitted, int_or, item_or, line_read, native_or, truth_number, truth_text, written_int}

@@ -7,7 +7,7 @@ use Rattle.ir_core.specs.Effects.{Gives as Giving}
 use Rattle.ir_builder_operations.specs.declared.operation.Test.{Test}
 use Rattle.ir_builder_operations.proofs.TextLemmas.{text_less_is}
 
-same_number : (a b : ℤ) → (not (int_lt a b) && not (int_lt b a)) ≡ int_eq a b
+pub same_number : (a b : ℤ) → (not (int_lt a b) && not (int_lt b a)) ≡ int_eq a b
 same_number (pos a) (pos b) = grind (arith, nat_tests)
 same_number (pos a) (negsuc b) = refl
 same_number (negsuc a) (pos b) = refl

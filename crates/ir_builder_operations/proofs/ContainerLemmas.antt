@@ -1,5 +1,5 @@
 -- What the code does with lists and tuples is what the source does, unless it is stuck.
-use Rattle.ir_builder_operations.proofs.Common.{◌&&◌, ◌++◌, ◌+◌, ◌<◌, ◌>>◌, ◌∙◌, ◌∷◌, ◌≡◌, ◌≤◌, ◌⊎◌, ActsAs, ActsOn, ActsOnAll, ActsOnTwo, Adds, Answers, AreArguments, Arrives, Attempts, Building, Declared, DictObj, Does, Given, Gives, Has, HasKind, HasType, HaveKinds, HaveTypes, Holds, InstObj, IsStuck, IsThrown, Leads, List, ListObj, Lit, NeverFails, None, NoneVal, ObjVal, Object, Option, Outcome, PArg, Performs, Prim, Primitive, Program, Pushes, RType, Reg, Regs, ShowAll, Showing, Shows, Some, Sort, State, TupleVal, Value, Var, World, Written, Wrong, [], acts_step, acts_typed, all_given, all_perform, ap, arith, as_list, boxed, cond, effect, ends_from, ends_lead, ends_of, extends_refl, extends_trans, failing, give, has_less, inl, inr, le_refl, leads_as, leads_refl, leads_step, leads_trans, leaves_all, length, listed, literal_makes, make, makes_arrives, map, nat_lt, of_none, option_map, performs, placed_part, pos, prim_ends, pushes_has, read_is, refl, rtype_of, running, slice_get, slice_set, subst, suc, sure, sym, true, tupled, type_has, type_kept, type_of_reg, unless_stuck, world, zero, ℕ, ℤ}
+use Rattle.ir_builder_operations.proofs.Common.{◌&&◌, ◌++◌, ◌+◌, ◌<◌, ◌>>◌, ◌∙◌, ◌∷◌, ◌≡◌, ◌≤◌, ◌⊎◌, ActsAs, ActsOn, ActsOnAll, ActsOnTwo, Adds, Answers, AreArguments, Arrives, Attempts, Building, Declared, DictObj, Does, Given, Gives, Has, HasKind, HasType, HaveKinds, HaveTypes, Holds, InstObj, IsStuck, IsThrown, Leads, List, ListObj, Lit, NeverFails, None, NoneVal, ObjVal, Object, Option, Outcome, PArg, Performs, Prim, Primitive, Program, Pushes, RType, Reg, Regs, ShowAll, Showing, Shows, Some, Sort, State, TupleVal, Value, Var, World, Written, Wrong, [], acts_step, acts_typed, all_given, all_perform, ap, arith, as_list, boxed, cond, effect, ends_from, ends_lead, ends_of, extends_refl, extends_trans, failing, give, has_less, inl, inr, le_refl, leads_as, leads_refl, leads_step, leads_trans, leaves_all, length, listed, literal_makes, make, makes_arrives, map, nat_lt, of_none, option_map, performs, placed_part, pos, prim_ends, pushes_has, read_is, refl, rtype_of, running, slice_get, slice_set, subst, suc, sure, sym, true, tupled, type_has, type_kept, type_of_reg, unless_stuck, world, zero, ℕ, ℤ, of_two, taken_as, list_item}
 use Rattle.std.specs.Prelude.{replicate}
 use Rattle.std.proofs.Common.{append-nil, append_assoc, get_or, lt-ltb}
 use Rattle.std.proofs.lemmas.List.{set-set}
@@ -19,7 +19,10 @@ use Rattle.ir_core.specs.declared.code.RType.TheVariants as rtype
 use Rattle.ir_builder_frames.specs.Building.{Extends}
 use Rattle.ir_builder_frames.specs.Kinds.{Answers as AnswersTo}
 use Rattle.ir_builder_operations.specs.Boxes.{objects, appends}
-use Rattle.ir_builder_operations.proofs.PartLemmas.{show_kept}
+use Rattle.ir_builder_operations.specs.Taking.{item_as}
+use Rattle.ir_builder_operations.proofs.PartLemmas.{show_kept, as_two}
+use Rattle.ir_builder_operations.proofs.StoreLemmas.{get_last, set_last, get_set, set_same}
+use Rattle.ir_builder_operations.proofs.ThenLemmas.{attempts_then}
 
 -- ---- primitives on a register and a written number
 
@@ -184,25 +187,6 @@ append_attempts b c d l r x type type' a m =
 
 -- ---- objects behind one another in a list
 
--- what stands at a place, and behind all others
-get_last : {A : Type 0} (xs : List A) (x : A) → slice_get (xs ++ x ∷ []) (length xs) ≡ Some x
-get_last [] x = refl
-get_last (y ∷ xs) x = get_last xs x
-
-set_last : {A : Type 0} (xs : List A) (x y : A) → slice_set (xs ++ x ∷ []) (length xs) y ≡ xs ++ y ∷ []
-set_last [] x y = refl
-set_last (z ∷ xs) x y = ap (λ zs. z ∷ zs) (set_last xs x y)
-
-get_set : {A : Type 0} (xs : List A) (k : ℕ) (x y : A) → slice_get xs k ≡ Some x → slice_get (slice_set xs k y) k ≡ Some y
-get_set [] k x y e = let f : None ≡ Some x = e in absurd (cc)
-get_set (z ∷ xs) zero x y e = refl
-get_set (z ∷ xs) (suc k) x y e = get_set xs k x y e
-
-set_same : {A : Type 0} (xs : List A) (k : ℕ) (x : A) → slice_get xs k ≡ Some x → slice_set xs k x ≡ xs
-set_same [] k x e = refl
-set_same (z ∷ xs) zero x e = let f : Some z ≡ Some x = e in ap (λ y. y ∷ xs) (cc)
-set_same (z ∷ xs) (suc k) x e = ap (λ zs. z ∷ zs) (set_same xs k x e)
-
 -- code that puts the objects in registers behind the items of the list in a register
 pub record Fills (l : Reg) (rs : List Reg) (b c : Building) : Type 0 where
   pub extends : Extends b c
@@ -274,3 +258,16 @@ list_attempts b c d l rs types a f = record {
       ends_of p s.turns start res (Gives (ObjVal n) s2) R T on.does
       (ends_lead p (ObjVal n) s2 start _ R T leads record { now = z.now; is = refl; shows = z.shows; kept = z.kept; same = refl });
 }
+
+-- ---- an item, as a value of a type
+
+pub item_attempts : (t : Sort) (b0 b1 b2 : Building) (x y q : Reg) (r : ℕ) → Attempts (Shows boxed) b0 b1 q.0 rtype.Ref (ActsOnAll (boxed ∷ sort.Int ∷ []) (x ∷ y ∷ []) (of_two list_item)) → Attempts (Shows t) b1 b2 r (rtype_of t) (ActsOn boxed q.0 (taken_as t)) → Attempts (Shows t) b0 b2 r (rtype_of t) (ActsOnTwo boxed sort.Int x.0 y.0 (item_as t))
+item_attempts t b0 b1 b2 x y q r a c =
+    attempts_then (Shows boxed) (Shows t) b0 b1 b2 q.0 r rtype.Ref (rtype_of t) (ActsOnTwo boxed sort.Int x.0 y.0 list_item) (ActsOn boxed q.0 (taken_as t)) (ActsOnTwo boxed sort.Int x.0 y.0 (item_as t)) (as_two boxed sort.Int boxed list_item b0 b1 q.0 x y a) c
+    (λ regs s res f. record {
+      mid = list_item f.v f.w s;
+      go = taken_as t;
+      does = f.does;
+      start = record { v = f.v; left = f.left; w = f.w; right = f.right; does = refl };
+      on = λ now v s1 shows kept. record { v = v; shows = shows; does = refl };
+    })

@@ -9,9 +9,12 @@ pub mod ComparisonLemmas
 pub mod WrittenLemmas
 pub mod InputLemmas
 pub mod ObjectLemmas
+pub mod StoreLemmas
+pub mod DictLemmas
 pub mod BoxLemmas
 pub mod ConversionLemmas
 pub mod OperationLemmas
 pub mod ThenLemmas
 pub mod ContainerLemmas
+pub mod EntryLemmas
 pub mod Common

@@ -1,5 +1,5 @@
 -- Each operation does with its operands' values what the source does, and its primitive takes registers of their types.
-use Rattle.ir_builder_operations.proofs.Common.{◌≡◌, refl, sym, subst, ℕ, true, List, [], ◌∷◌, Some, map, Value, Primitive, Sort, Reg, RType, PArg, Var, Prim, Declared, Building, Adds, Shows, HaveTypes, Attempts, ActsOnAll, AreArguments, HaveKinds, rtype_of, all_given, Performs, all_perform, Operation, IntArithmetic, NativeArithmetic, IntNegation, NativeNegation, Comparison, Inversion, Concatenation, Length, Letter, IntText, NativeText, BoolText, BoolToInt, BoolToNative, NativeToInt, IntToNative, Boxing, Unboxing, Absence, EmptyList, ListLength, TupleLength, Item, ItemChange, LastItem, Line, Ints, Natives, Texts, Equal, Less, AtMost, is_known, operands_of, result_of, primitive_of, goes, boxed}
+use Rattle.ir_builder_operations.proofs.Common.{◌≡◌, refl, sym, subst, ℕ, true, List, [], ◌∷◌, Some, map, Value, Primitive, Sort, Reg, RType, PArg, Var, Prim, Declared, Building, Adds, Shows, HaveTypes, Attempts, ActsOnAll, AreArguments, HaveKinds, rtype_of, all_given, Performs, all_perform, Operation, IntArithmetic, NativeArithmetic, IntNegation, NativeNegation, Comparison, Inversion, Concatenation, Length, Letter, IntText, NativeText, BoolText, BoolToInt, BoolToNative, NativeToInt, IntToNative, Boxing, Unboxing, Absence, EmptyList, ListLength, TupleLength, Item, ItemChange, LastItem, EmptyDict, DictLength, DictItem, Deletion, Membership, SizeCheck, KeyAt, Line, Ints, Natives, Texts, Equal, Less, AtMost, is_known, operands_of, result_of, primitive_of, goes, boxed}
 use Rattle.c_core.specs.Primitives.{Is, Parameter, Borrows, Steals, Owned, row_of}
 use Rattle.py_syntax.specs.declared.expression.BinOp.TheVariants as bin
 use Rattle.ir_core.specs.Lower.{kind_of_type}
@@ -14,6 +14,7 @@ use Rattle.ir_builder_operations.proofs.ComparisonLemmas.{ints_compared, natives
 use Rattle.ir_builder_operations.proofs.WrittenLemmas.{concat_performs, length_performs, item_performs, int_written, native_written, flag_written}
 use Rattle.ir_builder_operations.proofs.InputLemmas.{line_performs}
 use Rattle.ir_builder_operations.proofs.ObjectLemmas.{int_boxed, native_boxed, flag_boxed, int_unboxed, native_unboxed, flag_unboxed, absence_performs, empty_list_performs, list_length_performs, tuple_length_performs, item_performs as list_item_performs, change_performs, pop_performs}
+use Rattle.ir_builder_operations.proofs.DictLemmas.{empty_dict_performs, dict_length_performs, dict_item_performs, deletion_performs, membership_performs, size_performs, key_at_performs}
 use Rattle.ir_builder_operations.specs.declared.operation.Unboxed.TheVariants as unboxed
 
 -- ---- what it does
@@ -53,6 +54,13 @@ operation_performs TupleLength e = on_one boxed (λ v. v) by_any (Does TupleLeng
 operation_performs Item e = on_two boxed Int (λ v. v) IntVal by_any by_int (Does Item) list_item_performs
 operation_performs ItemChange e = on_three boxed Int boxed (λ v. v) IntVal (λ v. v) by_any by_int by_any (Does ItemChange) change_performs
 operation_performs LastItem e = on_one boxed (λ v. v) by_any (Does LastItem) pop_performs
+operation_performs EmptyDict e = on_none (Does EmptyDict) empty_dict_performs
+operation_performs DictLength e = on_one boxed (λ v. v) by_any (Does DictLength) dict_length_performs
+operation_performs DictItem e = on_two boxed boxed (λ v. v) (λ v. v) by_any by_any (Does DictItem) dict_item_performs
+operation_performs Deletion e = on_two boxed boxed (λ v. v) (λ v. v) by_any by_any (Does Deletion) deletion_performs
+operation_performs Membership e = on_two boxed boxed (λ v. v) (λ v. v) by_any by_any (Does Membership) membership_performs
+operation_performs SizeCheck e = on_two boxed Int (λ v. v) IntVal by_any by_int (Does SizeCheck) size_performs
+operation_performs KeyAt e = on_two boxed Int (λ v. v) IntVal by_any by_int (Does KeyAt) key_at_performs
 operation_performs Line e = on_none (Does Line) line_performs
 
 module _ (op : Operation) (rs : List Reg) (t : RType) (q : Primitive) (args : List PArg) (type : t ≡ rtype_of (result_of op)) (does : q ≡ primitive_of op) (given : args ≡ map Var rs) where
@@ -126,6 +134,13 @@ row TupleLength = (refl, (refl, tt))
 row Item = (refl, (refl, (refl, tt)))
 row ItemChange = (refl, (refl, (refl, (refl, tt))))
 row LastItem = (refl, (refl, tt))
+row EmptyDict = (refl, tt)
+row DictLength = (refl, (refl, tt))
+row DictItem = (refl, (refl, (refl, tt)))
+row Deletion = (refl, (refl, (refl, tt)))
+row Membership = (refl, (refl, (refl, tt)))
+row SizeCheck = (refl, (refl, (refl, tt)))
+row KeyAt = (refl, (refl, (refl, tt)))
 row Line = (refl, tt)
 
 taken : (regs : Declared) (ps : List Parameter) (ts : List Sort) (rs : List Reg) → Takes ps ts → HaveTypes regs ts rs → AreArguments regs ps (map Var rs)

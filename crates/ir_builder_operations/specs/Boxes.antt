@@ -38,6 +38,13 @@ is_of t v = true
 abbrev pub taken_as : Sort → Value → Does Value
 taken_as t v = needs (is_of t v) (give v)
 
+-- whether a value may be the key of a dict: a whole number, a bool or a text
+abbrev pub may_be_key : Value → Bool
+may_be_key (IntVal n) = true
+may_be_key (BoolVal b) = true
+may_be_key (StrVal text) = true
+may_be_key v = false
+
 -- the types of registers that hold objects
 abbrev pub objects : List Reg → List Sort
 objects rs = map (λ r. boxed) rs

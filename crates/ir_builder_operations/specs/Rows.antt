@@ -1,7 +1,8 @@
 -- Each operation that one primitive does: the types of its operands and of its result, its primitive, and what the source does with
 -- the operands' values.
-use Rattle.std.specs.Prelude.{Bool, true, not, List, [], ◌∷◌, length}
-use Rattle.value_core.specs.Value.{Value, BoolVal, StrVal, TupleVal, listed, ListObj}
+use Rattle.std.specs.Prelude.{Bool, true, not, if◌then◌else◌, ℤ, pos, negsuc, List, [], ◌∷◌, length, map, slice_get, codes}
+use Rattle.value_core.specs.declared.exception.ExcClass.TheVariants.{RuntimeError}
+use Rattle.value_core.specs.Value.{Value, BoolVal, NoneVal, StrVal, TupleVal, listed, ListObj, DictObj}
 use Rattle.c_core.specs.declared.primitive.Primitive.{Primitive}
 use Rattle.c_core.specs.declared.primitive.Primitive.TheVariants as prim
 use Rattle.c_core.specs.declared.primitive.Int64Prim.TheVariants as int64
@@ -10,20 +11,21 @@ use Rattle.c_core.specs.declared.primitive.BoolPrim.TheVariants as bool
 use Rattle.c_core.specs.declared.primitive.StrPrim.TheVariants as str
 use Rattle.c_core.specs.declared.primitive.IoPrim.TheVariants as io
 use Rattle.c_core.specs.declared.primitive.ListPrim.TheVariants as list
+use Rattle.c_core.specs.declared.primitive.DictPrim.TheVariants as dict
 use Rattle.c_core.specs.declared.primitive.ObjectPrim.TheVariants as object
 use Rattle.c_core.specs.declared.primitive.TuplePrim.TheVariants as tuple
 use Rattle.py_typed.specs.Sorts.{Sort, Int, I64, Bool as BoolSort, Str, Optional}
-use Rattle.source_meaning.specs.State.{Does, ◌>>=◌, ◌>>◌, give, needs, look, make, stop, Stuck}
-use Rattle.source_meaning.specs.Operations.{arithmetic, negated, coerced, is_equal, is_less, are_alike, truth_of, joined, length_of, letter, text_of, next_line, is_none, with_list, length_value, list_item, set_list_item, pop_item}
+use Rattle.source_meaning.specs.State.{Does, ◌>>=◌, ◌>>◌, give, needs, sure, raise_new, look, make, stop, Stuck}
+use Rattle.source_meaning.specs.Operations.{arithmetic, negated, coerced, is_equal, is_less, are_alike, truth_of, joined, length_of, letter, text_of, next_line, is_none, with_list, length_value, list_item, set_list_item, pop_item, is_same_number, counted, with_number, with_dict, dict_item, set_dict_item, delete_entry, has_key}
 use Rattle.ir_builder_operations.specs.declared.operation.Operation.{Operation}
-use Rattle.ir_builder_operations.specs.declared.operation.Operation.TheVariants.{IntArithmetic, NativeArithmetic, IntNegation, NativeNegation, Comparison, Inversion, Concatenation, Length, Letter, IntText, NativeText, BoolText, BoolToInt, BoolToNative, NativeToInt, IntToNative, Boxing, Unboxing, Absence, EmptyList, ListLength, TupleLength, Item, ItemChange, LastItem, Line}
+use Rattle.ir_builder_operations.specs.declared.operation.Operation.TheVariants.{IntArithmetic, NativeArithmetic, IntNegation, NativeNegation, Comparison, Inversion, Concatenation, Length, Letter, IntText, NativeText, BoolText, BoolToInt, BoolToNative, NativeToInt, IntToNative, Boxing, Unboxing, Absence, EmptyList, ListLength, TupleLength, Item, ItemChange, LastItem, EmptyDict, DictLength, DictItem, Deletion, Membership, SizeCheck, KeyAt, Line}
 use Rattle.ir_builder_operations.specs.declared.operation.Unboxed.{Unboxed}
 use Rattle.ir_builder_operations.specs.declared.operation.Unboxed.TheVariants as unboxed
 use Rattle.ir_builder_operations.specs.declared.operation.Compared.{Compared}
 use Rattle.ir_builder_operations.specs.declared.operation.Compared.TheVariants.{Ints, Natives, Texts}
 use Rattle.ir_builder_operations.specs.declared.operation.Test.{Test}
 use Rattle.ir_builder_operations.specs.declared.operation.Test.TheVariants.{Equal, Less, AtMost}
-use Rattle.ir_builder_operations.specs.Boxes.{boxed, taken_as}
+use Rattle.ir_builder_operations.specs.Boxes.{boxed, taken_as, may_be_key}
 use Rattle.ir_builder_operations.specs.Selecting.{is_arithmetic, int_primitive, native_primitive, test_primitive}
 
 -- an operator of arithmetic, where there is one
@@ -70,6 +72,13 @@ operands_of TupleLength = boxed ∷ []
 operands_of Item = boxed ∷ Int ∷ []
 operands_of ItemChange = boxed ∷ Int ∷ boxed ∷ []
 operands_of LastItem = boxed ∷ []
+operands_of EmptyDict = []
+operands_of DictLength = boxed ∷ []
+operands_of DictItem = boxed ∷ boxed ∷ []
+operands_of Deletion = boxed ∷ boxed ∷ []
+operands_of Membership = boxed ∷ boxed ∷ []
+operands_of SizeCheck = boxed ∷ Int ∷ []
+operands_of KeyAt = boxed ∷ Int ∷ []
 operands_of Line = []
 
 abbrev pub result_of : Operation → Sort
@@ -93,6 +102,13 @@ result_of TupleLength = Int
 result_of Item = boxed
 result_of ItemChange = BoolSort
 result_of LastItem = boxed
+result_of EmptyDict = boxed
+result_of DictLength = Int
+result_of DictItem = boxed
+result_of Deletion = BoolSort
+result_of Membership = BoolSort
+result_of SizeCheck = BoolSort
+result_of KeyAt = boxed
 result_of _ = Str
 
 -- the primitive that makes an object of a value, and the one that takes it out again
@@ -132,6 +148,13 @@ primitive_of TupleLength = prim.Tuple tuple.Len
 primitive_of Item = prim.List list.GetItem
 primitive_of ItemChange = prim.List list.SetItem
 primitive_of LastItem = prim.List list.Pop
+primitive_of EmptyDict = prim.Dict dict.New
+primitive_of DictLength = prim.Dict dict.Len
+primitive_of DictItem = prim.Dict dict.GetItem
+primitive_of Deletion = prim.Dict dict.DelItem
+primitive_of Membership = prim.Dict dict.Contains
+primitive_of SizeCheck = prim.Dict dict.CheckSize
+primitive_of KeyAt = prim.Dict dict.KeyAt
 primitive_of Line = prim.Io io.Input
 
 -- ---- what the source does with no value, with one, with two, and with three
@@ -190,6 +213,41 @@ is_absent v = give (BoolVal (is_none v))
 abbrev pub item_changed : Value → Value → Value → Does Value
 item_changed l i v = set_list_item l i v >> give (BoolVal true)
 
+-- the number of the pairs of a dict
+abbrev pub dict_length : Value → Does Value
+dict_length d = with_dict d (λ k ps. give (length_value (length ps)))
+
+-- what is done with a dict and a key, where that is a value that keys may be, as it is in a well-typed module
+abbrev pub keyed : (Value → Value → Does Value) → Value → Value → Does Value
+keyed go d key = needs (may_be_key key) (go d key)
+
+-- the pair of a key, taken out
+abbrev pub entry_deleted : Value → Value → Does Value
+entry_deleted d key = delete_entry d key >> give (BoolVal true)
+
+-- a value under a key; it gives None, as no value is asked for
+abbrev pub entry_put : Value → Value → Value → Does Value
+entry_put d key v = needs (may_be_key key) (set_dict_item d key v >> give NoneVal)
+
+-- whether a dict has a key
+abbrev pub key_found : Value → Value → Does Value
+key_found d key = as_value (has_key d key)
+
+-- a dict has as many pairs as a number says, as a loop over its keys asks
+abbrev pub if_same_size : Bool → Does Value
+if_same_size b = if b then give (BoolVal true) else raise_new RuntimeError (codes "dictionary changed size during iteration")
+
+abbrev pub size_checked : Value → Value → Does Value
+size_checked d size = with_number size (λ n. with_dict d (λ k ps. if_same_size (is_same_number (pos (counted (length ps))) n)))
+
+-- the key of the pair at a place, from 0
+abbrev pub key_of_pair : ℤ → List (Value × Value) → Does Value
+key_of_pair (pos i) ps = sure (slice_get (map (λ p. p.0) ps) i)
+key_of_pair (negsuc i) ps = stop Stuck
+
+abbrev pub key_there : Value → Value → Does Value
+key_there d i = with_number i (λ n. with_dict d (λ k ps. key_of_pair n ps))
+
 abbrev pub goes : Operation → List Value → Does Value
 goes (IntArithmetic op) = of_two (arithmetic Int op)
 goes (NativeArithmetic op) = of_two (arithmetic I64 op)
@@ -216,4 +274,11 @@ goes TupleLength = of_one tuple_length
 goes Item = of_two list_item
 goes ItemChange = of_three item_changed
 goes LastItem = of_one pop_item
+goes EmptyDict = of_none (make (DictObj []))
+goes DictLength = of_one dict_length
+goes DictItem = of_two (keyed dict_item)
+goes Deletion = of_two (keyed entry_deleted)
+goes Membership = of_two (keyed key_found)
+goes SizeCheck = of_two size_checked
+goes KeyAt = of_two key_there
 goes Line = of_none (look (λ s. s.items) next_line)

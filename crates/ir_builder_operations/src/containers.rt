@@ -1,7 +1,7 @@
 //! Lists and tuples of what registers hold.
 ghost use Rattle.std.specs.Prelude.{◌≤◌, ◌<◌, ◌^◌, length, IfOk, OnOk};
 ghost use Rattle.value_core.specs.Value.{TupleVal, tupled, ListObj};
-ghost use Rattle.py_typed.specs.Sorts.{Nothing};
+ghost use Rattle.py_typed.specs.Sorts.{sort, Int, Nothing};
 ghost use Rattle.source_meaning.specs.State.{give, make};
 ghost use Rattle.source_meaning.specs.Operations.{append_item, tuple_part};
 ghost use Rattle.ir_builder_frames.specs.Building.{Extends};
@@ -9,14 +9,18 @@ ghost use Rattle.ir_builder_frames.specs.Calling.{Pushes};
 ghost use Rattle.ir_builder_frames.specs.Computing.{Shows, HaveTypes, Attempts};
 ghost use Rattle.ir_builder_frames.specs.Operands.{ActsOnAll};
 ghost use Rattle.ir_builder_frames.specs.Placing.{HasType};
+ghost use Rattle.ir_builder_frames.specs.Settings.{rtype_of};
 ghost use Rattle.ir_builder_frames.specs.Lines.{OwnLines};
 ghost use Rattle.ir_builder_operations.specs.Operating.{ActsOn, ActsOnTwo};
 ghost use Rattle.ir_builder_operations.specs.Boxes.{boxed, objects, appends};
+ghost use Rattle.ir_builder_operations.specs.Taking.{item_as};
 
+use crate::boxes::emit_unboxed;
 use crate::operation::{Operation, arguments, emit_operation};
 use c_core::{ListPrim, Prim, TuplePrim};
 use ir_builder_frames::Emitter;
 use ir_core::{Lit, Op, PArg, RType, Reg};
+use py_typed::Ty;
 use std::alloc::Global;
 use value_core::{Many, Memory};
 
@@ -71,6 +75,26 @@ pub fn emit_append(
 {
     push_item(b, alloc, list, item, line)?;
     b.literal(RType::Ref, Lit::PyNone, line)
+}
+
+/// The item of a list at an index, which counts from the end where it is negative, as a value of a type, which it is one of. At run time
+/// an index out of range raises IndexError.
+pub fn emit_item(
+    b: &mut Emitter,
+    alloc: Global,
+    own: &Ty,
+    list: Reg,
+    index: Reg,
+    line: usize,
+) -> Result<Reg, Memory>
+    requires list { HasType b.old list.0 RType.Ref }
+    requires index { HasType b.old index.0 RType.Int }
+    ensures kept { Extends b.old b.new }
+    ensures made { IfOk result (λ r. Attempts (Shows (sort own.now)) b.old b.new r.0 (rtype_of (sort own.now)) (ActsOnTwo boxed Int list.0 index.0 (item_as (sort own.now)))) }
+    ensures lined { OwnLines line b.old b.new }
+{
+    let item = emit_operation(b, alloc, Operation::Item, &[list, index], line)?;
+    emit_unboxed(b, alloc, own, item, line)
 }
 
 /// A tuple of 1 to 16 objects (Python Language Reference, "Expression lists"). Nothing is raised.

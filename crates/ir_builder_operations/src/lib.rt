@@ -1,4 +1,4 @@
-//! Operations on values in registers: on whole numbers of 128 bits and of 64, on texts, lists and tuples, and between types.
+//! Operations on values in registers: on whole numbers of 128 bits and of 64, on texts, lists, tuples and dicts, and between types.
 //!
 //! `emit_operation` adds the code of one operation, whose result goes into a register of its own. `specs/Rows.antt` is the table of
 //! the operations: what each takes and gives, its primitive, and what the source does with the values in the registers. Where the
@@ -10,6 +10,7 @@ mod boxes;
 mod coercions;
 mod containers;
 mod conversions;
+mod dicts;
 mod input;
 mod numbers;
 mod operation;
@@ -18,8 +19,9 @@ mod texts;
 
 pub use boxes::{emit_boxed, emit_unboxed};
 pub use coercions::emit_coercion;
-pub use containers::{emit_append, emit_list, emit_tuple, emit_tuple_part};
+pub use containers::{emit_append, emit_item, emit_list, emit_tuple, emit_tuple_part};
 pub use conversions::emit_conversion;
+pub use dicts::{emit_dict, emit_entry};
 pub use input::emit_input;
 pub use numbers::{emit_int, emit_native};
 pub use operation::{Compared, Operation, Test, Unboxed, emit_operation};

@@ -9,7 +9,8 @@ ghost use Rattle.ir_builder_operations.specs.Rows.{is_known, operands_of, result
 ghost use Rattle.ir_builder_operations.specs.Selecting.{int_primitive, native_primitive, test_primitive};
 
 use c_core::{
-    BoolPrim, Int64Prim, IoPrim, ListPrim, ObjectPrim, Prim, StrPrim, TaggedPrim, TuplePrim,
+    BoolPrim, DictPrim, Int64Prim, IoPrim, ListPrim, ObjectPrim, Prim, StrPrim, TaggedPrim,
+    TuplePrim,
 };
 use ir_builder_frames::Emitter;
 use ir_core::{PArg, RType, Reg};
@@ -94,6 +95,20 @@ pub enum Operation {
     ItemChange,
     /// The last item of a list, which is taken out. At run time IndexError is raised where there is none.
     LastItem,
+    /// A new dict without pairs.
+    EmptyDict,
+    /// The number of a dict's pairs.
+    DictLength,
+    /// The value under a key of a dict. At run time a key that is not there raises KeyError.
+    DictItem,
+    /// The pair of a key is taken out of a dict; the result is true. At run time a key that is not there raises KeyError.
+    Deletion,
+    /// Whether a dict has a key.
+    Membership,
+    /// A dict has as many pairs as a number says; the result is true. At run time any other number raises RuntimeError.
+    SizeCheck,
+    /// The key of a dict's pair at a place, from 0, in the order in which keys were put in. There has to be a pair at the place.
+    KeyAt,
     /// The next line of input, without its line feed. At run time the end of the input raises EOFError, and a line that is not
     /// UTF-8 ValueError. The run ends at a line that ends too far along, and where the input cannot be read.
     Line,
@@ -197,6 +212,13 @@ fn primitive(op: Operation) -> Prim
         Operation::Item => Prim::List(ListPrim::GetItem),
         Operation::ItemChange => Prim::List(ListPrim::SetItem),
         Operation::LastItem => Prim::List(ListPrim::Pop),
+        Operation::EmptyDict => Prim::Dict(DictPrim::New),
+        Operation::DictLength => Prim::Dict(DictPrim::Len),
+        Operation::DictItem => Prim::Dict(DictPrim::GetItem),
+        Operation::Deletion => Prim::Dict(DictPrim::DelItem),
+        Operation::Membership => Prim::Dict(DictPrim::Contains),
+        Operation::SizeCheck => Prim::Dict(DictPrim::CheckSize),
+        Operation::KeyAt => Prim::Dict(DictPrim::KeyAt),
         Operation::Line => Prim::Io(IoPrim::Input),
     }
 }
@@ -222,6 +244,7 @@ fn result_type(op: Operation) -> RType
         | Operation::Length
         | Operation::ListLength
         | Operation::TupleLength
+        | Operation::DictLength
         | Operation::BoolToInt
         | Operation::NativeToInt => RType::Int,
         Operation::NativeArithmetic(_)
@@ -231,7 +254,10 @@ fn result_type(op: Operation) -> RType
         Operation::Comparison(_, _)
         | Operation::Inversion
         | Operation::Absence
-        | Operation::ItemChange => RType::Bool,
+        | Operation::ItemChange
+        | Operation::Deletion
+        | Operation::Membership
+        | Operation::SizeCheck => RType::Bool,
         Operation::Unboxing(unboxed) => unboxed_register(unboxed),
         _ => RType::Ref,
     }
