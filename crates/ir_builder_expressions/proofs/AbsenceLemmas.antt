@@ -8,7 +8,7 @@ use Rattle.ir_core.specs.declared.code.RType.TheVariants as rtype
 use Rattle.ir_builder_operations.specs.Rows.{is_absent}
 use Rattle.ir_builder_operations.proofs.PartLemmas.{made_attempts}
 use Rattle.ir_builder_expressions.specs.declared.applying.Unary.TheVariants as unary
-use Rattle.ir_builder_expressions.specs.Applying.{absence_of, absence_by, absence_in}
+use Rattle.ir_builder_expressions.specs.Applying.{absence_of, absence_by, absence_in, is_present}
 use Rattle.ir_builder_expressions.specs.Suiting.{behind_sort}
 use Rattle.ir_builder_expressions.proofs.TakenLemmas.{object_acts}
 
@@ -21,19 +21,19 @@ no_none sort.I64 v other k = ap is_none k.1
 no_none sort.Bool v other k = ap is_none k.1
 no_none t v other k = absurd (other refl)
 
-pub absence_known : {line : ℕ} (t : Sort) (b c : Building) (r x : ℕ) → (rtype_of t ≡ rtype.Ref → ⊥) → Adds b c r rtype.Bool (Lit record { 0 = r } (literal_of_truth false)) line → Attempts (Shows sort.Bool) b c r rtype.Bool (ActsOn t x (unary_goes unary.Absent sort.Bool))
+pub absence_known : {line : ℕ} (t : Sort) (b c : Building) (r x : ℕ) → (rtype_of t ≡ rtype.Ref → ⊥) → Adds b c r rtype.Bool (Lit record { 0 = r } (literal_of_truth false)) line → Attempts (Shows sort.Bool) b c r rtype.Bool (ActsOn t x is_absent)
 absence_known t b c r x other a =
-    attempts_as (Shows sort.Bool) b c r rtype.Bool (Acts (give (BoolVal false))) (ActsOn t x (unary_goes unary.Absent sort.Bool)) (λ regs s res f. f.does ∙ ap (λ z. give (BoolVal z) s) (no_none t f.v other f.shows.1))
+    attempts_as (Shows sort.Bool) b c r rtype.Bool (Acts (give (BoolVal false))) (ActsOn t x is_absent) (λ regs s res f. f.does ∙ ap (λ z. give (BoolVal z) s) (no_none t f.v other f.shows.1))
     (made_attempts sort.Bool (BoolVal false) b c r rtype.Bool (false, refl) (literal_makes b c r rtype.Bool _ (Holds (BoolVal false)) a refl))
 
-pub absence_asked : (t : Sort) (b c : Building) (r : ℕ) (x : Reg) → Attempts (Shows sort.Bool) b c r rtype.Bool (ActsOnAll (boxed ∷ []) (x ∷ []) (of_one is_absent)) → Attempts (Shows sort.Bool) b c r rtype.Bool (ActsOn t x.0 (unary_goes unary.Absent sort.Bool))
+pub absence_asked : (t : Sort) (b c : Building) (r : ℕ) (x : Reg) → Attempts (Shows sort.Bool) b c r rtype.Bool (ActsOnAll (boxed ∷ []) (x ∷ []) (of_one is_absent)) → Attempts (Shows sort.Bool) b c r rtype.Bool (ActsOn t x.0 is_absent)
 absence_asked t b c r x a = object_acts t (Shows sort.Bool) b c r rtype.Bool x.0 is_absent (as_one boxed sort.Bool is_absent b c r x a)
 
-pub presence_attempts : (t : Sort) (b0 b1 b2 : Building) (x r : ℕ) (q : Reg) → Attempts (Shows sort.Bool) b0 b1 q.0 rtype.Bool (ActsOn t x (unary_goes unary.Absent sort.Bool)) → Attempts (Shows sort.Bool) b1 b2 r rtype.Bool (ActsOnAll (sort.Bool ∷ []) (q ∷ []) (of_one inverts)) → Attempts (Shows sort.Bool) b0 b2 r rtype.Bool (ActsOn t x (unary_goes unary.Present sort.Bool))
+pub presence_attempts : (t : Sort) (b0 b1 b2 : Building) (x r : ℕ) (q : Reg) → Attempts (Shows sort.Bool) b0 b1 q.0 rtype.Bool (ActsOn t x is_absent) → Attempts (Shows sort.Bool) b1 b2 r rtype.Bool (ActsOnAll (sort.Bool ∷ []) (q ∷ []) (of_one inverts)) → Attempts (Shows sort.Bool) b0 b2 r rtype.Bool (ActsOn t x is_present)
 presence_attempts t b0 b1 b2 x r q a c =
-    attempts_then (Shows sort.Bool) (Shows sort.Bool) b0 b1 b2 q.0 r rtype.Bool rtype.Bool (ActsOn t x (unary_goes unary.Absent sort.Bool)) (ActsOn sort.Bool q.0 inverts) (ActsOn t x (unary_goes unary.Present sort.Bool)) a (as_one sort.Bool sort.Bool inverts b1 b2 r q c)
+    attempts_then (Shows sort.Bool) (Shows sort.Bool) b0 b1 b2 q.0 r rtype.Bool rtype.Bool (ActsOn t x is_absent) (ActsOn sort.Bool q.0 inverts) (ActsOn t x is_present) a (as_one sort.Bool sort.Bool inverts b1 b2 r q c)
     (λ regs s res f. record {
-      mid = unary_goes unary.Absent sort.Bool f.v s;
+      mid = is_absent f.v s;
       go = inverts;
       does = f.does;
       start = record { v = f.v; shows = f.shows; does = refl };
@@ -48,25 +48,25 @@ by_flag false s = refl
 
 module _ (x : Setting) (k : ℕ) (w t : Sort) (v : Value) (s : State) where
   -- one comparison with None
-  none_means : (op : CmpOp) (place : Span) (q : Unary) → absence_of op ≡ Some q → means_chain x w v (comparison_then op (typed tree.Nothing sort.Nothing place) no_comparisons) k s ≡ unary_goes q t v s
+  none_means : (op : CmpOp) (place : Span) (q : Unary) → absence_of op ≡ Some q → means_chain x w v (comparison_then op (typed tree.Nothing sort.Nothing place) no_comparisons) k s ≡ unary_goes q t w v s
   none_means compare.Is place q is =
       let same : unary.Absent ≡ q = (let f : Some unary.Absent ≡ Some q = is in cc) in
-      by_flag (is_none v) s ∙ ap (λ (z : Unary). unary_goes z t v s) same
+      by_flag (is_none v) s ∙ ap (λ (z : Unary). unary_goes z t w v s) same
   none_means compare.IsNot place q is =
       let same : unary.Present ≡ q = (let f : Some unary.Present ≡ Some q = is in cc) in
-      by_flag (not (is_none v)) s ∙ ap (λ (z : Unary). unary_goes z t v s) same
+      by_flag (not (is_none v)) s ∙ ap (λ (z : Unary). unary_goes z t w v s) same
   none_means op place q is = let f : None ≡ Some q = is in absurd (cc)
 
-  absence_means : (more : Comparisons) (q : Unary) → absence_in more ≡ Some q → behind_sort more ≡ sort.Nothing → means_chain x w v more k s ≡ unary_goes q t v s
+  absence_means : (more : Comparisons) (q : Unary) → absence_in more ≡ Some q → behind_sort more ≡ sort.Nothing → means_chain x w v more k s ≡ unary_goes q t w v s
   absence_means no_comparisons q is h = let f : None ≡ Some q = is in absurd (cc)
   absence_means (comparison_then op e (comparison_then o f more)) q is h = let f : None ≡ Some q = is in absurd (cc)
   absence_means (comparison_then op (typed tree.Nothing u place) no_comparisons) q is h =
-      subst (λ z. means_chain x w v (comparison_then op (typed tree.Nothing z place) no_comparisons) k s ≡ unary_goes q t v s) (sym h) (none_means op place q is)
+      subst (λ z. means_chain x w v (comparison_then op (typed tree.Nothing z place) no_comparisons) k s ≡ unary_goes q t w v s) (sym h) (none_means op place q is)
   absence_means (comparison_then op e no_comparisons) q is h = let f : None ≡ Some q = is in absurd (cc)
 
 pub absence_emits : (x : Setting) (e : TypedExpr) (more : Comparisons) (q : Unary) (t : Sort) (b c : Building) (r : ℕ) → absence_in more ≡ Some q → behind_sort more ≡ sort.Nothing → EmitsOne x q t e b c r → EmitsNode x (tree.Compare e more) t b c r
 absence_emits x e more q t b c r is h m =
-    computes_of x (Shows t) (rtype_of t) (λ n s. on_to (means x e n s) (unary_goes q t)) (means_node x (tree.Compare e more) t) b c r
+    computes_of x (Shows t) (rtype_of t) (λ n s. on_to (means x e n s) (unary_goes q t (type_of e))) (means_node x (tree.Compare e more) t) b c r
     (λ n s. ap (on_to (means x e n s)) (λ i v s1. absence_means x n (type_of e) t v s1 more q is h i)) m
 
 -- ---- the comparisons of a program

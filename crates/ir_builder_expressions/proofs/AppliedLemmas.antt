@@ -1,9 +1,8 @@
 -- An expression that is an operation on parts: what it asks of them, what its code does, and what it weighs.
-use Rattle.ir_builder_expressions.proofs.Common.{◌≡◌, refl, sym, ◌∙◌, ap, subst, ℕ, ◌+◌, ◌≤◌, le_refl, arith, true, List, Option, Some, None, is_some, option_map, TExpr, Sort, TypedNode, typed, type_of, typed_expr, Neg, Not, Truth, Arith, Concat, Compare, Comparisons, TypedExpr, At, TupleAt, Len, ToStr, Append, Pop, Coerce, Shows, looked_at, TypedModule, Variable, typed_expr_of, type_at, Building, Setting, Unary, Negated, Inverted, Tested, Counted, Written, Coerced, Popped, Part, Binary, Arithmetic, Joined, Appended, sized_of, index_of, UnarySuits, BinarySuits, Applied, one, two, absence_in, applied_in, node_in, Suits, NodeSuits, Emits, EmitsOne, EmitsTwo, EmitsNode}
+use Rattle.ir_builder_expressions.proofs.Common.{◌≡◌, refl, sym, ◌∙◌, ap, subst, ℕ, ◌+◌, ◌≤◌, le_refl, arith, true, List, Option, Some, None, is_some, option_map, TExpr, Sort, TypedNode, typed, type_of, typed_expr, Neg, Not, Truth, Arith, Concat, Compare, Comparisons, TypedExpr, At, TupleAt, Len, ToStr, Append, Pop, Coerce, Shows, looked_at, TypedModule, Variable, typed_expr_of, type_at, Building, Setting, Unary, Negated, Inverted, Tested, Counted, Written, Coerced, Popped, Part, Binary, Arithmetic, Joined, Appended, index_of, UnarySuits, BinarySuits, Applied, one, two, absence_in, applied_in, node_in, Suits, NodeSuits, Emits, EmitsOne, EmitsTwo, EmitsNode}
 use Rattle.py_typed.specs.Sorts.{sort as sort_of}
 use Rattle.ir_builder_expressions.proofs.ArmLemmas.{Is, asked, emits_as}
 use Rattle.ir_builder_expressions.proofs.AbsenceLemmas.{absence_emits, asked_by}
-use Rattle.ir_builder_expressions.specs.Applying.{testable_of}
 use Rattle.ir_builder_expressions.proofs.TestedLemmas.{tested_emits}
 use Rattle.ir_builder_expressions.proofs.LookedLemmas.{one_taken, at_emits, sized_emits}
 use Rattle.py_syntax.specs.declared.token.Span.{Span}
@@ -47,8 +46,8 @@ absence_fits x e more t a (Some op) at is h =
 fits : (x : Setting) (n : TypedNode) (t : Sort) (a : Applied) → applied_in n ≡ Some a → NodeSuits x.source x.variables n t → Fits x n t a
 fits x (Neg e) t a is h = by_some (Fits x (Neg e) t) (one Negated e) a is record { suits = h; emits = looked x (Neg e) t; weighs = le_refl _ }
 fits x (Not e) t a is h = by_some (Fits x (Not e) t) (one Inverted e) a is record { suits = h; emits = looked x (Not e) t; weighs = le_refl _ }
-fits x (Truth e) t a is h = by_some (Fits x (Truth e) t) (one (Tested (testable_of (type_of e))) e) a is record { suits = h; emits = λ b c r place q. looked x (Truth e) t b c r place (tested_emits x e t b c r q); weighs = le_refl _ }
-fits x (Len e) t a is h = by_some (Fits x (Len e) t) (one (Counted (sized_of (type_of e))) e) a is record { suits = h; emits = λ b c r place q. looked x (Len e) t b c r place (sized_emits x e t b c r q); weighs = le_refl _ }
+fits x (Truth e) t a is h = by_some (Fits x (Truth e) t) (one Tested e) a is record { suits = h; emits = λ b c r place q. looked x (Truth e) t b c r place (tested_emits x e t b c r q); weighs = le_refl _ }
+fits x (Len e) t a is h = by_some (Fits x (Len e) t) (one Counted e) a is record { suits = h; emits = λ b c r place q. looked x (Len e) t b c r place (sized_emits x e t b c r q); weighs = le_refl _ }
 fits x (ToStr e) t a is h = by_some (Fits x (ToStr e) t) (one Written e) a is record { suits = h; emits = looked x (ToStr e) t; weighs = le_refl _ }
 fits x (Coerce e) t a is h = by_some (Fits x (Coerce e) t) (one Coerced e) a is record { suits = h; emits = looked x (Coerce e) t; weighs = le_refl _ }
 fits x (Pop e) t a is h = by_some (Fits x (Pop e) t) (one Popped e) a is record { suits = h; emits = λ b c r place q. one_taken x Popped pop_item (Pop e) t e place b c r (λ k s. refl) (λ v. refl) q; weighs = le_refl _ }

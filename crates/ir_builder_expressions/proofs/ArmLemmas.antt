@@ -1,5 +1,5 @@
 -- What is asked of an expression is asked of its parts, and what its parts promise it promises.
-use Rattle.ir_builder_expressions.proofs.Common.{◌≡◌, sym, ◌∙◌, ap, subst, ℕ, Bool, List, map, Some, None, ℤ, Box, Global, CmpOp, TExpr, TKind, Sort, TypedExpr, TypedNode, typed, typed_expr, typed_node, exprs_of, comparisons_of, typed_comparison, TypedModule, Variable, typed_expr_of, typed_node-Bool, typed_node-Local, typed_node-Global, typed_expr-Compare, typed_node-And, typed_node-Or, typed_node-Cond, typed_node-Call, typed_node-Int, typed_node-Str, typed_node-Input, typed_node-Nothing, typed_node-List, typed_node-Tuple, Building, Setting, Suits, NodeSuits, is_scalar, ChoiceSuits, Emits, looked_at, Shows, EmitsNode}
+use Rattle.ir_builder_expressions.proofs.Common.{◌≡◌, sym, ◌∙◌, ap, subst, ℕ, Bool, List, map, Some, None, ℤ, Box, Global, CmpOp, TExpr, TKind, Sort, TypedExpr, TypedNode, typed, typed_expr, typed_node, exprs_of, comparisons_of, typed_comparison, TypedModule, Variable, typed_expr_of, typed_node-Bool, typed_node-Local, typed_node-Global, typed_expr-Compare, typed_node-And, typed_node-Or, typed_node-Cond, typed_node-Call, typed_node-Int, typed_node-Str, typed_node-Input, typed_node-Nothing, typed_node-List, typed_node-Tuple, Building, Setting, Suits, NodeSuits, is_testable, ChoiceSuits, Emits, looked_at, Shows, EmitsNode}
 use Rattle.py_typed.specs.declared.expression.TKind as kind
 use Rattle.py_typed.specs.Sorts.{sort as sort_of}
 use Rattle.py_typed.specs.Expressions as tree
@@ -66,17 +66,17 @@ module _ (m : TypedModule) (vs : List Variable) where
   pub and_asked : (e : TExpr) (a b : TypedExpr) → Is e (tree.And a b) → Suits m vs (typed_expr e) → ChoiceSuits m vs (sort_of e.ty) a (Some b) None
   and_asked e a b is s =
       let h = asked e (tree.And a b) is s in
-      record { tested = ap is_scalar h.1 ∙ h.0; test_suits = h.3; body_type = h.2; other_type = h.1; body_suits = h.4; other_suits = tt }
+      record { tested = ap is_testable h.1 ∙ h.0; test_suits = h.3; body_type = h.2; other_type = h.1; body_suits = h.4; other_suits = tt }
 
   pub or_asked : (e : TExpr) (a b : TypedExpr) → Is e (tree.Or a b) → Suits m vs (typed_expr e) → ChoiceSuits m vs (sort_of e.ty) a None (Some b)
   or_asked e a b is s =
       let h = asked e (tree.Or a b) is s in
-      record { tested = ap is_scalar h.1 ∙ h.0; test_suits = h.3; body_type = h.1; other_type = h.2; body_suits = tt; other_suits = h.4 }
+      record { tested = ap is_testable h.1 ∙ h.0; test_suits = h.3; body_type = h.1; other_type = h.2; body_suits = tt; other_suits = h.4 }
 
   pub cond_asked : (e : TExpr) (a test b : TypedExpr) → Is e (tree.Cond a test b) → Suits m vs (typed_expr e) → ChoiceSuits m vs (sort_of e.ty) test (Some a) (Some b)
   cond_asked e a test b is s =
       let h = asked e (tree.Cond a test b) is s in
-      record { tested = ap is_scalar h.1; test_suits = h.4; body_type = h.0; other_type = h.2; body_suits = h.3; other_suits = h.5 }
+      record { tested = ap is_testable h.1; test_suits = h.4; body_type = h.0; other_type = h.2; body_suits = h.3; other_suits = h.5 }
 
 -- what it promises
 pub emits_as : (x : Setting) (e : TExpr) (n : TypedNode) (t : Sort) (b c : Building) (r : ℕ) → Is e n → sort_of e.ty ≡ t → Emits x (typed n t e.span) b c r → Emits x (typed_expr e) b c r

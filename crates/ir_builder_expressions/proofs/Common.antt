@@ -3,10 +3,11 @@ pub use Rattle.ir_builder_choices.proofs.ChoiceLemmas.{Beside, Told, any_from, c
 pub use Rattle.ir_builder_choices.specs.Choices.{Brings, Meets, Opens}
 pub use Rattle.ir_builder_choices.specs.Choosing.{Behind, ComputesFrom, HasValue, by_truth}
 pub use Rattle.ir_builder_comparisons.specs.Comparing.{Compares, FindsTruth, is_ordering, ordered}
-pub use Rattle.ir_builder_expressions.specs.Applying.{Applied, BinarySuits, IsSized, UnarySuits, absence_in, applied_in, arithmetic_of, binary_goes, index_of, negation_of, node_in, one, one_sort, seen, size_of, sized_of, two, two_sort, unary_goes, wanted_one, wanted_two}
+pub use Rattle.ir_builder_expressions.specs.Applying.{Applied, BinarySuits, UnarySuits, absence_in, applied_in, arithmetic_of, binary_goes, index_of, negation_of, node_in, one, one_sort, seen, two, two_sort, unary_goes, wanted_one, wanted_two}
 pub use Rattle.ir_builder_expressions.specs.Arms.{ArmSuits, ChoiceSuits, EmitsArm, EmitsChoice, arm_of, arm_sort, means_arm}
 pub use Rattle.ir_builder_expressions.specs.Comparing.{compared_in, holds_as, is_brought, is_shown_as, kind_sort}
-pub use Rattle.ir_builder_expressions.specs.Emitting.{Emits, EmitsAll, EmitsChain, EmitsOne, EmitsPart, EmitsSide, EmitsTwo, means_all, means_chain, EmitsNode}
+pub use Rattle.ir_builder_expressions.specs.Emitting.{Emits, EmitsAll, EmitsChain, EmitsObject, EmitsOne, EmitsPart, EmitsSide, EmitsTwo, means_all, means_chain, EmitsNode}
+pub use Rattle.ir_builder_expressions.specs.Truths.{is_testable}
 pub use Rattle.ir_builder_expressions.specs.Linking.{Begins, Ended, Linked, Met, Pending}
 pub use Rattle.ir_builder_expressions.specs.Literals.{literal_of_truth}
 pub use Rattle.ir_builder_expressions.specs.Parts.{fitting_in, is_i64, is_pair, is_scalar, is_text, literal_in, native_in, part_sort, sort_by}

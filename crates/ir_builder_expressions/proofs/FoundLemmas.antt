@@ -1,9 +1,6 @@
 -- The operation that the program finds is the one that the expression's node is.
-use Rattle.ir_builder_expressions.proofs.Common.{◌≡◌, refl, sym, ◌∙◌, ap, true, false, Option, Some, None, is_some, option_map, TExpr, TypedExpr, TypedNode, typed_expr, type_of, Comparisons, Compare, Len, At, type_at, Unary, Truth, Tested, Counted, Binary, one, two, absence_in, applied_in, node_in, sized_of, index_of}
+use Rattle.ir_builder_expressions.proofs.Common.{◌≡◌, refl, sym, ◌∙◌, ap, true, false, Option, Some, None, is_some, option_map, TExpr, TypedExpr, TypedNode, typed_expr, type_of, Comparisons, Compare, At, type_at, Unary, Binary, one, two, absence_in, applied_in, node_in, index_of}
 use Rattle.py_typed.specs.Sorts.{sort as sort_of}
-use Rattle.ir_builder_expressions.specs.declared.applying.Testable.{Testable}
-use Rattle.ir_builder_expressions.specs.Applying.{testable_of}
-use Rattle.ir_builder_expressions.specs.declared.applying.Sized.{Sized}
 use Rattle.ir_builder_expressions.proofs.ArmLemmas.{Is}
 
 pub one_found : (e : TExpr) (op : Unary) (n : TypedNode) (a p : TExpr) → Is e n → applied_in n ≡ Some (one op (typed_expr a)) → p ≡ a → Some (one op (typed_expr p)) ≡ applied_in (node_in (typed_expr e))
@@ -14,16 +11,6 @@ two_found e op n a b p q is at same same' =
     ap (λ z. Some (two op (typed_expr z) (typed_expr q))) same ∙ ap (λ z. Some (two op (typed_expr a) (typed_expr z))) same' ∙ sym at ∙ ap applied_in (sym (ap node_in is))
 
 -- where the operation is by the type of the part
-pub sized_found : (e : TExpr) (size : Sized) (a p q : TExpr) → Is e (Len (typed_expr a)) → size ≡ sized_of (sort_of p.ty) → p ≡ a → q ≡ a → Some (one (Counted size) (typed_expr q)) ≡ applied_in (node_in (typed_expr e))
-sized_found e size a p q is by same same' =
-    let size_is : size ≡ sized_of (type_of (typed_expr a)) = by ∙ ap sized_of (sym (type_at p) ∙ ap (λ (z : TExpr). type_of (typed_expr z)) same) in
-    ap (λ z. Some (one (Counted z) (typed_expr q))) size_is ∙ one_found e (Counted (sized_of (type_of (typed_expr a)))) (Len (typed_expr a)) a q is refl same'
-
-pub tested_found : (e : TExpr) (z : Testable) (a p q : TExpr) → Is e (Truth (typed_expr a)) → z ≡ testable_of (sort_of p.ty) → p ≡ a → q ≡ a → Some (one (Tested z) (typed_expr q)) ≡ applied_in (node_in (typed_expr e))
-tested_found e z a p q is by same same' =
-    let z_is : z ≡ testable_of (type_of (typed_expr a)) = by ∙ ap testable_of (sym (type_at p) ∙ ap (λ (z : TExpr). type_of (typed_expr z)) same) in
-    ap (λ z. Some (one (Tested z) (typed_expr q))) z_is ∙ one_found e (Tested (testable_of (type_of (typed_expr a)))) (Truth (typed_expr a)) a q is refl same'
-
 pub index_found : (e : TExpr) (op : Binary) (a b p q r : TExpr) → Is e (At (typed_expr a) (typed_expr b)) → op ≡ index_of (sort_of p.ty) → p ≡ a → q ≡ a → r ≡ b → Some (two op (typed_expr q) (typed_expr r)) ≡ applied_in (node_in (typed_expr e))
 index_found e op a b p q r is by same same' other =
     let op_is : op ≡ index_of (type_of (typed_expr a)) = by ∙ ap index_of (sym (type_at p) ∙ ap (λ (z : TExpr). type_of (typed_expr z)) same) in

@@ -9,6 +9,7 @@ pub mod SideLemmas
 pub mod TakenLemmas
 pub mod AbsenceLemmas
 pub mod ApplyLemmas
+pub mod ForkLemmas
 pub mod TestedLemmas
 pub mod LinkLemmas
 pub mod ChosenLemmas

@@ -133,6 +133,12 @@ argument_lined x l es i e start b c r lt is g code one =
     let P : List TExpr → Type 0 = λ z. LinedRest x l (listed_of es) (listed_of z) start b in
     rest_next x l (listed_of es) (listed_of (drop (i + 1) es)) (typed_expr e) start b b c (subst P d g) (around_none l b) (type_of (typed_expr e), r, code) one
 
+pub object_lined : (x : Setting) (l : ℕ) (es : List TExpr) (i : ℕ) (e : TExpr) (start b c : Building) → i < length es → e ≡ get_or es i e → LinedRest x l (listed_of es) (listed_of (drop i es)) start b → LinedParts x l (typed_expr e ∷ []) b c → LinedRest x l (listed_of es) (listed_of (drop (i + 1) es)) start c
+object_lined x l es i e start b c lt is g one =
+    let d : drop i es ≡ e ∷ drop (i + 1) es = drop_more es i e lt ∙ ap (λ z. z ∷ drop (i + 1) es) (sym is) in
+    let P : List TExpr → Type 0 = λ z. LinedRest x l (listed_of es) (listed_of z) start b in
+    record { make = λ f h. (subst P d g).make f (lined_join one h) }
+
 pub arguments_lined : (x : Setting) (l : ℕ) (es : List TExpr) (i : ℕ) (start b : Building) → length es ≤ i → LinedRest x l (listed_of es) (listed_of (drop i es)) start b → LinedParts x l (listed_of es) start b
 arguments_lined x l es i start b le g =
     let P : List TExpr → Type 0 = λ z. LinedRest x l (listed_of es) (listed_of z) start b in

@@ -1,5 +1,5 @@
 -- What is taken as a value of a type and then looked at is what is looked at alone.
-use Rattle.ir_builder_expressions.proofs.Common.{◌≡◌, refl, sym, ◌∙◌, ap, ℕ, Bool, true, false, List, length, Option, Some, None, Value, IntVal, BoolVal, StrVal, Sort, TypedExpr, TypedNode, typed, type_of, State, Outcome, Gives, Raises, Stops, Does, on_to, give, needs, TypedModule, Building, Setting, rtype_of, means, means_node, Shows, Computes, watch, watched, computes_of, looked_at, Emits, EmitsNode, EmitsOne, EmitsTwo, is_of, taken_as, size_of, sized_of, length_of}
+use Rattle.ir_builder_expressions.proofs.Common.{◌≡◌, refl, sym, ◌∙◌, ap, ℕ, Bool, true, false, List, length, Option, Some, None, Value, IntVal, BoolVal, StrVal, Sort, TypedExpr, TypedNode, typed, type_of, State, Outcome, Gives, Raises, Stops, Does, on_to, give, needs, TypedModule, Building, Setting, rtype_of, means, means_node, Shows, Computes, watch, watched, computes_of, looked_at, Emits, EmitsNode, EmitsOne, EmitsTwo, is_of, taken_as, length_of}
 use Rattle.value_core.specs.Value.{NoneVal, TupleVal, ObjVal, Object, ListObj, DictObj, InstObj, Store}
 use Rattle.py_syntax.specs.declared.token.Span.{Span}
 use Rattle.py_typed.specs.Sorts as sort
@@ -13,12 +13,12 @@ use Rattle.ir_builder_operations.specs.Rows.{list_length, tuple_length}
 use Rattle.ir_builder_expressions.specs.declared.applying.Unary.{Unary}
 use Rattle.ir_builder_expressions.specs.declared.applying.Unary.TheVariants as unary
 use Rattle.ir_builder_expressions.specs.declared.applying.Binary.TheVariants as binary
-use Rattle.ir_builder_expressions.specs.Applying.{unary_goes, binary_goes, BinarySuits, index_of}
+use Rattle.ir_builder_expressions.specs.Applying.{size_by, unary_goes, binary_goes, BinarySuits, index_of}
 use Rattle.std.specs.Prelude.{slice_get}
 
 -- ---- a value that is taken
 
-shape_is_of : (classes : List ClassEntry) (store : Store) (t : Sort) (v : Value) → has_shape classes store t v ≡ true → is_of t v ≡ true
+pub shape_is_of : (classes : List ClassEntry) (store : Store) (t : Sort) (v : Value) → has_shape classes store t v ≡ true → is_of t v ≡ true
 shape_is_of classes store sort.Int (IntVal n) h = refl
 shape_is_of classes store sort.Int v h = absurd (cc)
 shape_is_of classes store sort.I64 (IntVal n) h = h
@@ -66,11 +66,11 @@ taken_emits x n t place b c r q =
     (watched x (Shows t) (Shows t) (rtype_of t) t (λ k s. on_to (means_node x n t k s) (taken_as t)) b c r (λ v h kind k. k) q)
 
 -- the same where a part comes before
-pub one_taken : (x : Setting) (op : Unary) (f : Value → Does Value) (n : TypedNode) (t : Sort) (e : TypedExpr) (place : Span) (b c : Building) (r : ℕ) → ((k : ℕ) (s : State) → means_node x n t k s ≡ on_to (means x e k s) f) → ((v : Value) → unary_goes op t v ≡ (λ s. on_to (f v s) (taken_as t))) → EmitsOne x op t e b c r → Emits x (typed n t place) b c r
+pub one_taken : (x : Setting) (op : Unary) (f : Value → Does Value) (n : TypedNode) (t : Sort) (e : TypedExpr) (place : Span) (b c : Building) (r : ℕ) → ((k : ℕ) (s : State) → means_node x n t k s ≡ on_to (means x e k s) f) → ((v : Value) → unary_goes op t (type_of e) v ≡ (λ s. on_to (f v s) (taken_as t))) → EmitsOne x op t e b c r → Emits x (typed n t place) b c r
 one_taken x op f n t e place b c r is goes q =
-    computes_of x (Shows t) (rtype_of t) (λ k s. on_to (on_to (means x e k s) (unary_goes op t)) (watch x.source t)) (means x (typed n t place)) b c r
+    computes_of x (Shows t) (rtype_of t) (λ k s. on_to (on_to (means x e k s) (unary_goes op t (type_of e))) (watch x.source t)) (means x (typed n t place)) b c r
     (λ k s. ap (λ z. on_to z (watch x.source t)) (is k s) ∙ behind_one x.source t (means x e k s) f ∙ ap (λ (g : Value → Does Value). on_to (on_to (means x e k s) g) (watch x.source t)) (sym (λ i v. goes v i)))
-    (watched x (Shows t) (Shows t) (rtype_of t) t (λ k s. on_to (means x e k s) (unary_goes op t)) b c r (λ v h kind k. k) q)
+    (watched x (Shows t) (Shows t) (rtype_of t) t (λ k s. on_to (means x e k s) (unary_goes op t (type_of e))) b c r (λ v h kind k. k) q)
 
 -- an item of a list, or a letter of a text, by the type of what is indexed
 pub at_emits : (x : Setting) (e f : TypedExpr) (t u : Sort) (place : Span) (b c : Building) (r : ℕ) → type_of e ≡ u → BinarySuits (index_of u) t u (type_of f) → EmitsTwo x (index_of u) t e f b c r → Emits x (typed (tree.At e f) t place) b c r
@@ -100,11 +100,11 @@ tuple_sized : (m : TypedModule) (ts : sort.Sorts) (v : Value) (s : State) → ha
 tuple_sized m ts (TupleVal vs) s h = refl
 tuple_sized m ts v s h = absurd (cc)
 
-sized_means : (x : Setting) (e : TypedExpr) (k : ℕ) (s : State) → on_to (means x e k s) length_of ≡ on_to (means x e k s) (size_of (sized_of (type_of e)))
+sized_means : (x : Setting) (e : TypedExpr) (k : ℕ) (s : State) → on_to (means x e k s) length_of ≡ on_to (means x e k s) (size_by (type_of e))
 sized_means x (typed n (sort.ListOf t) place) k s = watched_as x.source (sort.ListOf t) (means_node x n (sort.ListOf t) k s) length_of list_length (list_sized x.source t)
 sized_means x (typed n (sort.TupleOf ts) place) k s = watched_as x.source (sort.TupleOf ts) (means_node x n (sort.TupleOf ts) k s) length_of tuple_length (tuple_sized x.source ts)
 sized_means x (typed n t place) k s = refl
 
-pub sized_emits : (x : Setting) (e : TypedExpr) (t : Sort) (b c : Building) (r : ℕ) → EmitsOne x (unary.Counted (sized_of (type_of e))) t e b c r → EmitsNode x (tree.Len e) t b c r
+pub sized_emits : (x : Setting) (e : TypedExpr) (t : Sort) (b c : Building) (r : ℕ) → EmitsOne x unary.Counted t e b c r → EmitsNode x (tree.Len e) t b c r
 sized_emits x e t b c r q =
-    computes_of x (Shows t) (rtype_of t) (λ n s. on_to (means x e n s) (size_of (sized_of (type_of e)))) (means_node x (tree.Len e) t) b c r (sized_means x e) q
+    computes_of x (Shows t) (rtype_of t) (λ n s. on_to (means x e n s) (size_by (type_of e))) (means_node x (tree.Len e) t) b c r (sized_means x e) q

@@ -57,9 +57,9 @@ wanted_part x w u e b c r is q = subst (λ z. EmitsPart x z e b c r) is q
 
 -- ---- an operation on parts
 
-pub one_emits : (x : Setting) (op : Unary) (u t : Sort) (e : TypedExpr) (b0 b1 b2 : Building) (q r : ℕ) → HasRoom x b0 → EmitsPart x u e b0 b1 q → Attempts (Shows t) b1 b2 r (rtype_of t) (ActsOn (part_sort u e) q (unary_goes op t)) → EmitsOne x op t e b0 b2 r
+pub one_emits : (x : Setting) (op : Unary) (u t : Sort) (e : TypedExpr) (b0 b1 b2 : Building) (q r : ℕ) → HasRoom x b0 → EmitsPart x u e b0 b1 q → Attempts (Shows t) b1 b2 r (rtype_of t) (ActsOn (part_sort u e) q (unary_goes op t (type_of e))) → EmitsOne x op t e b0 b2 r
 one_emits x op u t e b0 b1 b2 q r room c made =
-    part_attempts x (Shows (part_sort u e)) (Shows t) (rtype_of (part_sort u e)) (rtype_of t) (means x e) (unary_goes op t) (ActsOn (part_sort u e) q (unary_goes op t)) b0 b1 b2 q r room c made
+    part_attempts x (Shows (part_sort u e)) (Shows t) (rtype_of (part_sort u e)) (rtype_of t) (means x e) (unary_goes op t (type_of e)) (ActsOn (part_sort u e) q (unary_goes op t (type_of e))) b0 b1 b2 q r room c made
     (λ v s regs k. record { v = v; shows = k; does = refl })
 
 pub two_emit : (x : Setting) (op : Binary) (u t : Sort) (a b : TypedExpr) (b0 b1 b2 b3 : Building) (q q' r : ℕ) → HasRoom x b0 → EmitsPart x u a b0 b1 q → EmitsPart x u b b1 b2 q' → Attempts (Shows t) b2 b3 r (rtype_of t) (ActsOnTwo (part_sort u a) (part_sort u b) q q' (binary_goes op t)) → EmitsTwo x op t a b b0 b3 r

@@ -1,8 +1,9 @@
 -- What is taken out of a list or a tuple is a value of a type; and a value that is put into a list is an object there.
-use Rattle.ir_builder_expressions.proofs.Common.{refl, sym, subst, ℕ, Value, Sort, Does, give, ◌>>=◌, RType, Building, HasType, Shows, Showing, Attempts, ActsOnAll, ActsOn, ActsOnTwo, [], ◌∷◌, Reg, of_one, of_two, as_one, as_two, attempts_as, attempts_then, type_below, boxed, taken_as, rtype_of}
+use Rattle.ir_builder_expressions.proofs.Common.{refl, sym, subst, ℕ, Value, Sort, Does, give, ◌>>=◌, RType, Building, HasType, Shows, Showing, Attempts, ActsOnAll, ActsOn, ActsOnTwo, [], ◌∷◌, Reg, of_one, as_one, attempts_as, attempts_then, type_below, boxed, taken_as, rtype_of}
 use Rattle.py_typed.specs.Sorts as sort
 use Rattle.ir_core.specs.declared.code.RType.TheVariants.{Ref}
-use Rattle.source_meaning.specs.Operations.{pop_item, list_item, append_item}
+use Rattle.source_meaning.specs.Operations.{pop_item, append_item}
+pub use Rattle.ir_builder_operations.proofs.ContainerLemmas.{item_attempts}
 
 -- ---- what is done with any object is done with a value of a type, of which more is known
 
@@ -28,17 +29,6 @@ one_taken t b0 b1 b2 x q r go a c =
 
 pub popped_attempts : (t : Sort) (b0 b1 b2 : Building) (x q : Reg) (r : ℕ) → Attempts (Shows boxed) b0 b1 q.0 Ref (ActsOnAll (boxed ∷ []) (x ∷ []) (of_one pop_item)) → Attempts (Shows t) b1 b2 r (rtype_of t) (ActsOn boxed q.0 (taken_as t)) → Attempts (Shows t) b0 b2 r (rtype_of t) (ActsOn boxed x.0 (λ v. pop_item v >>= taken_as t))
 popped_attempts t b0 b1 b2 x q r a c = one_taken t b0 b1 b2 x.0 q.0 r pop_item (as_one boxed boxed pop_item b0 b1 q.0 x a) c
-
-pub item_attempts : (t : Sort) (b0 b1 b2 : Building) (x y q : Reg) (r : ℕ) → Attempts (Shows boxed) b0 b1 q.0 Ref (ActsOnAll (boxed ∷ sort.Int ∷ []) (x ∷ y ∷ []) (of_two list_item)) → Attempts (Shows t) b1 b2 r (rtype_of t) (ActsOn boxed q.0 (taken_as t)) → Attempts (Shows t) b0 b2 r (rtype_of t) (ActsOnTwo boxed sort.Int x.0 y.0 (λ v w. list_item v w >>= taken_as t))
-item_attempts t b0 b1 b2 x y q r a c =
-    attempts_then (Shows boxed) (Shows t) b0 b1 b2 q.0 r Ref (rtype_of t) (ActsOnTwo boxed sort.Int x.0 y.0 list_item) (ActsOn boxed q.0 (taken_as t)) (ActsOnTwo boxed sort.Int x.0 y.0 (λ v w. list_item v w >>= taken_as t)) (as_two boxed sort.Int boxed list_item b0 b1 q.0 x y a) c
-    (λ regs s res f. record {
-      mid = list_item f.v f.w s;
-      go = taken_as t;
-      does = f.does;
-      start = record { v = f.v; left = f.left; w = f.w; right = f.right; does = refl };
-      on = λ now v s1 shows kept. record { v = v; shows = shows; does = refl };
-    })
 
 -- ---- put behind the items of a list
 

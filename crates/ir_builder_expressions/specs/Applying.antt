@@ -1,5 +1,5 @@
 -- What operations on one or two parts do with their values, and what is asked of the types.
-use Rattle.std.specs.Prelude.{◌≡◌, ◌<◌, true, not, Option, Some, None}
+use Rattle.std.specs.Prelude.{◌≡◌, ◌<◌, Bool, true, false, not, Option, Some, None}
 use Rattle.std.specs.Option.{option_map}
 use Rattle.value_core.specs.Value.{Value, BoolVal, StrVal}
 use Rattle.py_syntax.specs.declared.expression.BinOp.{BinOp}
@@ -9,76 +9,66 @@ use Rattle.py_typed.specs.Fits.{is_number}
 use Rattle.py_typed.specs.Sorts as sort
 use Rattle.py_typed.specs.Sorts.{Sort, Sorts}
 use Rattle.py_typed.specs.Expressions.{TypedExpr, typed, typed_expr, TypedNode, Nothing, Neg, Not, Truth, Arith, Concat, Compare, At, TupleAt, Len, ToStr, Append, Pop, Coerce, Comparisons, no_comparisons, comparison_then, type_of}
-use Rattle.source_meaning.specs.State.{Does, ◌>>=◌, give, needs}
-use Rattle.source_meaning.specs.Operations.{coerced, arithmetic, negated, joined, letter, has_text, text_of, truth_of, length_of, list_item, append_item, pop_item, tuple_part, is_none, is_filled, with_list}
+use Rattle.source_meaning.specs.State.{Does, give, needs}
+use Rattle.source_meaning.specs.Operations.{coerced, arithmetic, negated, joined, letter, has_text, text_of, length_of, append_item, is_none}
 use Rattle.ir_builder_operations.specs.declared.operation.Operation.{Operation}
 use Rattle.ir_builder_operations.specs.declared.operation.Operation.TheVariants.{IntArithmetic, NativeArithmetic, IntNegation, NativeNegation, Length, ListLength, TupleLength}
-use Rattle.ir_builder_operations.specs.Boxes.{taken_as}
+use Rattle.ir_builder_operations.specs.Taking.{item_as, popped_as, part_as}
 use Rattle.ir_builder_operations.specs.Converting.{Converts}
-use Rattle.ir_builder_operations.specs.Rows.{list_length, tuple_length}
+use Rattle.ir_builder_operations.specs.Rows.{inverts, is_absent, list_length, tuple_length}
 use Rattle.ir_builder_operations.specs.Selecting.{is_arithmetic, is_whole}
 use Rattle.ir_builder_expressions.specs.declared.applying.Unary.{Unary}
 use Rattle.ir_builder_expressions.specs.declared.applying.Unary.TheVariants.{Negated, Inverted, Tested, Counted, Written, Coerced, Popped, Part, Absent, Present}
-use Rattle.ir_builder_expressions.specs.declared.applying.Testable.{Testable}
-use Rattle.ir_builder_expressions.specs.declared.applying.Testable.TheVariants as testable
-use Rattle.ir_builder_expressions.specs.declared.applying.Sized.{Sized}
-use Rattle.ir_builder_expressions.specs.declared.applying.Sized.TheVariants as sized
 use Rattle.ir_builder_expressions.specs.declared.applying.Binary.{Binary}
 use Rattle.ir_builder_expressions.specs.declared.applying.Binary.TheVariants.{Arithmetic, Joined, Indexed, Item, Appended}
 use Rattle.ir_builder_expressions.specs.declared.applying.Applied as program
 use Rattle.ir_builder_expressions.specs.declared.applying.Applied.TheVariants.{One, Two}
 use Rattle.ir_builder_expressions.specs.Parts.{is_scalar, part_sort}
+use Rattle.ir_builder_expressions.specs.Truths.{is_testable, tested_as}
 
 -- the number of the letters of a text, of the items of a list, or of the parts of a tuple
-abbrev pub size_of : Sized → Value → Does Value
-size_of sized.Text v = length_of v
-size_of sized.List v = list_length v
-size_of sized.Tuple v = tuple_length v
+abbrev pub size_by : Sort → Value → Does Value
+size_by (sort.ListOf t) v = list_length v
+size_by (sort.TupleOf ts) v = tuple_length v
+size_by t v = length_of v
 
--- the truth of a number, a bool or a text, of a list, which is true where it has items, and of a tuple, which always is
-abbrev pub tested_as : Testable → Value → Does Value
-tested_as testable.Scalar v = truth_of v >>= λ b. give (BoolVal b)
-tested_as testable.List v = with_list v (λ k vs. give (BoolVal (is_filled vs)))
-tested_as testable.Tuple v = give (BoolVal true)
+-- whether a value is not None
+abbrev pub is_present : Value → Does Value
+is_present v = give (BoolVal (not (is_none v)))
 
--- with a result of a type; what is taken out of a list or a tuple is one of that type
-abbrev pub unary_goes : Unary → Sort → Value → Does Value
-unary_goes Negated t v = negated t v
-unary_goes Inverted t v = truth_of v >>= λ b. give (BoolVal (not b))
-unary_goes (Tested z) t v = tested_as z v
-unary_goes (Counted z) t v = size_of z v
-unary_goes Written t v = needs (has_text v) (give (StrVal (text_of v)))
-unary_goes Coerced t v = coerced t v
-unary_goes Popped t v = pop_item v >>= taken_as t
-unary_goes (Part i) t v = tuple_part i v >>= taken_as t
-unary_goes Absent t v = give (BoolVal (is_none v))
-unary_goes Present t v = give (BoolVal (not (is_none v)))
+-- with a result of the first type, on a value of the second; what is taken out of a list or a tuple is one of the first
+abbrev pub unary_goes : Unary → Sort → Sort → Value → Does Value
+unary_goes Negated t s v = negated t v
+unary_goes Inverted t s v = inverts v
+unary_goes Tested t s v = tested_as s v
+unary_goes Counted t s v = size_by s v
+unary_goes Written t s v = needs (has_text v) (give (StrVal (text_of v)))
+unary_goes Coerced t s v = coerced t v
+unary_goes Popped t s v = popped_as t v
+unary_goes (Part i) t s v = part_as i t v
+unary_goes Absent t s v = is_absent v
+unary_goes Present t s v = is_present v
 
 abbrev pub binary_goes : Binary → Sort → Value → Value → Does Value
 binary_goes (Arithmetic op) t v w = arithmetic t op v w
 binary_goes Joined t v w = joined v w
 binary_goes Indexed t v w = letter v w
-binary_goes Item t v w = list_item v w >>= taken_as t
+binary_goes Item t v w = item_as t v w
 binary_goes Appended t v w = append_item v w
 
--- a type whose values have a size
-abbrev pub IsSized : Sized → Sort → Type 0
-IsSized sized.Text s = s ≡ sort.Str
-IsSized sized.List s = (t : Sort) × (s ≡ sort.ListOf t)
-IsSized sized.Tuple s = (ts : Sorts) × (s ≡ sort.TupleOf ts)
-
--- a type whose values have a truth
-abbrev pub IsTestable : Testable → Sort → Type 0
-IsTestable testable.Scalar s = is_scalar s ≡ true
-IsTestable testable.List s = (t : Sort) × (s ≡ sort.ListOf t)
-IsTestable testable.Tuple s = (ts : Sorts) × (s ≡ sort.TupleOf ts)
+-- the types of values that have a size: texts, lists and tuples
+abbrev pub is_counted : Sort → Bool
+is_counted sort.Str = true
+is_counted (sort.ListOf t) = true
+is_counted (sort.TupleOf ts) = true
+is_counted _ = false
 
 -- the type of the result, and that of the part; of a part of any type it is asked whether it is None
 abbrev pub UnarySuits : Unary → Sort → Sort → Type 0
 UnarySuits Negated t s = (is_whole t ≡ true) × (is_number s ≡ true)
 UnarySuits Inverted t s = (t ≡ sort.Bool) × (s ≡ sort.Bool)
-UnarySuits (Tested z) t s = (t ≡ sort.Bool) × IsTestable z s
-UnarySuits (Counted z) t s = (t ≡ sort.Int) × IsSized z s
+UnarySuits Tested t s = (t ≡ sort.Bool) × (is_testable s ≡ true)
+UnarySuits Counted t s = (t ≡ sort.Int) × (is_counted s ≡ true)
 UnarySuits Written t s = (t ≡ sort.Str) × (is_scalar s ≡ true)
 UnarySuits Coerced t s = Converts s t
 UnarySuits Popped t s = s ≡ sort.ListOf t
@@ -120,25 +110,15 @@ one_sort op t e = part_sort (wanted_one op t (type_of e)) e
 abbrev pub two_sort : Binary → Sort → TypedExpr → TypedExpr → Sort
 two_sort op t a e = part_sort (wanted_two op t (type_of a)) e
 
--- the operation that counts
-abbrev pub counting_of : Sized → Operation
-counting_of sized.Text = Length
-counting_of sized.List = ListLength
-counting_of sized.Tuple = TupleLength
+-- the operation that counts, by the type of what has a size
+abbrev pub counting_of : Sort → Operation
+counting_of (sort.ListOf t) = ListLength
+counting_of (sort.TupleOf ts) = TupleLength
+counting_of _ = Length
 
 -- ---- nodes that are such operations
 
--- what has a truth, what has a size, and what an index is of, by its type
-abbrev pub testable_of : Sort → Testable
-testable_of (sort.ListOf t) = testable.List
-testable_of (sort.TupleOf ts) = testable.Tuple
-testable_of _ = testable.Scalar
-
-abbrev pub sized_of : Sort → Sized
-sized_of (sort.ListOf t) = sized.List
-sized_of (sort.TupleOf ts) = sized.Tuple
-sized_of _ = sized.Text
-
+-- what an index is of, by its type
 abbrev pub index_of : Sort → Binary
 index_of (sort.ListOf t) = Item
 index_of _ = Indexed
@@ -168,8 +148,8 @@ absence_in more = None
 abbrev pub applied_in : TypedNode → Option Applied
 applied_in (Neg e) = Some (one Negated e)
 applied_in (Not e) = Some (one Inverted e)
-applied_in (Truth e) = Some (one (Tested (testable_of (type_of e))) e)
-applied_in (Len e) = Some (one (Counted (sized_of (type_of e))) e)
+applied_in (Truth e) = Some (one Tested e)
+applied_in (Len e) = Some (one Counted e)
 applied_in (ToStr e) = Some (one Written e)
 applied_in (Coerce e) = Some (one Coerced e)
 applied_in (Pop e) = Some (one Popped e)

@@ -14,7 +14,7 @@ use Rattle.ir_builder_frames.specs.Settings.{Setting, rtype_of}
 use Rattle.ir_builder_frames.specs.Placing.{HasType}
 use Rattle.ir_builder_frames.specs.Computing.{means, Shows, Meaning, Computes}
 use Rattle.ir_builder_choices.specs.Choosing.{Behind, HasValue, by_truth, ComputesFrom}
-use Rattle.ir_builder_expressions.specs.Parts.{is_scalar}
+use Rattle.ir_builder_expressions.specs.Truths.{is_testable}
 use Rattle.ir_builder_expressions.specs.Suiting.{Suits}
 
 -- what a declared arm stands for
@@ -42,7 +42,7 @@ ArmSuits m vs (Some e) = Suits m vs e
 
 -- both arms have the type of the choice
 pub record ChoiceSuits (m : TypedModule) (vs : List Variable) (t : Sort) (test : TypedExpr) (body other : Option TypedExpr) : Type 0 where
-  pub tested : is_scalar (type_of test) ≡ true
+  pub tested : is_testable (type_of test) ≡ true
   pub test_suits : Suits m vs test
   pub body_type : arm_sort (type_of test) body ≡ t
   pub other_type : arm_sort (type_of test) other ≡ t

@@ -7,10 +7,12 @@ use Rattle.source_soundness.specs.Watched.{expressions, chain}
 use Rattle.source_meaning.specs.State.{on_to}
 use Rattle.ir_builder_frames.specs.Watching.{watch, calls_in}
 use Rattle.ir_core.specs.declared.code.Reg.{Reg}
+use Rattle.ir_core.specs.declared.code.RType.TheVariants.{Ref}
 use Rattle.ir_builder_frames.specs.Building.{Building}
 use Rattle.ir_builder_frames.specs.Settings.{Setting, rtype_of}
 use Rattle.ir_builder_expressions.specs.declared.applying.Unary.{Unary}
 use Rattle.ir_builder_expressions.specs.declared.applying.Binary.{Binary}
+use Rattle.ir_builder_operations.specs.Boxes.{boxed}
 use Rattle.ir_builder_expressions.specs.Parts.{part_sort}
 use Rattle.ir_builder_expressions.specs.Applying.{unary_goes, binary_goes}
 use Rattle.ir_builder_expressions.specs.declared.comparing.Side.{Side}
@@ -39,11 +41,15 @@ EmitsPart x t e old new r = Computes x (Shows (part_sort t e)) (rtype_of (part_s
 
 -- the result of an operation on one part, and of one on two
 abbrev pub EmitsOne : Setting → Unary → Sort → TypedExpr → Building → Building → ℕ → Type 0
-EmitsOne x op t e old new r = Computes x (Shows t) (rtype_of t) (λ n s. on_to (means x e n s) (unary_goes op t)) old new r
+EmitsOne x op t e old new r = Computes x (Shows t) (rtype_of t) (λ n s. on_to (means x e n s) (unary_goes op t (type_of e))) old new r
 
 abbrev pub EmitsTwo : Setting → Binary → Sort → TypedExpr → TypedExpr → Building → Building → ℕ → Type 0
 EmitsTwo x op t a b old new r =
     Computes x (Shows t) (rtype_of t) (λ n s. on_to (means x a n s) (λ v s1. on_to (means x b n s1) (binary_goes op t v))) old new r
+
+-- its value is in a register for objects
+abbrev pub EmitsObject : Setting → TypedExpr → Building → Building → ℕ → Type 0
+EmitsObject x e old new r = Computes x (Shows boxed) Ref (means x e) old new r
 
 -- the values of several are in registers
 abbrev pub EmitsAll : Setting → List Sort → TypedExprs → Building → Building → List Reg → Type 0

@@ -12,7 +12,8 @@ use Rattle.ir_builder_expressions.specs.declared.applying.Unary.TheVariants.{Neg
 use Rattle.ir_builder_expressions.specs.declared.applying.Binary.TheVariants.{Arithmetic, Joined, Appended}
 use Rattle.ir_builder_comparisons.specs.Comparing.{is_ordering}
 use Rattle.ir_builder_expressions.specs.Parts.{is_scalar, is_pair}
-use Rattle.ir_builder_expressions.specs.Applying.{UnarySuits, BinarySuits, testable_of, sized_of, index_of, absence_in}
+use Rattle.ir_builder_expressions.specs.Applying.{UnarySuits, BinarySuits, index_of, absence_in}
+use Rattle.ir_builder_expressions.specs.Truths.{is_testable}
 
 -- how many expressions these are
 abbrev pub count_of : TypedExprs → ℕ
@@ -47,15 +48,15 @@ module _ (m : TypedModule) (vs : List Variable) where
     NodeSuits (Global i) t = (v : Variable) × (slice_get m.globals i ≡ Some v) × (v.1 ≡ t)
     NodeSuits (Neg e) t = UnarySuits Negated t (type_of e) × Suits e
     NodeSuits (Not e) t = UnarySuits Inverted t (type_of e) × Suits e
-    NodeSuits (Truth e) t = UnarySuits (Tested (testable_of (type_of e))) t (type_of e) × Suits e
+    NodeSuits (Truth e) t = UnarySuits Tested t (type_of e) × Suits e
     NodeSuits (Arith op a b) t = BinarySuits (Arithmetic op) t (type_of a) (type_of b) × Suits a × Suits b
     NodeSuits (Concat a b) t = BinarySuits Joined t (type_of a) (type_of b) × Suits a × Suits b
     NodeSuits (Compare e more) t =
         ComparedSuits (absence_in more)
         (λ op. UnarySuits op t (type_of e) × Suits e × (behind_sort more ≡ sort.Nothing))
         ((t ≡ sort.Bool) × (is_scalar (type_of e) ≡ true) × Suits e × ComparisonsSuit (type_of e) more)
-    NodeSuits (And a b) t = (is_scalar t ≡ true) × (type_of a ≡ t) × (type_of b ≡ t) × Suits a × Suits b
-    NodeSuits (Or a b) t = (is_scalar t ≡ true) × (type_of a ≡ t) × (type_of b ≡ t) × Suits a × Suits b
+    NodeSuits (And a b) t = (is_testable t ≡ true) × (type_of a ≡ t) × (type_of b ≡ t) × Suits a × Suits b
+    NodeSuits (Or a b) t = (is_testable t ≡ true) × (type_of a ≡ t) × (type_of b ≡ t) × Suits a × Suits b
     NodeSuits (Cond a test b) t =
         (type_of a ≡ t) × (type_of test ≡ sort.Bool) × (type_of b ≡ t) × Suits a × Suits test × Suits b
     NodeSuits (ListOf es) t = (u : Sort) × (t ≡ sort.ListOf u) × AllSuit es
@@ -64,7 +65,7 @@ module _ (m : TypedModule) (vs : List Variable) where
     NodeSuits (TupleAt e i) t = UnarySuits (Part i) t (type_of e) × Suits e
     NodeSuits (Call f es) t = (g : TypedFunc) × (slice_get m.funcs f ≡ Some g) × (g.ret ≡ t) × ArgumentsSuit (parameter_sorts g) es
     NodeSuits Input t = t ≡ sort.Str
-    NodeSuits (Len e) t = UnarySuits (Counted (sized_of (type_of e))) t (type_of e) × Suits e
+    NodeSuits (Len e) t = UnarySuits Counted t (type_of e) × Suits e
     NodeSuits (ToStr e) t = UnarySuits Written t (type_of e) × Suits e
     NodeSuits (Append a b) t = BinarySuits Appended t (type_of a) (type_of b) × Suits a × Suits b
     NodeSuits (Pop e) t = UnarySuits Popped t (type_of e) × Suits e

@@ -12,15 +12,17 @@ ghost use Rattle.ir_builder_frames.specs.Lines.{OwnLines};
 ghost use Rattle.ir_builder_operations.specs.Operating.{ActsOn, ActsOnTwo};
 ghost use Rattle.ir_builder_operations.specs.Selecting.{is_arithmetic, is_whole};
 ghost use Rattle.ir_builder_expressions.specs.Parts.{fitting_in, native_in, part_sort, literal_in};
-ghost use Rattle.ir_builder_expressions.specs.Applying.{tested_as, unary_goes, binary_goes, IsTestable, UnarySuits, BinarySuits, testable_of, sized_of, index_of, wanted_one, wanted_two, one_sort, two_sort, counting_of, arithmetic_of, negation_of, absence_of, absence_by, absence_in, applied_in, node_in, seen};
+ghost use Rattle.ir_builder_expressions.specs.Applying.{unary_goes, binary_goes, is_present, UnarySuits, BinarySuits, index_of, wanted_one, wanted_two, one_sort, two_sort, counting_of, arithmetic_of, negation_of, absence_of, absence_by, absence_in, applied_in, node_in, seen};
 ghost use Rattle.ir_builder_operations.specs.Boxes.{boxed};
+ghost use Rattle.ir_builder_operations.specs.Rows.{is_absent};
+ghost use Rattle.ir_builder_operations.specs.Taking.{popped_as, part_as};
 ghost use Rattle.ir_builder_operations.specs.Converting.{Converts};
 
+use crate::truths::emit_truth_of;
 use crate::types::{is_native, register_type, truth};
-use ir_builder_comparisons::emit_truth;
 use ir_builder_frames::Emitter;
 use ir_builder_operations::{
-    Operation, emit_append, emit_boxed, emit_coercion, emit_conversion, emit_operation,
+    Operation, emit_append, emit_boxed, emit_coercion, emit_conversion, emit_item, emit_operation,
     emit_text_of, emit_tuple_part, emit_unboxed,
 };
 use ir_core::{RType, Reg};
@@ -29,30 +31,14 @@ use py_typed::{TExpr, TKind, Ty};
 use std::alloc::Global;
 use value_core::{Memory, int_to_i64};
 
-/// What has a truth: a number, a bool or a text, a list, or a tuple.
-#[derive(Clone, Copy)]
-pub(crate) enum Testable {
-    Scalar,
-    List,
-    Tuple,
-}
-
-/// What has a size.
-#[derive(Clone, Copy)]
-pub(crate) enum Sized {
-    Text,
-    List,
-    Tuple,
-}
-
 /// An operation on one part: the other sign, the other truth, a truth, a length, the text of a value, a value as one of another
 /// type, what is taken out of a list or a tuple, and whether a value is None.
 #[derive(Clone, Copy)]
 pub(crate) enum Unary {
     Negated,
     Inverted,
-    Tested(Testable),
-    Counted(Sized),
+    Tested,
+    Counted,
     Written,
     Coerced,
     /// The last item of a list, which is taken out of it.
@@ -80,28 +66,6 @@ pub enum Binary {
 pub(crate) enum Applied<'a> {
     One(Unary, &'a TExpr),
     Two(Binary, &'a TExpr, &'a TExpr),
-}
-
-// What has a truth, by its type.
-fn testable_by(t: &Ty) -> Testable
-    ensures { result ≡ testable_of (sort t.now) }
-{
-    match t {
-        Ty::List(_) => Testable::List,
-        Ty::Tuple(_) => Testable::Tuple,
-        _ => Testable::Scalar,
-    }
-}
-
-// What has a size, by its type.
-fn sized_by(t: &Ty) -> Sized
-    ensures { result ≡ sized_of (sort t.now) }
-{
-    match t {
-        Ty::List(_) => Sized::List,
-        Ty::Tuple(_) => Sized::Tuple,
-        _ => Sized::Text,
-    }
 }
 
 // What an index is of, by its type.
@@ -153,8 +117,8 @@ pub(crate) fn operation_in(e: &TExpr) -> Applied<'_>
     match &e.kind {
         TKind::Neg(x) => Applied::One(Unary::Negated, x),
         TKind::Not(x) => Applied::One(Unary::Inverted, x),
-        TKind::Truth(x) => Applied::One(Unary::Tested(testable_by(&x.ty)), x),
-        TKind::Len(x) => Applied::One(Unary::Counted(sized_by(&x.ty)), x),
+        TKind::Truth(x) => Applied::One(Unary::Tested, x),
+        TKind::Len(x) => Applied::One(Unary::Counted, x),
         TKind::ToStr(x) => Applied::One(Unary::Written, x),
         TKind::Coerce(x) => Applied::One(Unary::Coerced, x),
         TKind::Pop(x) => Applied::One(Unary::Popped, x),
@@ -313,14 +277,14 @@ pub(crate) fn wanted_of_parts<'a>(op: Binary, t: &'a Ty, left: &'a TExpr) -> &'a
     }
 }
 
-// The operation that counts.
-fn counting(sized: Sized) -> Operation
-    ensures { result ≡ counting_of sized }
+// The operation that counts, by the type of what has a size.
+fn counting(t: &Ty) -> Operation
+    ensures { result ≡ counting_of (sort t.now) }
 {
-    match sized {
-        Sized::Text => Operation::Length,
-        Sized::List => Operation::ListLength,
-        Sized::Tuple => Operation::TupleLength,
+    match t {
+        Ty::List(_) => Operation::ListLength,
+        Ty::Tuple(_) => Operation::TupleLength,
+        _ => Operation::Length,
     }
 }
 
@@ -334,7 +298,7 @@ fn emit_popped(
 ) -> Result<Reg, Memory>
     requires value { HasType b.old list.0 RType.Ref }
     ensures kept { Extends b.old b.new }
-    ensures made { IfOk result (λ r. Attempts (Shows (sort t.now)) b.old b.new r.0 (rtype_of (sort t.now)) (ActsOn boxed list.0 (unary_goes Unary.Popped (sort t.now)))) }
+    ensures made { IfOk result (λ r. Attempts (Shows (sort t.now)) b.old b.new r.0 (rtype_of (sort t.now)) (ActsOn boxed list.0 (popped_as (sort t.now)))) }
     ensures lined { OwnLines line b.old b.new }
 {
     let item = emit_operation(b, alloc, Operation::LastItem, &[list], line)?;
@@ -353,7 +317,7 @@ fn emit_part_of(
     requires few { number < 17 }
     requires value { HasType b.old tuple.0 RType.Ref }
     ensures kept { Extends b.old b.new }
-    ensures made { IfOk result (λ r. Attempts (Shows (sort t.now)) b.old b.new r.0 (rtype_of (sort t.now)) (ActsOn boxed tuple.0 (unary_goes (Unary.Part number) (sort t.now)))) }
+    ensures made { IfOk result (λ r. Attempts (Shows (sort t.now)) b.old b.new r.0 (rtype_of (sort t.now)) (ActsOn boxed tuple.0 (part_as number (sort t.now)))) }
     ensures lined { OwnLines line b.old b.new }
 {
     let part = emit_tuple_part(b, alloc, tuple, number, line)?;
@@ -381,25 +345,6 @@ fn emit_converted(
     }
 }
 
-// The item of a list at an index, as a value of a type.
-fn emit_item(
-    b: &mut Emitter,
-    alloc: Global,
-    t: &Ty,
-    list: Reg,
-    index: Reg,
-    line: usize,
-) -> Result<Reg, Memory>
-    requires list { HasType b.old list.0 RType.Ref }
-    requires index { HasType b.old index.0 RType.Int }
-    ensures kept { Extends b.old b.new }
-    ensures made { IfOk result (λ r. Attempts (Shows (sort t.now)) b.old b.new r.0 (rtype_of (sort t.now)) (ActsOnTwo boxed Int list.0 index.0 (binary_goes Binary.Item (sort t.now)))) }
-    ensures lined { OwnLines line b.old b.new }
-{
-    let item = emit_operation(b, alloc, Operation::Item, &[list, index], line)?;
-    emit_unboxed(b, alloc, t, item, line)
-}
-
 // A value of a type behind the items of a list, and None.
 fn emit_appended(
     b: &mut Emitter,
@@ -419,44 +364,11 @@ fn emit_appended(
     emit_append(b, alloc, list, item, line)
 }
 
-// Whether a list has items (Python Library Reference, "Truth Value Testing").
-fn emit_filled(b: &mut Emitter, alloc: Global, list: Reg, line: usize) -> Result<Reg, Memory>
-    requires value { HasType b.old list.0 RType.Ref }
-    ensures kept { Extends b.old b.new }
-    ensures made { IfOk result (λ r. Attempts (Shows Bool) b.old b.new r.0 RType.Bool (ActsOn boxed list.0 (tested_as Testable.List))) }
-    ensures lined { OwnLines line b.old b.new }
-{
-    let length = emit_operation(b, alloc, Operation::ListLength, &[list], line)?;
-    emit_truth(b, alloc, &Ty::Int, length, line)
-}
-
-// The truth of a value of a type. A tuple is true.
-fn emit_tested(
-    b: &mut Emitter,
-    alloc: Global,
-    testable: Testable,
-    t: &Ty,
-    x: Reg,
-    line: usize,
-) -> Result<Reg, Memory>
-    requires fits { IsTestable testable (sort t.now) }
-    requires value { HasType b.old x.0 (rtype_of (sort t.now)) }
-    ensures kept { Extends b.old b.new }
-    ensures made { IfOk result (λ r. Attempts (Shows Bool) b.old b.new r.0 RType.Bool (ActsOn (sort t.now) x.0 (tested_as testable))) }
-    ensures lined { OwnLines line b.old b.new }
-{
-    match testable {
-        Testable::Scalar => emit_truth(b, alloc, t, x, line),
-        Testable::List => emit_filled(b, alloc, x, line),
-        Testable::Tuple => b.literal(RType::Bool, truth(true), line),
-    }
-}
-
 // Whether a value of a type is None. One that is no object is not.
 fn emit_absence(b: &mut Emitter, alloc: Global, t: &Ty, x: Reg, line: usize) -> Result<Reg, Memory>
     requires value { HasType b.old x.0 (rtype_of (sort t.now)) }
     ensures kept { Extends b.old b.new }
-    ensures made { IfOk result (λ r. Attempts (Shows Bool) b.old b.new r.0 RType.Bool (ActsOn (sort t.now) x.0 (unary_goes Unary.Absent Bool))) }
+    ensures made { IfOk result (λ r. Attempts (Shows Bool) b.old b.new r.0 RType.Bool (ActsOn (sort t.now) x.0 is_absent)) }
     ensures lined { OwnLines line b.old b.new }
 {
     match register_type(t) {
@@ -469,7 +381,7 @@ fn emit_absence(b: &mut Emitter, alloc: Global, t: &Ty, x: Reg, line: usize) -> 
 fn emit_presence(b: &mut Emitter, alloc: Global, t: &Ty, x: Reg, line: usize) -> Result<Reg, Memory>
     requires value { HasType b.old x.0 (rtype_of (sort t.now)) }
     ensures kept { Extends b.old b.new }
-    ensures made { IfOk result (λ r. Attempts (Shows Bool) b.old b.new r.0 RType.Bool (ActsOn (sort t.now) x.0 (unary_goes Unary.Present Bool))) }
+    ensures made { IfOk result (λ r. Attempts (Shows Bool) b.old b.new r.0 RType.Bool (ActsOn (sort t.now) x.0 is_present)) }
     ensures lined { OwnLines line b.old b.new }
 {
     let absent = emit_absence(b, alloc, t, x, line)?;
@@ -489,14 +401,14 @@ pub(crate) fn emit_unary(
     requires fits { UnarySuits op (sort t.now) (sort e.now.ty) }
     requires value { HasType b.old x.0 (rtype_of (one_sort op (sort t.now) (typed_expr e.now))) }
     ensures kept { Extends b.old b.new }
-    ensures made { IfOk result (λ r. Attempts (Shows (sort t.now)) b.old b.new r.0 (rtype_of (sort t.now)) (ActsOn (one_sort op (sort t.now) (typed_expr e.now)) x.0 (unary_goes op (sort t.now)))) }
+    ensures made { IfOk result (λ r. Attempts (Shows (sort t.now)) b.old b.new r.0 (rtype_of (sort t.now)) (ActsOn (one_sort op (sort t.now) (typed_expr e.now)) x.0 (unary_goes op (sort t.now) (type_of (typed_expr e.now))))) }
     ensures lined { OwnLines line b.old b.new }
 {
     match op {
         Unary::Negated => emit_negated(b, alloc, t, e, x, line),
         Unary::Inverted => emit_operation(b, alloc, Operation::Inversion, &[x], line),
-        Unary::Tested(testable) => emit_tested(b, alloc, testable, &e.ty, x, line),
-        Unary::Counted(sized) => emit_operation(b, alloc, counting(sized), &[x], line),
+        Unary::Tested => emit_truth_of(b, alloc, &e.ty, x, line),
+        Unary::Counted => emit_operation(b, alloc, counting(&e.ty), &[x], line),
         Unary::Written => emit_text_of(b, alloc, &e.ty, x, line),
         Unary::Coerced => emit_converted(b, alloc, t, e, x, line),
         Unary::Popped => emit_popped(b, alloc, t, x, line),

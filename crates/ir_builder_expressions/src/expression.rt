@@ -14,7 +14,7 @@ ghost use Rattle.ir_builder_expressions.specs.Suiting.{Suits, SomeSuit, Comparis
 ghost use Rattle.ir_builder_operations.specs.Boxes.{objects};
 ghost use Rattle.ir_builder_expressions.specs.Arms.{arm_of, ArmSuits, ChoiceSuits, EmitsArm, EmitsChoice};
 ghost use Rattle.ir_builder_expressions.specs.Lined.{listed, operands_in, parts_in_arm, parts_of, Lined, LinedParts};
-ghost use Rattle.ir_builder_expressions.specs.Emitting.{Emits, EmitsPart, EmitsOne, EmitsTwo, EmitsAll, EmitsSide, EmitsChain};
+ghost use Rattle.ir_builder_expressions.specs.Emitting.{Emits, EmitsPart, EmitsOne, EmitsTwo, EmitsObject, EmitsAll, EmitsSide, EmitsChain};
 
 use crate::applying::{
     Applied, Binary, Unary, absence_in, emit_binary, emit_unary, native_literal, operation_in,
@@ -25,9 +25,9 @@ use crate::comparing::{Kind, Side, emit_pair, joined_kind, kind_of, shown_kind, 
 use crate::global::emit_global_value;
 use crate::local::emit_local_as;
 use crate::site::Site;
+use crate::truths::emit_truth_of;
 use crate::types::{register_type, truth};
 use ir_builder_choices::{begin, meet, turn};
-use ir_builder_comparisons::emit_truth;
 use ir_builder_frames::Emitter;
 use ir_builder_operations::{emit_boxed, emit_input, emit_int, emit_list, emit_text, emit_tuple};
 use ir_core::{Lit, RType, Reg};
@@ -189,6 +189,19 @@ pub fn emit_arguments(b: &mut Emitter, site: Site, args: &[TExpr]) -> Result<Man
     Ok(regs)
 }
 
+/// Emits an expression, and answers a register that has its value as an object. It fails for want of memory.
+#[cycle(expression)]
+pub fn emit_object(b: &mut Emitter, site: Site, e: &TExpr) -> Result<Reg, Memory>
+    requires suits { Suits (setting_of site).source (setting_of site).variables (typed_expr e.now) }
+    requires room { HasRoom (setting_of site) b.old }
+    ensures kept { Extends b.old b.new }
+    ensures emitted { IfOk result (λ r. EmitsObject (setting_of site.entry) (typed_expr e.now) b.old b.new r.0) }
+    ensures lined { OnOk result (LinedParts (setting_of site.entry) site.entry.line (typed_expr e.now ∷ []) b.old b.new) }
+{
+    let x = emit_expression(b, site, e)?;
+    emit_boxed(b, site.alloc, &e.ty, x, site.line)
+}
+
 // Emits expressions from the left, and answers registers that have their values as objects. Each is one before the next is computed.
 #[cycle(expression)]
 fn emit_objects(b: &mut Emitter, site: Site, items: &[TExpr]) -> Result<Many<Reg>, Memory>
@@ -201,8 +214,7 @@ fn emit_objects(b: &mut Emitter, site: Site, items: &[TExpr]) -> Result<Many<Reg
 {
     let mut regs = Many::new(site.alloc);
     for e in items {
-        let x = emit_expression(b, site, e)?;
-        let r = emit_boxed(b, site.alloc, &e.ty, x, site.line)?;
+        let r = emit_object(b, site, e)?;
         regs.push(r)?;
     }
     Ok(regs)
@@ -225,7 +237,7 @@ fn emit_choice(
     ensures lined { OnOk result (LinedParts (setting_of site.entry) site.entry.line (typed_expr test.now ∷ (parts_in_arm (arm_of body.entry) ++ parts_in_arm (arm_of other.entry))) b.old b.new) }
 {
     let tested = emit_expression(b, site, test)?;
-    let condition = emit_truth(b, site.alloc, &test.ty, tested, site.line)?;
+    let condition = emit_truth_of(b, site.alloc, &test.ty, tested, site.line)?;
     let choice = begin(b, register_type(t))?;
     let x = emit_arm(b, site, body, tested)?;
     let end = turn(b, choice, x, site.line)?;

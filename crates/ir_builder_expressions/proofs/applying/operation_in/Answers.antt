@@ -1,6 +1,6 @@
-use Rattle.ir_builder_expressions.proofs.Common.{refl, typed_node-Neg, typed_node-Not, typed_node-Truth, typed_node-Arith, typed_node-Coerce, typed_node-Concat, typed_node-At, typed_node-Len, typed_node-ToStr, Negated, Inverted, Written, Coerced, Popped, Part, Arithmetic, Joined, Appended}
+use Rattle.ir_builder_expressions.proofs.Common.{refl, typed_node-Neg, typed_node-Not, typed_node-Truth, typed_node-Arith, typed_node-Coerce, typed_node-Concat, typed_node-At, typed_node-Len, typed_node-ToStr, Negated, Inverted, Tested, Counted, Written, Coerced, Popped, Part, Arithmetic, Joined, Appended}
 use Rattle.py_typed.proofs.ExpressionLemmas.{typed_node-Pop, typed_node-TupleAt, typed_node-Append}
-use Rattle.ir_builder_expressions.proofs.FoundLemmas.{one_found, two_found, tested_found, sized_found, index_found, absence_found, absence_missing}
+use Rattle.ir_builder_expressions.proofs.FoundLemmas.{one_found, two_found, index_found, absence_found, absence_missing}
 use Rattle.ir_builder_expressions.proofs.UnsuitedLemmas.{none_left}
 use Rattle.ir_builder_expressions.proofs.ArmLemmas.{is_node, is_compare}
 use Rattle.ir_builder_expressions.proofs.AbsenceLemmas.{absence_as}
@@ -13,10 +13,10 @@ pub returns-in-Not : goal.returns-in-Not
 returns-in-Not c = one_found c.args.e.now Inverted _ _ _ (is_node c.args.e.now _ _ (typed_node-Not c.in-Not.x) c.in-Not.is) refl c.deref-in-Not.ensures
 
 pub returns-in-Truth : goal.returns-in-Truth
-returns-in-Truth c = tested_found c.args.e.now _ _ _ _ (is_node c.args.e.now _ _ (typed_node-Truth c.in-Truth.x) c.in-Truth.is) c.testable_by.ensures c.deref-in-Truth.ensures c.deref-in-Truth-2.ensures
+returns-in-Truth c = one_found c.args.e.now Tested _ _ _ (is_node c.args.e.now _ _ (typed_node-Truth c.in-Truth.x) c.in-Truth.is) refl c.deref-in-Truth.ensures
 
 pub returns-in-Len : goal.returns-in-Len
-returns-in-Len c = sized_found c.args.e.now _ _ _ _ (is_node c.args.e.now _ _ (typed_node-Len c.in-Len.x) c.in-Len.is) c.sized_by.ensures c.deref-in-Len.ensures c.deref-in-Len-2.ensures
+returns-in-Len c = one_found c.args.e.now Counted _ _ _ (is_node c.args.e.now _ _ (typed_node-Len c.in-Len.x) c.in-Len.is) refl c.deref-in-Len.ensures
 
 pub returns-in-ToStr : goal.returns-in-ToStr
 returns-in-ToStr c = one_found c.args.e.now Written _ _ _ (is_node c.args.e.now _ _ (typed_node-ToStr c.in-ToStr.x) c.in-ToStr.is) refl c.deref-in-ToStr.ensures

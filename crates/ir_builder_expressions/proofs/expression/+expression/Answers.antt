@@ -13,9 +13,9 @@ use Rattle.ir_builder_expressions.proofs.AppliedLemmas.{applied_weight, applied_
 use Rattle.ir_builder_expressions.proofs.WalkLemmas.{int_within, int_walked, text_walked, input_walked, flag_walked, local_below, global_below, local_reads, local_walked, global_walked, nothing_walked, list_walked, tuple_walked, behind_slice, list_suits, tuple_suits, compare_part, compare_rest, compare_walked, call_suits, call_fits, call_walked}
 use Rattle.ir_builder_expressions.proofs.PieceLemmas.{int_fits, wanted_part, native_is, native_part, own_part, one_emits, two_emit}
 use Rattle.ir_builder_expressions.proofs.ArmLemmas.{emits_node, is_int, is_text, is_bool, is_local, is_global, is_input, is_nothing, is_list, is_tuple, is_compare, is_and, is_or, is_cond, is_call, and_asked, or_asked, cond_asked}
-use Rattle.ir_builder_expressions.proofs.ChosenLemmas.{arm_asked, arm_there, arm_missing, test_written, tested_type, arm_typed, choice_made}
+use Rattle.ir_builder_expressions.proofs.ChosenLemmas.{arm_asked, arm_there, arm_missing, test_testable, tested_type, arm_typed, choice_made}
 use Rattle.ir_builder_frames.proofs.HeldLemmas.{on_ok_map}
-use Rattle.ir_builder_expressions.proofs.LinedLemmas.{always, around_by, lined_first, lined_then, lined_leaf, ok_lined, ok_to, lined_one, lined_two, lined_node, lined_whole, lined_chain, lined_literal, lined_applied, listed_of, operands_of_all, rest_start, rest_own, argument_lined, arguments_lined, chain_started, chain_next, chain_over, chain_none, arm_lined, arm_none, choice_lined}
+use Rattle.ir_builder_expressions.proofs.LinedLemmas.{always, around_by, lined_first, lined_then, lined_leaf, ok_lined, ok_to, lined_one, lined_two, lined_node, lined_whole, lined_chain, lined_literal, lined_applied, listed_of, operands_of_all, rest_start, argument_lined, object_lined, arguments_lined, chain_started, chain_next, chain_over, chain_none, arm_lined, arm_none, choice_lined}
 use Rattle.ir_builder_expressions.proofs.expression.+expression.Goals as goal
 
 pub emit_expression-emit_applied-requires : goal.emit_expression-emit_applied-requires
@@ -265,24 +265,37 @@ emit_objects-loop-e-init t c =
     let x : Setting = setting_of c.args.site in
     record { holding = rw c.new-regs.ensures (holding_none x c.args.items.now c.args.b.now c.requires.suits); lined = rest_start x c.args.site.line (listed_of c.args.items.now) c.args.b.now }
 
-pub emit_objects-emit_expression-requires : goal.emit_objects-emit_expression-requires
-emit_objects-emit_expression-requires t c =
+pub emit_object-emit_expression-requires : goal.emit_object-emit_expression-requires
+emit_object-emit_expression-requires t c = (omega arith, (c.requires.suits, c.requires.room))
+
+pub emit_object-emit_boxed-requires : goal.emit_object-emit_boxed-requires
+emit_object-emit_boxed-requires t c = record { value = boxed_value c.args.e.now _ _ c.in_ok-x.ensures.emitted }
+
+pub emit_object-returns : goal.emit_object-returns
+emit_object-returns t c =
+    let x : Setting = setting_of c.args.site in
+    let e = c.emit_boxed.ensures in
+    let one = c.in_ok-x.ensures in
+    record { lined = always _ _ (lined_one x c.args.site.line (typed_expr c.args.e.now) _ _ _ (type_of (typed_expr c.args.e.now), c.in_ok-x.x.0, one.emitted) one.lined e.kept e.lined); kept = extends_trans _ _ _ one.kept e.kept; emitted = ok_map _ _ _ (λ (r : Reg) a. boxed_emits x c.args.e.now _ _ _ c.in_ok-x.x.0 r.0 c.requires.room one.emitted a) e.made }
+
+pub emit_objects-emit_object-requires : goal.emit_objects-emit_object-requires
+emit_objects-emit_object-requires t c =
     let m : TypedModule = typed_module c.args.site.checked.now in
     let vs : List Variable = map variable c.args.site.locals.now in
     let h0 = member_weight c.args.items.now c.loop-e.e-index c.e-item.result c.loop-e-test.true c.e-item.is in
     (omega arith, ((argument_suits m vs c.args.items.now c.loop-e.e-index c.e-item.result c.loop-e-test.true c.e-item.is c.loop-e.invariant.holding.suits).0, (room_on _ _ _ c.loop-e.invariant.holding.emitted.extends c.requires.room)))
 
-pub emit_objects-emit_boxed-requires : goal.emit_objects-emit_boxed-requires
-emit_objects-emit_boxed-requires t c = record { value = boxed_value c.e-item.result _ _ c.in_ok-x.ensures.emitted }
+pub emit_objects-returns-in_err-r-clause-kept : goal.emit_objects-returns-in_err-r-clause-kept
+emit_objects-returns-in_err-r-clause-kept t c = extends_trans _ _ _ c.loop-e.invariant.holding.emitted.extends c.in_err-r.ensures.kept
+
+pub emit_objects-returns-in_err-push-clause-kept : goal.emit_objects-returns-in_err-push-clause-kept
+emit_objects-returns-in_err-push-clause-kept t c = extends_trans _ _ _ c.loop-e.invariant.holding.emitted.extends c.in_ok-r.ensures.kept
 
 pub emit_objects-loop-e-preserved : goal.emit_objects-loop-e-preserved
 emit_objects-loop-e-preserved t c =
     let x : Setting = setting_of c.args.site in
-    let e = c.in_ok-x.ensures in
     let o = c.in_ok-r.ensures in
-    let room = room_on x _ _ c.loop-e.invariant.holding.emitted.extends c.requires.room in
-    let one = boxed_emits x c.e-item.result _ _ _ c.in_ok-x.x.0 c.in_ok-r.r.0 room e.emitted o.made in
-    record { holding = holding_on x c.args.items.now c.loop-e.e-index c.e-item.result c.args.b.now c.loop-e.b _ c.loop-e.regs _ c.in_ok-r.r c.loop-e-test.true c.e-item.is c.requires.room c.loop-e.invariant.holding one c.in_ok-push.ensures.ok; lined = rest_own x c.args.site.line _ _ _ _ _ (argument_lined x c.args.site.line c.args.items.now c.loop-e.e-index c.e-item.result c.args.b.now c.loop-e.b _ c.in_ok-x.x.0 c.loop-e-test.true c.e-item.is c.loop-e.invariant.lined e.emitted e.lined) (around_by _ _ _ o.kept o.lined) }
+    record { holding = holding_on x c.args.items.now c.loop-e.e-index c.e-item.result c.args.b.now c.loop-e.b _ c.loop-e.regs _ c.in_ok-r.r c.loop-e-test.true c.e-item.is c.requires.room c.loop-e.invariant.holding o.emitted c.in_ok-push.ensures.ok; lined = object_lined x c.args.site.line c.args.items.now c.loop-e.e-index c.e-item.result c.args.b.now c.loop-e.b _ c.loop-e-test.true c.e-item.is c.loop-e.invariant.lined o.lined }
 
 pub emit_objects-returns : goal.emit_objects-returns
 emit_objects-returns t c =
@@ -335,10 +348,10 @@ pub emit_choice-emit_expression-requires : goal.emit_choice-emit_expression-requ
 emit_choice-emit_expression-requires t c =
     (omega arith, (c.requires.suits.test_suits, c.requires.room))
 
-pub emit_choice-emit_truth-requires : goal.emit_choice-emit_truth-requires
-emit_choice-emit_truth-requires t c =
+pub emit_choice-emit_truth_of-requires : goal.emit_choice-emit_truth_of-requires
+emit_choice-emit_truth_of-requires t c =
     let x : Setting = setting_of c.args.site in
-    record { written = test_written c.args.test.now c.requires.suits.tested; value = tested_type x c.args.test.now _ _ _ c.in_ok-tested.ensures.emitted }
+    record { testable = test_testable c.args.test.now c.requires.suits.tested; value = tested_type x c.args.test.now _ _ _ c.in_ok-tested.ensures.emitted }
 
 pub emit_choice-emit_arm-requires : goal.emit_choice-emit_arm-requires
 emit_choice-emit_arm-requires t c =
@@ -364,7 +377,7 @@ emit_choice-meet-requires t c =
     let second = arm_typed x (sort c.args.t.now) c.args.test.now c.register_type.result c.register_type.ensures _ _ _ c.in_ok-tested.ensures.emitted (arm_of c.args.other) _ _ _ c.requires.suits.other_type x15 c.in_ok-y.ensures.emitted in
     record {
       alike = (c.register_type.result, type_kept _ _ _ _ x37 c.in_ok-choice.ensures.opens.type, second);
-      flag = type_kept _ _ _ _ (extends_trans _ _ _ c.in_ok-choice.ensures.kept x37) c.in_ok-condition.ensures.found.type;
+      flag = type_kept _ _ _ _ (extends_trans _ _ _ c.in_ok-choice.ensures.kept x37) c.in_ok-condition.ensures.made.type;
       test_open = r.0;
       end_open = r.1.0;
       first = r.1.1.0;
@@ -394,7 +407,7 @@ emit_choice-returns-in_err-meet-clause-kept t c = extends_trans _ _ _ c.in_ok-te
 pub emit_choice-returns : goal.emit_choice-returns
 emit_choice-returns t c =
     let x : Setting = setting_of c.args.site in
-    let all : EmitsChoice x (sort c.args.t.now) (typed_expr c.args.test.now) (arm_of c.args.body) (arm_of c.args.other) c.args.b.now c.meet.new.b c.in_ok-choice.choice.target.0 = choice_made x (sort c.args.t.now) c.args.test.now c.register_type.result c.register_type.ensures _ _ _ c.in_ok-tested.ensures.emitted _ _ _ _ _ _ _ _ _ _ _ _ _ _ _ _ c.requires.suits c.requires.room c.in_ok-condition.ensures.found c.in_ok-choice.ensures.opens c.in_ok-x.ensures.kept c.in_ok-x.ensures.emitted c.in_ok-end.ensures.brings c.here-second.ensures.number c.in_ok-y.ensures.emitted c.in_ok-meet.ensures.meets in
+    let all : EmitsChoice x (sort c.args.t.now) (typed_expr c.args.test.now) (arm_of c.args.body) (arm_of c.args.other) c.args.b.now c.meet.new.b c.in_ok-choice.choice.target.0 = choice_made x (sort c.args.t.now) c.args.test.now c.register_type.result c.register_type.ensures _ _ _ c.in_ok-tested.ensures.emitted _ _ _ _ _ _ _ _ _ _ _ _ _ _ _ _ c.requires.suits c.requires.room c.in_ok-condition.ensures.made c.in_ok-choice.ensures.opens c.in_ok-x.ensures.kept c.in_ok-x.ensures.emitted c.in_ok-end.ensures.brings c.here-second.ensures.number c.in_ok-y.ensures.emitted c.in_ok-meet.ensures.meets in
     let lines = choice_lined x c.args.site.line c.args.test.now c.args.body c.args.other _ _ _ _ _ _ _ _ c.in_ok-tested.tested.0 _ _ _ _ _ _ _ c.in_ok-tested.ensures.emitted c.in_ok-tested.ensures.lined c.in_ok-condition.ensures.kept c.in_ok-condition.ensures.lined c.in_ok-choice.ensures.kept (c.in_ok-choice.ensures.lined c.args.site.line) c.in_ok-x.ensures.lined c.in_ok-end.ensures.kept c.in_ok-end.ensures.lined c.in_ok-y.ensures.lined c.in_ok-meet.ensures.meets c.meet.ensures.lined in
     record { lined = lines; kept = all.extends; emitted = all }
 

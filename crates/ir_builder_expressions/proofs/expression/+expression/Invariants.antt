@@ -26,8 +26,11 @@ decreases-emit_side l = weight_of l.e.now * 4 + 2
 abbrev pub decreases-emit_arguments : goal.decreases-emit_arguments
 decreases-emit_arguments l = weight_of_all l.args.now * 4 + 1
 
+abbrev pub decreases-emit_object : goal.decreases-emit_object
+decreases-emit_object l = weight_of l.e.now * 4 + 1
+
 abbrev pub decreases-emit_objects : goal.decreases-emit_objects
-decreases-emit_objects l = weight_of_all l.items.now * 4 + 1
+decreases-emit_objects l = weight_of_all l.items.now * 4 + 2
 
 abbrev pub decreases-emit_choice : goal.decreases-emit_choice
 decreases-emit_choice l = (weight_of l.test.now + weight_of_arm l.body + weight_of_arm l.other) * 4 + 2
