@@ -1,43 +1,28 @@
--- Assignments to a variable, and updates of one, do in their code what they mean.
-use Rattle.ir_builder_statements.proofs.Common.{◌≡◌, ℕ, true, List, [], ◌∷◌, map, get_or, Option, Some, None, refl, sym, ap, ◌∙◌, subst, inl, inr, slice_get, if◌then◌else◌, Value, Target, Sort, sort_step, TExpr, TypedExpr, typed_expr, type_of, Variable, TypedModule, TypedTarget, LocalTarget, GlobalTarget, AttrTarget, ItemTarget, typed_target, State, Outcome, Gives, Raises, Stops, Does, Calls, on_to, give, coerced, combined, Reg, Building, Extends, Setting, rtype_of, HasType, HasKind, HasRoom, means, Shows, Meaning, Computes, Attempts, room_on, computes_of, is_whole, ActsOn, is_scalar, binary_goes, BinarySuits, Suits, Emits, EmitsTwo, means_assignment, means_update, Works, set_works, works_of, IsVariable, ItemSuits, TakesValue, TargetSuits, UpdateSuits, VariableUpdates, TakesRegister, SetsVariable, reading_of, update_binary, TurnsInto, Span, BinOp, Ty, fold-roll-Ty}
-use Rattle.value_core.specs.Value.{NoneVal}
+-- Updates of a variable do in their code what they mean.
+use Rattle.ir_builder_statements.proofs.Common.{◌≡◌, ℕ, true, List, [], Option, Some, None, refl, sym, ap, ◌∙◌, subst, inl, inr, slice_get, Value, Sort, sort_step, TypedExpr, type_of, Variable, TypedModule, TypedTarget, LocalTarget, GlobalTarget, AttrTarget, ItemTarget, State, Outcome, Gives, Raises, Stops, Does, Calls, on_to, give, coerced, combined, Reg, Building, Extends, Setting, rtype_of, HasType, HasRoom, means, Shows, Meaning, Computes, Attempts, room_on, computes_of, is_whole, ActsOn, is_scalar, binary_goes, BinarySuits, Suits, EmitsTwo, means_update, Works, set_works, works_of, IsVariable, IsRead, UpdateSuits, VariableUpdates, TakesRegister, SetsVariable, reading_of, update_binary, TurnsInto, Span, BinOp, Ty, fold-roll-Ty}
 use Rattle.py_typed.specs.declared.types.Ty.TheVariants as declared
 use Rattle.py_typed.specs.declared.types.Ty.TheOpen.{Ty-F}
-use Rattle.py_typed.specs.declared.statement.Target.TheVariants.{Local, Global, Attr, At}
 use Rattle.py_typed.specs.Sorts as sort
 use Rattle.py_typed.specs.Sorts.{sort as sort_of}
 use Rattle.py_typed.specs.Classes.{ClassEntry}
 use Rattle.py_typed.specs.Fits.{fits}
 use Rattle.source_meaning.specs.StatementMeaning.{target_sort}
 use Rattle.source_meaning.specs.ExpressionMeaning.{read_local, read_global}
-use Rattle.source_soundness.specs.Watched.{bare, bind, assign, unpack, update, changed}
+use Rattle.source_soundness.specs.Watched.{bare, assign, update, changed}
 use Rattle.py_typed.specs.TargetTypes.{sort_at}
 use Rattle.ir_builder_statements.specs.Lined.{target_pieces}
 use Rattle.ir_builder_frames.specs.Watching.{watch, calls_in}
 use Rattle.ir_builder_loops_and_jumps.specs.Simple.{storing}
 use Rattle.source_meaning.specs.WaysOut.{Flow, Goes}
-use Rattle.py_typed.proofs.FitLemmas.{fits_itself}
+use Rattle.ir_builder_operations.specs.Converting.{is_flat}
 use Rattle.ir_builder_operations.proofs.PartLemmas.{stays}
 use Rattle.ir_builder_expressions.specs.declared.applying.Binary.TheVariants.{Arithmetic}
 use Rattle.ir_builder_expressions.proofs.NumberLemmas.{whole_numeric}
 use Rattle.ir_builder_expressions.proofs.FollowLemmas.{part_attempts}
-use Rattle.ir_builder_operations.proofs.NativeLemmas.{native_kept}
 
 -- ---- what assignment means
 
-none_itself : (t : Sort) (s : State) → coerced t NoneVal s ≡ Gives NoneVal s
-none_itself (sort.Optional t) s = none_itself t s
-none_itself t s = refl
-
-pub coerced_itself : (t : Sort) (v : Value) (s : State) → HasKind t v → coerced t v s ≡ Gives v s
-coerced_itself sort.I64 v s k =
-    ap (λ z. coerced sort.I64 z s) k.1 ∙ native_kept k.0 s k.2 ∙ ap (λ z. Gives z s) (sym k.1)
-coerced_itself sort.Int v s k = ap (λ z. coerced sort.Int z s) k.1 ∙ ap (λ z. Gives z s) (sym k.1)
-coerced_itself (sort.Optional t) v s (inl k) = ap (λ z. coerced t z s) k ∙ none_itself t s ∙ ap (λ z. Gives z s) (sym k)
-coerced_itself (sort.Optional t) v s (inr k) = coerced_itself t v s k
-coerced_itself t v s k = refl
-
-sort_is : (locals : List Variable) (k : ℕ) (v0 : Variable) (t : Sort) → slice_get locals k ≡ Some v0 → v0.1 ≡ t → sort_at locals k ≡ t
+pub sort_is : (locals : List Variable) (k : ℕ) (v0 : Variable) (t : Sort) → slice_get locals k ≡ Some v0 → v0.1 ≡ t → sort_at locals k ≡ t
 sort_is locals k v0 t var same = rw var same
 
 module _ (x : Setting) (n : ℕ) where
@@ -69,68 +54,12 @@ module _ (x : Setting) (n : ℕ) where
   assigned (AttrTarget e name) t s w v = absurd v
   assigned (ItemTarget e i) t s w v = absurd v
 
-  -- a value that fits
-  pub bound_as : (target : TypedTarget) (t u : Sort) (s : State) (w : Value) → Is target u → fits classes t u ≡ true → bind (watch x.source) classes call x.source.globals x.variables (target ∷ []) t w s ≡ on_to (coerced u w s) (storing target)
-  bound_as target t u s w v fit =
-      let one : Does (Unit {0}) = λ u. on_to (coerced (target_type target) w u) (putting target) in
-      let other : Does (Unit {0}) = unpack (watch x.source) classes call x.source.globals x.variables (target ∷ []) w in
-      ap (λ z. (if fits classes t z then one else other) s) (type_is target u v)
-      ∙ ap (λ b. (if b then one else other) s) fit
-      ∙ ap (λ z. on_to (coerced z w s) (putting target)) (type_is target u v)
-      ∙ after (coerced u w s)
-    where
-      after : (o : Outcome Value) → on_to o (putting target) ≡ on_to o (storing target)
-      after (Gives z i) = assigned target u i z v
-      after (Raises z i) = refl
-      after (Stops z i) = refl
-
-  bound : (target : TypedTarget) (t : Sort) (s : State) (w : Value) → Is target t → HasKind t w → bind (watch x.source) classes call x.source.globals x.variables (target ∷ []) t w s ≡ storing target w s
-  bound target t s w v kind =
-      bound_as target t t s w v (fits_itself classes t) ∙ ap (λ o. on_to o (storing target)) (coerced_itself t w s kind)
-
--- ---- assignment
-
--- the target that stands alone
-module _ (m : TypedModule) (vs : List Variable) (targets : List Target) (target : Target) (t : Sort) (first : target ≡ get_or targets 0 target) where
-  target_alone : (us : List Target) → target ≡ get_or us 0 target → TargetSuits m vs None (map typed_target us) t → (map typed_target us ≡ typed_target target ∷ []) × TakesValue m vs None (typed_target target) t
-  target_alone [] is suits = absurd suits
-  target_alone (u ∷ []) is suits =
-      let P : Target → Type 0 = λ z. TakesValue m vs None (typed_target z) t in
-      (ap (λ z. typed_target z ∷ []) (sym is), subst P (sym is) suits)
-  target_alone (u ∷ w ∷ us) is suits = absurd suits
-
-  named : (u : Target) → ((a i : TExpr) → u ≡ At a i → ⊥) → TakesValue m vs None (typed_target u) t → IsVariable m vs None (typed_target u) t
-  named (Local k) none takes = takes
-  named (Global k) none takes = takes
-  named (Attr a name) none takes = takes
-  named (At a i) none takes = absurd (none a i refl)
-
-  pub only_named : ((a i : TExpr) → target ≡ At a i → ⊥) → TargetSuits m vs None (map typed_target targets) t → (map typed_target targets ≡ typed_target target ∷ []) × IsVariable m vs None (typed_target target) t
-  only_named none suits = let h = target_alone targets first suits in (h.0, named target none h.1)
-
-  pub only_item : (a i : TExpr) → target ≡ At a i → TargetSuits m vs None (map typed_target targets) t → (map typed_target targets ≡ ItemTarget (typed_expr a) (typed_expr i) ∷ []) × ItemSuits m vs None (typed_expr a) (typed_expr i) t
-  only_item a i is suits =
-      let h = target_alone targets first suits in
-      let P : Target → Type 0 = λ z. TakesValue m vs None (typed_target z) t in
-      (h.0 ∙ ap (λ z. typed_target z ∷ []) is, subst P is h.1)
-
 -- a variable has no parts
 pub no_pieces : (m : TypedModule) (vs : List Variable) (target : TypedTarget) (t : Sort) → IsVariable m vs None target t → target_pieces target ≡ []
 no_pieces m vs (LocalTarget k) t v = refl
 no_pieces m vs (GlobalTarget i) t v = refl
 no_pieces m vs (AttrTarget e name) t v = absurd v
 no_pieces m vs (ItemTarget a i) t v = absurd v
-
-pub assignment_code : (x : Setting) (target : TypedTarget) (e : TypedExpr) (b0 b1 b2 : Building) (r : Reg) → IsVariable x.source x.variables None target (type_of e) → HasRoom x b0 → Emits x e b0 b1 r.0 → SetsVariable x.source x.frame target r.0 b1 b2 → (gives : Option Sort) → Works x gives (means_assignment x (target ∷ []) e) b0 b2 []
-assignment_code x target e b0 b1 b2 r variable room cx q gives =
-    let t = type_of e in
-    let sets = q x.variables t (room_on x b0 b1 cx.extends room) variable cx.type in
-    let go : ℕ → Value → Does (Unit {0}) = λ n. bind (watch x.source) (classes x n) (call x n) x.source.globals x.variables (target ∷ []) t in
-    set_works x gives (means x e) t target r.0 go b0 b1 b2 room cx sets (λ n w s kind. bound x n target t s w variable kind)
-
--- the register of the value has the variable's type
-pub assignment_takes : (x : Setting) (target : TypedTarget) (e : TypedExpr) (b0 b1 : Building) (r : ℕ) → IsVariable x.source x.variables None target (type_of e) → HasRoom x b0 → Emits x e b0 b1 r → TakesRegister x.source x.frame target r b1
-assignment_takes x target e b0 b1 r variable room cx = (x.variables, type_of e, room_on x b0 b1 cx.extends room, variable, cx.type)
 
 -- ---- updates
 
@@ -158,11 +87,11 @@ pub bare_simple : (t : Sort) → is_scalar t ≡ true → bare t ≡ t
 bare_simple (sort.Optional t) h = absurd (cc)
 bare_simple t h = refl
 
-reads_so : (x : Setting) (target : TypedTarget) (t : Sort) (place : Span) → is_scalar t ≡ true → IsVariable x.source x.variables None target t → Reads x target (reading_of target t place)
-reads_so x (LocalTarget k) t place simple v n f s = ap (λ z. on_to (on_to (on_to (read_local x.variables k s) (watch x.source z)) f) (putting x n (LocalTarget k))) (ap bare (type_is x n (LocalTarget k) t v) ∙ bare_simple t simple)
-reads_so x (GlobalTarget i) t place simple v n f s = ap (λ z. on_to (on_to (on_to (read_global x.source.globals i s) (watch x.source z)) f) (putting x n (GlobalTarget i))) (ap bare (type_is x n (GlobalTarget i) t v) ∙ bare_simple t simple)
-reads_so x (AttrTarget a name) t place simple v n f s = absurd v
-reads_so x (ItemTarget a i) t place simple v n f s = absurd v
+reads_so : (x : Setting) (target : TypedTarget) (own : Sort) (place : Span) → IsVariable x.source x.variables None target own → Reads x target (reading_of target (bare own) place)
+reads_so x (LocalTarget k) own place v n f s = ap (λ z. on_to (on_to (on_to (read_local x.variables k s) (watch x.source z)) f) (putting x n (LocalTarget k))) (ap bare (type_is x n (LocalTarget k) own v))
+reads_so x (GlobalTarget i) own place v n f s = ap (λ z. on_to (on_to (on_to (read_global x.source.globals i s) (watch x.source z)) f) (putting x n (GlobalTarget i))) (ap bare (type_is x n (GlobalTarget i) own v))
+reads_so x (AttrTarget a name) own place v n f s = absurd v
+reads_so x (ItemTarget a i) own place v n f s = absurd v
 
 whole_simple : (t : Sort) → is_whole t ≡ true → is_scalar t ≡ true
 whole_simple sort.Int k = refl
@@ -192,9 +121,10 @@ module _ (m : TypedModule) (vs : List Variable) where
   one_sort (ItemTarget e i) t u v w = absurd v
 
   -- so an update suits the type that was found
-  pub own_suits : (target : TypedTarget) (op : BinOp) (own t w : Sort) → IsVariable m vs None target own → VariableUpdates m vs None target op t w → UpdateSuits m vs None op own t w
-  own_suits target op own t w is updates =
-      subst (λ z. UpdateSuits m vs None op z t w) (one_sort target updates.0 own updates.1 is) updates.2
+  pub own_updates : (target : TypedTarget) (op : BinOp) (own t w : Sort) → IsVariable m vs None target own → VariableUpdates m vs None target op t w → IsRead m vs None target (bare own) × UpdateSuits m vs None op (bare own) t w × (fits m.classes.classes t own ≡ true) × (is_flat own ≡ true)
+  own_updates target op own t w is updates =
+      let P : Sort → Type 0 = λ z. IsRead m vs None target (bare z) × UpdateSuits m vs None op (bare z) t w × (fits m.classes.classes t z ≡ true) × (is_flat z ≡ true) in
+      subst P (one_sort target updates.0 own updates.1 is) (updates.2, updates.3, updates.4, updates.5)
 
   -- the type of what is updated
   pub updated_simple : (op : BinOp) (u t w : Sort) → UpdateSuits m vs None op u t w → is_scalar u ≡ true
@@ -230,14 +160,15 @@ module _ (m : TypedModule) (vs : List Variable) where
       subst P (sym h.1.0) (subst Q (sym h.0) refl)
 
   -- a variable that is read suits
-  pub reading_suits : (target : TypedTarget) (t : Sort) (place : Span) → IsVariable m vs None target t → Suits m vs (reading_of target t place)
-  reading_suits (LocalTarget k) t place v = (v.0, v.1, inl v.2)
-  reading_suits (GlobalTarget i) t place v = (v.0, v.1, v.2)
+  pub reading_suits : (target : TypedTarget) (t : Sort) (place : Span) → IsRead m vs None target t → Suits m vs (reading_of target t place)
+  reading_suits (LocalTarget k) t place v = v
+  reading_suits (GlobalTarget i) t place v = v
   reading_suits (AttrTarget a name) t place v = absurd v
   reading_suits (ItemTarget a i) t place v = absurd v
 
--- a variable of a type is read, the operation is done in a second one, and its result put into the variable
-module _ (x : Setting) (target : TypedTarget) (op : BinOp) (own t : Sort) (before e : TypedExpr) (place : Span) (is : before ≡ reading_of target own place) (variable : IsVariable x.source x.variables None target own) (suits : UpdateSuits x.source x.variables None op own t (type_of e)) where
+-- a variable of a type is read, at the one under it where that is an Optional, the operation is done in another one, and its result put into
+-- the variable
+module _ (x : Setting) (target : TypedTarget) (op : BinOp) (own t : Sort) (before e : TypedExpr) (place : Span) (is : before ≡ reading_of target (bare own) place) (variable : IsVariable x.source x.variables None target own) (suits : UpdateSuits x.source x.variables None op (bare own) t (type_of e)) where
   -- the result of the operation
   abbrev result : Meaning Value
   result n s = on_to (means x before n s) (λ v s1. on_to (means x e n s1) (combined t op v))
@@ -248,12 +179,12 @@ module _ (x : Setting) (target : TypedTarget) (op : BinOp) (own t : Sort) (befor
 
   value_made : (b0 b1 b2 : Building) (q r : ℕ) → HasRoom x b0 → EmitsTwo x (update_binary op t) t before e b0 b1 q → Attempts (Shows own) b1 b2 r (rtype_of own) (ActsOn t q (coerced own)) → Computes x (Shows own) (rtype_of own) value b0 b2 r
   value_made b0 b1 b2 q r room two turned =
-      let goes : (v w : Value) → combined t op v w ≡ binary_goes (update_binary op t) t v w = update_goes x.source x.variables op own t (type_of e) suits in
+      let goes : (v w : Value) → combined t op v w ≡ binary_goes (update_binary op t) t v w = update_goes x.source x.variables op (bare own) t (type_of e) suits in
       computes_of x (Shows own) (rtype_of own) _ value b0 b2 r (λ n s i. on_to (on_to (means x before n s) (λ v s1. on_to (means x e n s1) (λ w. goes v w i))) (coerced own))
       (part_attempts x (Shows t) (Shows own) (rtype_of t) (rtype_of own) _ (coerced own) (ActsOn t q (coerced own)) b0 b1 b2 q r room two turned (λ v s regs k. record { v = v; shows = k; does = refl }))
 
   reads : Reads x target before
-  reads = let P : TypedExpr → Type 0 = λ z. Reads x target z in subst P (sym is) (reads_so x target own place (updated_simple x.source x.variables op own t (type_of e) suits) variable)
+  reads = let P : TypedExpr → Type 0 = λ z. Reads x target z in subst P (sym is) (reads_so x target own place variable)
 
   abbrev go : ℕ → Value → Does Flow
   go n w s = on_to (putting x n target w s) (λ u. give Goes)
@@ -273,6 +204,5 @@ module _ (x : Setting) (target : TypedTarget) (op : BinOp) (own t : Sort) (befor
       (λ n w s kind. assigned x n target own s w variable))
 
 -- the register of the value has the variable's type
-pub update_takes : (x : Setting) (target : TypedTarget) (op : BinOp) (own t w : Sort) (b0 b1 : Building) (r : ℕ) → IsVariable x.source x.variables None target own → UpdateSuits x.source x.variables None op own t w → HasRoom x b0 → Extends b0 b1 → HasType b1 r (rtype_of own) → TakesRegister x.source x.frame target r b1
-update_takes x target op own t w b0 b1 r variable suits room more type =
-    (x.variables, own, room_on x b0 b1 more room, variable, type)
+pub update_takes : (x : Setting) (target : TypedTarget) (own : Sort) (b0 b1 : Building) (r : ℕ) → IsVariable x.source x.variables None target own → HasRoom x b0 → Extends b0 b1 → HasType b1 r (rtype_of own) → TakesRegister x.source x.frame target r b1
+update_takes x target own b0 b1 r variable room more type = (x.variables, own, room_on x b0 b1 more room, variable, type)

@@ -28,8 +28,8 @@ pub use Rattle.ir_builder_loops_and_jumps.specs.declared.ways.LoopStart.{LoopSta
 pub use Rattle.ir_builder_operations.specs.Operating.{ActsOn, is_written}
 pub use Rattle.ir_builder_operations.specs.Selecting.{is_whole}
 pub use Rattle.ir_builder_statements.specs.Kinds.{GivesResult}
-pub use Rattle.ir_builder_statements.specs.Parts.{ComputesReturned, HasFlag, SetsGlobal, SetsLocal, SetsVariable, TakesGlobal, TakesRegister, TurnsInto, reading_of, update_binary, EmitsObject, changed_as}
-pub use Rattle.ir_builder_statements.specs.Suiting.{ActSuits, ArmsSuit, DoSuits, IsVariable, ListSuits, LoopSuits, PrintSuits, RangeSuits, ReturnSuits, StatementSuits, SuiteSuits, TestSuits, UpdateSuits, VariableUpdates, ItemSuits, ItemUpdates, TakesValue, TargetSuits, TargetUpdates}
+pub use Rattle.ir_builder_statements.specs.Parts.{ComputesReturned, HasFlag, SetsGlobal, SetsLocal, SetsVariable, TakesGlobal, TakesRegister, TurnsInto, reading_of, update_binary, changed_as}
+pub use Rattle.ir_builder_statements.specs.Suiting.{ActSuits, ArmsSuit, DoSuits, IsVariable, IsRead, ListSuits, LoopSuits, PrintSuits, RangeSuits, ReturnSuits, StatementSuits, SuiteSuits, TestSuits, UpdateSuits, VariableUpdates, ItemSuits, ItemUpdates, TakesValue, TargetTakes, TargetsTake, OneSuits, NoneFits, PartsSuit, TargetsSuit, TargetUpdates}
 pub use Rattle.ir_builder_frames.specs.Building.{Building, Extends, held}
 pub use Rattle.ir_core.specs.Building.{with_last}
 pub use Rattle.ir_core.specs.Registers.{Holds}

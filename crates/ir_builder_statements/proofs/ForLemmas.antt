@@ -1,5 +1,5 @@
 -- A `for` does in its code what it means.
-use Rattle.ir_builder_statements.proofs.Common.{◌≡◌, ℕ, zero, suc, ◌+◌, ◌<◌, ◌≤◌, true, false, List, [], ◌∷◌, length, map, get_or, Option, Some, None, refl, sym, ap, ◌∙◌, subst, arith, le_refl, pos, Bool, Value, Target, Sort, TExpr, TypedExpr, typed_expr, type_of, maybe_typed, is_whole, TypedTarget, LocalTarget, GlobalTarget, typed_target, State, Outcome, Gives, Raises, Stops, Does, on_to, give, coerced, Reg, Goto, Building, Extends, held, Setting, rtype_of, HasRoom, means, Shows, Meaning, Computes, Attempts, Closes, room_on, extends_trans, extends_refl, type_kept, ActsOn, IsVariable, SetsVariable, Holds, BoolType, Exit, LoopStart, left, planned, looping_to, EndsLoop, Begins, Works, open_on, stays_by}
+use Rattle.ir_builder_statements.proofs.Common.{◌≡◌, ℕ, zero, suc, ◌+◌, ◌<◌, ◌≤◌, true, false, List, [], length, Option, Some, None, refl, sym, ap, ◌∙◌, subst, arith, le_refl, pos, Bool, Value, Sort, TExpr, TypedExpr, typed_expr, type_of, maybe_typed, is_whole, TypedTarget, State, Outcome, Gives, Raises, Stops, Does, on_to, give, Reg, Goto, Building, Extends, held, Setting, rtype_of, HasRoom, means, Shows, Meaning, Computes, Attempts, Closes, room_on, extends_trans, extends_refl, type_kept, ActsOn, Holds, BoolType, Exit, LoopStart, left, planned, looping_to, EndsLoop, Begins, Works, open_on, stays_by}
 use Rattle.std.specs.Prelude.{ℤ, negsuc, ◌+ℤ◌, int_lt, nat_lt, cond, ◌-◌, ◌^◌}
 use Rattle.std.proofs.lemmas.Bool.Decides.{nat_tests}
 use Rattle.value_core.specs.Arithmetic.{lies_within}
@@ -9,7 +9,6 @@ use Rattle.py_typed.specs.Sorts.{sort as sort_of}
 use Rattle.py_typed.proofs.ExpressionLemmas.{type_at}
 use Rattle.py_typed.specs.Expressions.{typed}
 use Rattle.py_typed.specs.Classes.{ClassEntry}
-use Rattle.py_typed.specs.Fits.{fits}
 use Rattle.source_meaning.specs.State.{needs}
 use Rattle.source_meaning.specs.Operations.{with_number}
 use Rattle.source_meaning.specs.WaysOut.{Flow, Goes, flow_on, loop}
@@ -17,30 +16,27 @@ use Rattle.source_soundness.specs.Shapes.{has_shape}
 use Rattle.source_soundness.proofs.Inverse.{int_shape, native_shape}
 use Rattle.ir_core.specs.declared.code.RType.{RType}
 use Rattle.ir_core.specs.declared.code.Program.{Program}
-use Rattle.ir_core.specs.Meaning.{Config, Waiting}
+use Rattle.ir_core.specs.Meaning.{Waiting}
 use Rattle.ir_core.specs.Registers.{Regs}
 use Rattle.ir_builder_frames.specs.Placing.{Placed}
 use Rattle.ir_builder_frames.specs.Coming.{world, running, Ends}
 use Rattle.ir_builder_frames.specs.Matching.{HasKind, Matches, SameIn, IsKept, BackBelow, Stands, IsThrown, CallsWork}
-use Rattle.ir_builder_frames.specs.Computing.{means_node, Arrives, Makes}
-use Rattle.ir_builder_frames.proofs.ComingLemmas.{ends_of, ends_on, ends_now, ends_from, ends_needed, ends_map, ends_at}
+use Rattle.ir_builder_frames.specs.Computing.{means_node, Makes}
+use Rattle.ir_builder_frames.proofs.ComingLemmas.{ends_of, ends_on, ends_now, ends_needed, ends_map}
 use Rattle.ir_builder_frames.proofs.HeldLemmas.{type_below, placed_part}
 use Rattle.ir_builder_frames.proofs.MatchLemmas.{match_kept, thrown_from, computes_then, computes_of, made_computes, makes_arrives}
 use Rattle.ir_builder_frames.proofs.WatchLemmas.{watched_as}
-use Rattle.ir_builder_operations.specs.Converting.{is_flat}
 use Rattle.ir_builder_expressions.specs.Parts.{is_i64}
 use Rattle.ir_builder_expressions.proofs.FollowLemmas.{part_attempts}
 use Rattle.ir_builder_loops_and_jumps.specs.Around.{Splits}
 use Rattle.ir_builder_loops_and_jumps.specs.Loops.{Asks, WorksAt, Steps}
 use Rattle.ir_builder_loops_and_jumps.specs.Means.{means_start, means_bound, means_range}
 use Rattle.ir_builder_loops_and_jumps.specs.Runs.{Flows}
-use Rattle.ir_builder_loops_and_jumps.specs.Simple.{storing, is_there, with_value, Sets}
 use Rattle.ir_builder_loops_and_jumps.proofs.FlowLemmas.{then_at, flows_from}
 use Rattle.ir_builder_loops_and_jumps.proofs.LoopLemmas.{loop_works}
-use Rattle.ir_builder_statements.specs.Suiting.{NameTakes, OneTakes, StartSuits, RangeSuits}
+use Rattle.ir_builder_statements.specs.Suiting.{StartSuits, RangeSuits}
 use Rattle.ir_builder_statements.specs.declared.counting.Counter.{Counter}
 use Rattle.ir_builder_statements.specs.Counting.{number_sort, is_in_range, Copies, ComputesNew, FindsLess, CountsOn, StepsOn, Binds, Ranges}
-use Rattle.ir_builder_statements.proofs.AssignLemmas.{bound_as, one_sort}
 use Rattle.ir_builder_statements.proofs.CountLemmas.{number_kind, zero_in}
 
 -- ---- numbers
@@ -84,13 +80,13 @@ abbrev StartType : Sort → Option TypedExpr → Type 0
 StartType t None = Unit {0}
 StartType t (Some e) = type_of e ≡ t
 
-abbrev seen : {B : Type 0} (x : Setting) (t : Sort) → (Value → Does B) → Value → Does B
+abbrev pub seen : {B : Type 0} (x : Setting) (t : Sort) → (Value → Does B) → Value → Does B
 seen x t f v s = needs (has_shape x.source.classes.classes s.store t v) (f v) s
 
-seen_so : {B : Type 0} (x : Setting) (t : Sort) (f : Value → Does B) (v : Value) (s : State) → has_shape x.source.classes.classes s.store t v ≡ true → f v s ≡ seen x t f v s
+pub seen_so : {B : Type 0} (x : Setting) (t : Sort) (f : Value → Does B) (v : Value) (s : State) → has_shape x.source.classes.classes s.store t v ≡ true → f v s ≡ seen x t f v s
 seen_so x t f v s h = ap (λ b. needs b (f v) s) (sym h)
 
-value_seen : {B : Type 0} (x : Setting) (e : TypedExpr) (n : ℕ) (s : State) (f : Value → Does B) → on_to (means x e n s) f ≡ on_to (means x e n s) (seen x (type_of e) f)
+pub value_seen : {B : Type 0} (x : Setting) (e : TypedExpr) (n : ℕ) (s : State) (f : Value → Does B) → on_to (means x e n s) f ≡ on_to (means x e n s) (seen x (type_of e) f)
 value_seen x (typed k t place) n s f = watched_as x.source t (means_node x k t n s) f (seen x t f) (λ v u h. seen_so x t f v u h)
 
 zero_shape : (classes : List ClassEntry) (store : Store) (n : Bool) → has_shape classes store (number_sort n) (IntVal (pos 0)) ≡ true
@@ -115,16 +111,18 @@ as_given (Raises v s) = refl
 as_given (Stops w s) = refl
 
 -- a value that is computed and copied
+pub copy_attempts : (t : Sort) (u : RType) (b c : Building) (r q : ℕ) → Makes b c q u (Copies r) → Attempts (Shows t) b c q u (ActsOn t r give)
+copy_attempts t u b c r q made = record {
+  extends = made.extends;
+  type = made.type;
+  runs = λ p fn h at y here regs below s match res f. makes_arrives p fn (Shows t) (Copies r) b c q u below (length b.regs) regs regs s s f.v (Holds f.v) res (IsThrown fn h below y (length b.regs) regs) made at.has (le_refl _) (λ j lt. refl) refl f.does (f.v, f.shows.0, refl) (refl, f.shows.1);
+}
+
 pub copy_computes : (x : Setting) (t : Sort) (u : RType) (m : Meaning Value) (b0 b1 b2 : Building) (r q : ℕ) → HasRoom x b0 → Computes x (Shows t) (rtype_of t) m b0 b1 r → u ≡ rtype_of t → Makes b1 b2 q u (Copies r) → ComputesNew x t m b0 b2 q
 copy_computes x t u m b0 b1 b2 r q room c is made =
     let g1 = c.extends.regs_grow in let above = made.above in
-    let copy : Attempts (Shows t) b1 b2 q u (ActsOn t r give) = record {
-      extends = made.extends;
-      type = made.type;
-      runs = λ p fn h at y here regs below s match res f. makes_arrives p fn (Shows t) (Copies r) b1 b2 q u below (length b1.regs) regs regs s s f.v (Holds f.v) res (IsThrown fn h below y (length b1.regs) regs) made at.has (le_refl _) (λ j lt. refl) refl f.does (f.v, f.shows.0, refl) (refl, f.shows.1);
-    } in
     let P : RType → Type 0 = λ z. Computes x (Shows t) z (λ n s. on_to (m n s) give) b0 b2 q in
-    let given = subst P is (part_attempts x (Shows t) (Shows t) (rtype_of t) u m give (ActsOn t r give) b0 b1 b2 r q room c copy (λ v s regs k. record { v = v; shows = k; does = refl })) in
+    let given = subst P is (part_attempts x (Shows t) (Shows t) (rtype_of t) u m give (ActsOn t r give) b0 b1 b2 r q room c (copy_attempts t u b1 b2 r q made) (λ v s regs k. record { v = v; shows = k; does = refl })) in
     (omega arith, computes_of x (Shows t) (rtype_of t) (λ n s. on_to (m n s) give) m b0 b2 q (λ n s. as_given (m n s)) given)
 
 pub start_given : (x : Setting) (t : Sort) (o : Option TExpr) (e : TExpr) (b c : Building) (r : ℕ) → o ≡ Some e → StartSuits x.source x.variables None (maybe_typed o) t → ComputesNew x (type_of (typed_expr e)) (means x (typed_expr e)) b c r → ComputesNew x t (means_start x (maybe_typed o)) b c r
@@ -142,54 +140,6 @@ start_none x n o b c r is made =
 start_type : (x : Setting) (o : Option TypedExpr) (t : Sort) → StartSuits x.source x.variables None o t → StartType t o
 start_type x None t h = tt
 start_type x (Some e) t h = h.0
-
--- the target that stands alone
-pub one_name : (x : Setting) (targets : List Target) (target : Target) (t : Sort) → target ≡ get_or targets 0 target → OneTakes x.source x.variables None (map typed_target targets) t → (map typed_target targets ≡ typed_target target ∷ []) × NameTakes x.source x.variables None (typed_target target) t
-one_name x [] target t is only = absurd only
-one_name x (u ∷ []) target t is only =
-    let P : Target → Type 0 = λ z. NameTakes x.source x.variables None (typed_target z) t in
-    (ap (λ z. typed_target z ∷ []) (sym is), subst P (sym is) only)
-one_name x (u ∷ w ∷ targets) target t is only = absurd only
-
--- ---- what is bound
-
-turns_same : (target : TypedTarget) (v : Value) (s : State) → (with_value target v s).turns ≤ s.turns
-turns_same (LocalTarget k) v s = le_refl s.turns
-turns_same (GlobalTarget k) v s = le_refl s.turns
-turns_same target v s = le_refl s.turns
-
--- a value that a variable takes fits the type that was found
-pub name_fits : (x : Setting) (target : TypedTarget) (t own : Sort) → NameTakes x.source x.variables None target t → IsVariable x.source x.variables None target own → (fits x.source.classes.classes t own ≡ true) × (is_flat own ≡ true)
-name_fits x target t own takes is =
-    let P : Sort → Type 0 = λ z. (fits x.source.classes.classes t z ≡ true) × (is_flat z ≡ true) in
-    subst P (one_sort x.source x.variables target takes.0 own takes.1 is) (takes.2, takes.3)
-
--- a value that is turned into one of a variable's type and put into it
-pub name_binds : (x : Setting) (target : TypedTarget) (t u : Sort) (r q : ℕ) (b0 b1 b2 : Building) → HasRoom x b0 → IsVariable x.source x.variables None target u → fits x.source.classes.classes t u ≡ true → Attempts (Shows u) b0 b1 q (rtype_of u) (ActsOn t r (coerced u)) → SetsVariable x.source x.frame target q b1 b2 → Binds x target t r b0 b2
-name_binds x target t u r q b0 b1 b2 room is fit a puts =
-    let sets : Sets x target q b1 b2 = puts x.variables u (room_on x b0 b1 a.extends room) is a.type in
-    let k1 = a.extends.blocks_grow in
-    let g1 = a.extends.regs_grow in
-    record {
-      extends = extends_trans b0 b1 b2 a.extends sets.extends;
-      runs = λ p fn h at n calls v regs below s shows match.
-          let R : Unit {0} → State → Config → Type 0 = λ w s1 d. Stands fn (length b2.blocks) (length b2.ops) below None x (length b0.regs) regs s1 d in
-          let T = IsThrown fn h below x (length b0.regs) regs in
-          ends_of p s.turns _ (means_bound x (target ∷ []) t v n s) (on_to (coerced u v s) (storing target)) R T (bound_as x n target t u s v is fit)
-          (ends_on p s.turns _ (coerced u v s) (Arrives (Shows u) fn (length b1.blocks) (length b1.ops) below (length b0.regs) regs s q) T T (storing target) R (a.runs p fn h (placed_part p fn b0 b0 b1 b2 h (le_refl _) sets.extends at) x room regs below s match (coerced u v s) record { v = v; shows = shows; does = refl })
-          (λ w s1 d le y.
-          let here : Config = running fn (length b1.blocks) (length b1.ops) y.now below (world None s1) in
-          let top = room.top in
-          let match1 : Matches x y.now s1 = match_kept x b0 regs y.now s s1 room (λ j lt. y.kept j (omega arith)) y.same match in
-          let s2 : State = with_value target w s1 in
-          ends_at p s1.turns here d (storing target w s1) R T y.is
-          (ends_needed p s1.turns here (is_there target s1) (λ z. Gives tt (with_value target w z)) s1 R T
-          (λ there.
-          let done = sets.does p fn at.has calls.variables y.now below s1 w match1 y.shows.0 there in
-          ends_from p s2.turns s1.turns here _ (Gives tt s2) R T (turns_same target w s1) done.1
-          (ends_now p tt s2 _ R T record { now = done.0; is = refl; match = done.2; kept = λ j above lt o. done.3 j above ∙ y.kept j lt }))))
-          (λ e s1 d z. z));
-    }
 
 -- ---- the parts of a loop over a range
 
@@ -251,7 +201,7 @@ module _ (x : Setting) (n : Bool) (q q' : ℕ) (j : ℤ) (b0 : Building) (room :
         (done.0, done.1, (done.2, done.4 q' low (λ e. omega arith) ∙ held.0.1, further), done.3, λ i above lt o. done.4 i (omega arith) (λ e. omega arith));
   }
 
--- ---- a body behind the binding of its variable
+-- ---- a body behind the binding of its targets
 
 goes_on : (o : Outcome (Unit {0})) (f : Does Flow) → on_to (on_to o (λ u. give Goes)) (flow_on f) ≡ on_to o (λ u. f)
 goes_on (Gives u s) f = refl
@@ -261,7 +211,7 @@ goes_on (Stops w s) f = refl
 -- what comes before the body of a turn
 pub record Prepares {X : Type 0} (x : Setting) (Inside : X → Regs → Type 0) (m : X → Meaning (Unit {0})) (old new : Building) : Type 0 where
   pub extends : Extends old new
-  pub runs : (p : Program) (fn : ℕ) (h : Option ℕ) → Placed p fn old new h → (n : ℕ) → CallsWork p x.source n → (i : X) (regs : Regs) (below : List Waiting) (s : State) → Inside i regs → Matches x regs s → Ends p s.turns (running fn (length old.blocks) (length old.ops) regs below (world None s)) (m i n s) (λ u s1 d. Stands fn (length new.blocks) (length new.ops) below None x (length old.regs) regs s1 d) (IsThrown fn h below x (length old.regs) regs)
+  pub runs : (p : Program) (fn : ℕ) (h : Option ℕ) → Placed p fn old new h → (n : ℕ) → CallsWork p x.source n → (i : X) (regs : Regs) (below : List Waiting) (s : State) → Inside i regs → Matches x regs s → s.turns ≤ n → Ends p s.turns (running fn (length old.blocks) (length old.ops) regs below (world None s)) (m i n s) (λ u s1 d. Stands fn (length new.blocks) (length new.ops) below None x (length old.regs) regs s1 d) (IsThrown fn h below x (length old.regs) regs)
 
 pub body_works : {X : Type 0} (x : Setting) (result : Option Sort) (Inside : X → Regs → Type 0) (first : X → Meaning (Unit {0})) (m : Meaning Flow) (b3 b4 b5 : Building) (xs : List Exit) → Prepares x Inside first b3 b4 → Works x result m b4 b5 xs → WorksAt x result Inside (λ i n s. on_to (first i n s) (λ u. m n)) (length b3.regs) b3 b5 xs
 body_works {X = X} x result Inside first m b3 b4 b5 xs q w =
@@ -272,7 +222,7 @@ body_works {X = X} x result Inside first m b3 b4 b5 xs q w =
       runs = λ p fn h to at jumps n calls i regs below s held match le.
           let R = Flows p result fn (length b4.blocks) (length b4.ops) to [] below x (length b3.regs) regs in
           let T = IsThrown fn h below x (length b3.regs) regs in
-          ends_on p s.turns _ (first i n s) (λ u s1 d. Stands fn (length b4.blocks) (length b4.ops) below None x (length b3.regs) regs s1 d) T T (λ u. give Goes) R (q.runs p fn h at n calls i regs below s held match)
+          ends_on p s.turns _ (first i n s) (λ u s1 d. Stands fn (length b4.blocks) (length b4.ops) below None x (length b3.regs) regs s1 d) T T (λ u. give Goes) R (q.runs p fn h at n calls i regs below s held match le)
           (λ u s1 d le1 z. ends_now p Goes s1 d R T z)
           (λ v s1 d z. z);
     } in
@@ -285,12 +235,16 @@ body_works {X = X} x result Inside first m b3 b4 b5 xs q w =
     }
 
 -- a value in a register is bound
-bound_first : {X : Type 0} (x : Setting) (Inside : X → Regs → Type 0) (target : TypedTarget) (t : Sort) (r : ℕ) (value : X → Value) (b3 b4 : Building) → ((i : X) (regs : Regs) → Inside i regs → Shows t (value i) (regs r)) → Binds x target t r b3 b4 → Prepares x Inside (λ i. means_bound x (target ∷ []) t (value i)) b3 b4
-bound_first x Inside target t r value b3 b4 shows q = record { extends = q.extends; runs = λ p fn h at n calls i regs below s held match. q.runs p fn h at n calls (value i) regs below s (shows i regs held) match }
+bound_first : {X : Type 0} (x : Setting) (Inside : X → Regs → Type 0) (targets : List TypedTarget) (t : Sort) (r : ℕ) (value : X → Value) (b3 b4 : Building) → ((i : X) (regs : Regs) → Inside i regs → Shows t (value i) (regs r)) → ((i : X) (regs : Regs) (store : Store) → Inside i regs → has_shape x.source.classes.classes store t (value i) ≡ true) → Binds x targets t r b3 b4 → Prepares x Inside (λ i. means_bound x targets t (value i)) b3 b4
+bound_first x Inside targets t r value b3 b4 shows shapes q = record { extends = q.extends; runs = λ p fn h at n calls i regs below s held match le. q.runs p fn h at n calls (value i) regs below s (shows i regs held) (shapes i regs s.store held) match le }
+
+number_shape : (classes : List ClassEntry) (store : Store) (n : Bool) (k : ℤ) → is_in_range (number_sort n) k ≡ true → has_shape classes store (number_sort n) (IntVal k) ≡ true
+number_shape classes store true k h = h
+number_shape classes store false k h = h
 
 -- ---- the whole loop over a range
 
-module _ (x : Setting) (n : Bool) (target : TypedTarget) (start : Option TypedExpr) (stop : TypedExpr) (q q' : ℕ) (b0 c1 c2 b1 b3 b4 : Building) (o : LoopStart) (native : number_sort n ≡ type_of stop) (suits : StartType (number_sort n) start) (room : HasRoom x b0) (first : ComputesNew x (number_sort n) (means_start x start) b0 c1 q) (second : ComputesNew x (number_sort n) (means x stop) c1 c2 q') (is_head : o.head ≡ length b1.blocks) (head : Closes c2 b1 (Goto o.head)) (splits : Splits (FindsLess (number_sort n) q q' b1) b3 o.test) (binds : Binds x target (type_of stop) q b3 b4) where
+module _ (x : Setting) (n : Bool) (targets : List TypedTarget) (start : Option TypedExpr) (stop : TypedExpr) (q q' : ℕ) (b0 c1 c2 b1 b3 b4 : Building) (o : LoopStart) (native : number_sort n ≡ type_of stop) (suits : StartType (number_sort n) start) (room : HasRoom x b0) (first : ComputesNew x (number_sort n) (means_start x start) b0 c1 q) (second : ComputesNew x (number_sort n) (means x stop) c1 c2 q') (is_head : o.head ≡ length b1.blocks) (head : Closes c2 b1 (Goto o.head)) (splits : Splits (FindsLess (number_sort n) q q' b1) b3 o.test) (binds : Binds x targets (type_of stop) q b3 b4) where
   abbrev t : Sort
   t = number_sort n
 
@@ -307,7 +261,7 @@ module _ (x : Setting) (n : Bool) (target : TypedTarget) (start : Option TypedEx
   to_test = extends_trans b1 splits.middle b3 splits.answered.extends splits.closes.extends
 
   abbrev goes_over : Meaning Flow → ℕ → ℤ → ℤ → Does Flow
-  goes_over m k j = loop (suc k) (λ z. give (int_lt z j)) (λ z s. on_to (means_bound x (target ∷ []) (type_of stop) (IntVal z) k s) (λ u. m k)) (λ z. z +ℤ pos 1)
+  goes_over m k j = loop (suc k) (λ z. give (int_lt z j)) (λ z s. on_to (means_bound x targets (type_of stop) (IntVal z) k s) (λ u. m k)) (λ z. z +ℤ pos 1)
 
   module _ (result : Option Sort) (m : Meaning Flow) (b5 b6 b7 b9 : Building) (next : ℕ) (xs x0 x1 : List Exit) (w : Works x result m b4 b5 xs) (is_next : next ≡ length b6.blocks) (closes : Closes b5 b6 (Goto next)) (steps : CountsOn t q b6 b7) (l : EndsLoop b7 b9 o next xs x0 x1) where
     abbrev ys : List Exit
@@ -322,11 +276,11 @@ module _ (x : Setting) (n : Bool) (target : TypedTarget) (start : Option TypedEx
         let low = below_end in
         let room1 = room_on x b0 b1 (extends_trans b0 c2 b1 bounds_extend head.extends) room in
         let split : Splits (λ c r. Asks x (Ranging n q q' j) (RangingOn n q q' j) (λ k i. give (int_lt k j)) b1 c r) b3 o.test = record { middle = splits.middle; answered = range_asks x n q q' j b0 room first.0 rise far b1 splits.middle o.test.condition.0 (omega arith) room1 splits.answered; block = splits.block; closes = splits.closes; start = splits.start } in
-        loop_works x result (Ranging n q q' j) (RangingOn n q q' j) (λ k i. give (int_lt k j)) (λ z k s. on_to (means_bound x (target ∷ []) (type_of stop) (IntVal z) k s) (λ u. m k)) (λ k. k +ℤ pos 1) (length b0.regs) c2 b1 b3 b5 b6 b7 b9 o next xs x0 x1 g0 (inside_kept x n q q' j b0 room first.0 rise far b3 (omega arith)) is_head head split
-        (body_works x result (RangingOn n q q' j) (λ k. means_bound x (target ∷ []) (type_of stop) (IntVal k)) m b3 b4 b5 xs (bound_first x (RangingOn n q q' j) target (type_of stop) q (λ k. IntVal k) b3 b4 (λ k regs held. (held.0.0, subst (λ z. HasKind z (IntVal k)) native (number_kind n k held.0.2))) binds) w)
+        loop_works x result (Ranging n q q' j) (RangingOn n q q' j) (λ k i. give (int_lt k j)) (λ z k s. on_to (means_bound x targets (type_of stop) (IntVal z) k s) (λ u. m k)) (λ k. k +ℤ pos 1) (length b0.regs) c2 b1 b3 b5 b6 b7 b9 o next xs x0 x1 g0 (inside_kept x n q q' j b0 room first.0 rise far b3 (omega arith)) is_head head split
+        (body_works x result (RangingOn n q q' j) (λ k. means_bound x targets (type_of stop) (IntVal k)) m b3 b4 b5 xs (bound_first x (RangingOn n q q' j) targets (type_of stop) q (λ k. IntVal k) b3 b4 (λ k regs held. (held.0.0, subst (λ z. HasKind z (IntVal k)) native (number_kind n k held.0.2))) (λ k regs store held. subst (λ z. has_shape x.source.classes.classes store z (IntVal k) ≡ true) native (number_shape x.source.classes.classes store n k held.0.2)) binds) w)
         is_next closes (range_steps x n q q' j b0 room first.0 rise far b6 b7 (omega arith) (room_on x b1 b6 to_step room1) steps) l
 
-    range_works : Works x result (means_range x (target ∷ []) start stop m) b0 b9 ys
+    range_works : Works x result (means_range x targets start stop m) b0 b9 ys
     range_works =
         let any = loops (pos 0) (zero_in n) in
         let k0 = bounds_extend.blocks_grow in let k1 = first.1.extends.blocks_grow in let k2 = second.1.extends.blocks_grow in
@@ -344,7 +298,7 @@ module _ (x : Setting) (n : Bool) (target : TypedTarget) (start : Option TypedEx
               let p2 = placed_part p fn b0 c1 c2 b9 h k1 x29 at in
               let p3 = placed_part p fn b0 c2 b9 b9 h k0 (extends_refl b9) at in
               let low = type_below c1 q (rtype_of t) first.1.type in
-              ends_of p s.turns _ (means_range x (target ∷ []) start stop m k s) (on_to (means_start x start k s) (seen x t behind)) R T (start_seen x n start k s behind suits)
+              ends_of p s.turns _ (means_range x targets start stop m k s) (on_to (means_start x start k s) (seen x t behind)) R T (start_seen x n start k s behind suits)
               (computes_then p fn h below x k calls (Shows t) (rtype_of t) (means_start x start) b0 c1 q regs s (seen x t behind) R (length b0.regs) regs first.1 p1 room (le_refl _) (λ j a z i. refl) match le
               (λ now v s1 le1 shows kept same1 match1.
               ends_needed p s1.turns _ (has_shape x.source.classes.classes s1.store t v) (behind v) s1 R T
@@ -365,7 +319,7 @@ module _ (x : Setting) (n : Bool) (target : TypedTarget) (start : Option TypedEx
               ((loops j.0 j.2).runs p fn h to p3 jumps k calls i.0 now2 below s2 held match2 le2))))))));
         }
 
-  pub range_begins : Begins x (CountsOn t q) (means_range x (target ∷ []) start stop) b0 b4 o
+  pub range_begins : Begins x (CountsOn t q) (means_range x targets start stop) b0 b4 o
   range_begins =
       let n1 = head.blocks in let k0 = bounds_extend.blocks_grow in let k2 = splits.answered.extends.blocks_grow in let n3 = splits.closes.blocks in let k4 = binds.extends.blocks_grow in
       let is_block = splits.block in let is_start = splits.start in
@@ -378,11 +332,8 @@ module _ (x : Setting) (n : Bool) (target : TypedTarget) (start : Option TypedEx
       }
 
 -- a loop over a range was begun
-pub range_begun : (x : Setting) (targets : List Target) (target : Target) (start : Option TExpr) (stop : TExpr) (c : Counter) (q' : ℕ) (b0 c2 b1 b3 b4 : Building) (o : LoopStart) → target ≡ get_or targets 0 target → RangeSuits x.source x.variables None (map typed_target targets) (maybe_typed start) (typed_expr stop) → HasRoom x b0 → Ranges x (maybe_typed start) (typed_expr stop) b0 c2 c q' → o.head ≡ length b1.blocks → Closes c2 b1 (Goto o.head) → Splits (FindsLess (number_sort c.native) c.reg.0 q' b1) b3 o.test → Binds x (typed_target target) (sort_of stop.ty) c.reg.0 b3 b4 → Begins x (StepsOn (Some c)) (means_range x (map typed_target targets) (maybe_typed start) (typed_expr stop)) b0 b4 o
-range_begun x targets target start stop c q' b0 c2 b1 b3 b4 o is suits room g is_head head splits binds =
-    let one = one_name x targets target (type_of (typed_expr stop)) is suits.3 in
-    let P : List TypedTarget → Type 0 = λ z. Begins x (StepsOn (Some c)) (means_range x z (maybe_typed start) (typed_expr stop)) b0 b4 o in
+pub range_begun : (x : Setting) (targets : List TypedTarget) (start : Option TExpr) (stop : TExpr) (c : Counter) (q' : ℕ) (b0 c2 b1 b3 b4 : Building) (o : LoopStart) → RangeSuits x.source x.variables None targets (maybe_typed start) (typed_expr stop) → HasRoom x b0 → Ranges x (maybe_typed start) (typed_expr stop) b0 c2 c q' → o.head ≡ length b1.blocks → Closes c2 b1 (Goto o.head) → Splits (FindsLess (number_sort c.native) c.reg.0 q' b1) b3 o.test → Binds x targets (sort_of stop.ty) c.reg.0 b3 b4 → Begins x (StepsOn (Some c)) (means_range x targets (maybe_typed start) (typed_expr stop)) b0 b4 o
+range_begun x targets start stop c q' b0 c2 b1 b3 b4 o suits room g is_head head splits binds =
     let Q : Sort → Type 0 = λ z. StartSuits x.source x.variables None (maybe_typed start) z in
-    let R : Sort → Type 0 = λ z. Binds x (typed_target target) z c.reg.0 b3 b4 in
-    subst P (sym one.0)
-    (range_begins x c.native (typed_target target) (maybe_typed start) (typed_expr stop) c.reg.0 q' b0 g.middle c2 b1 b3 b4 o g.type (start_type x (maybe_typed start) (number_sort c.native) (subst Q (sym g.type) suits.1)) room g.first g.second is_head head splits (subst R (sym (type_at stop)) binds))
+    let R : Sort → Type 0 = λ z. Binds x targets z c.reg.0 b3 b4 in
+    range_begins x c.native targets (maybe_typed start) (typed_expr stop) c.reg.0 q' b0 g.middle c2 b1 b3 b4 o g.type (start_type x (maybe_typed start) (number_sort c.native) (subst Q (sym g.type) suits.1)) room g.first g.second is_head head splits (subst R (sym (type_at stop)) binds)

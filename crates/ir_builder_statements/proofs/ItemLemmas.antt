@@ -1,5 +1,5 @@
--- Assignments to items of lists do in their code what they mean.
-use Rattle.ir_builder_statements.proofs.Common.{◌≡◌, ℕ, arith, le_refl, length, List, [], ◌∷◌, Option, None, refl, sym, ap, ◌∙◌, subst, inl, inr, if◌then◌else◌, true, Value, Sort, TypedExpr, type_of, TypedModule, Variable, ItemTarget, State, Outcome, Gives, Raises, Stops, Does, on_to, give, coerced, combined, Reg, Building, Extends, extends_refl, extends_trans, Setting, rtype_of, HasRoom, type_kept, means, Shows, Meaning, Computes, Attempts, room_on, ActsOn, is_whole, is_scalar, BinarySuits, binary_goes, Emits, EmitsObject, changed_as, ItemSuits, ItemUpdates, UpdateSuits, means_assignment, means_update, Works, works_of, alone_works, BinOp, sort_step}
+-- Updates of items of lists do in their code what they mean.
+use Rattle.ir_builder_statements.proofs.Common.{◌≡◌, ℕ, arith, le_refl, length, List, [], ◌∷◌, Option, None, refl, sym, ap, ◌∙◌, subst, inl, inr, true, Value, Sort, TypedExpr, type_of, TypedModule, Variable, ItemTarget, State, Outcome, Gives, Raises, Stops, Does, on_to, give, coerced, combined, Reg, Building, Extends, extends_refl, extends_trans, Setting, rtype_of, HasRoom, type_kept, means, Shows, Meaning, Computes, Attempts, room_on, ActsOn, is_whole, is_scalar, BinarySuits, binary_goes, Emits, changed_as, ItemSuits, ItemUpdates, UpdateSuits, means_update, Works, works_of, alone_works, BinOp, sort_step}
 use borrow.Author.Tests.{clash}
 use Rattle.value_core.specs.Value.{BoolVal}
 use Rattle.py_syntax.specs.declared.expression.BinOp.TheVariants.{Add}
@@ -8,14 +8,11 @@ use Rattle.py_typed.specs.declared.types.Ty.TheOpen.{Ty-F}
 use Rattle.py_typed.specs.declared.types.Ty.TheVariants as declared
 use Rattle.py_typed.specs.Sorts as sort
 use Rattle.py_typed.specs.Sorts.{sort as sort_of}
-use Rattle.py_typed.specs.Classes.{ClassEntry}
-use Rattle.py_typed.specs.Fits.{fits}
 use Rattle.py_typed.specs.TargetTypes.{item_sort}
-use Rattle.py_typed.proofs.FitLemmas.{fits_itself}
-use Rattle.source_meaning.specs.State.{Stuck, stop}
+use Rattle.source_meaning.specs.State.{Stuck}
 use Rattle.source_meaning.specs.Operations.{arithmetic, joined, item_at, list_item, set_item, set_list_item}
 use Rattle.source_meaning.specs.WaysOut.{Flow, Goes}
-use Rattle.source_soundness.specs.Watched.{bare, bind, unpack}
+use Rattle.source_soundness.specs.Watched.{bare}
 use Rattle.ir_core.specs.Registers.{Regs}
 use Rattle.ir_core.specs.declared.code.RType.{RType}
 use Rattle.ir_core.specs.declared.code.RType.TheVariants as rtype
@@ -23,7 +20,7 @@ use Rattle.ir_builder_frames.specs.Coming.{world, running}
 use Rattle.ir_builder_frames.specs.Computing.{Showing, ComputesAll, HaveTypes, ShowAll, Arrives, ArrivesAll}
 use Rattle.ir_builder_frames.specs.Matching.{IsThrown}
 use Rattle.ir_builder_frames.specs.Operands.{ActsOnAll}
-use Rattle.ir_builder_frames.specs.Watching.{watch, calls_in}
+use Rattle.ir_builder_frames.specs.Watching.{watch}
 use Rattle.ir_builder_frames.proofs.ComingLemmas.{ends_now, ends_on, ends_at, ends_of}
 use Rattle.ir_builder_frames.proofs.HeldLemmas.{placed_part}
 use Rattle.ir_builder_frames.proofs.MatchLemmas.{computes_then, computes_all_then, thrown_from}
@@ -37,13 +34,13 @@ use Rattle.ir_builder_operations.proofs.PartLemmas.{as_two, show_kept}
 use Rattle.ir_builder_operations.proofs.ThenLemmas.{attempts_as, attempts_then}
 use Rattle.ir_builder_expressions.specs.declared.applying.Binary.TheVariants.{Arithmetic, Item}
 use Rattle.ir_builder_expressions.specs.Parts.{is_text}
-use Rattle.ir_builder_expressions.proofs.FollowLemmas.{part_attempts, all_attempts, shown_as}
+use Rattle.ir_builder_expressions.proofs.FollowLemmas.{all_attempts}
 use Rattle.ir_builder_expressions.proofs.LookedLemmas.{taken_on}
-use Rattle.ir_builder_statements.proofs.AssignLemmas.{coerced_itself, bare_simple}
+use Rattle.ir_builder_statements.proofs.AssignLemmas.{bare_simple}
 
 -- ---- values in registers, the last one first
 
-types_kept : (b c : Building) (ts : List Sort) (rs : List Reg) → Extends b c → HaveTypes b.regs ts rs → HaveTypes c.regs ts rs
+pub types_kept : (b c : Building) (ts : List Sort) (rs : List Reg) → Extends b c → HaveTypes b.regs ts rs → HaveTypes c.regs ts rs
 types_kept b c [] [] x h = tt
 types_kept b c [] (r ∷ rs) x h = absurd h
 types_kept b c (t ∷ ts) [] x h = absurd h
@@ -86,24 +83,7 @@ next_computed x ts t ms m b0 b1 b2 rs r room q c =
           ends_now p (v ∷ vs) s2 _ R (IsThrown fn h below x (length b0.regs) regs) record { now = now2; is = refl; shows = (shows2, show_kept b1 ts vs rs now now2 q.types kept2 shows); kept = λ j lt. kept2 j (omega arith) ∙ kept j lt; same = same2 ∙ same1 }));
     }
 
--- ---- a value as an object
-
-pub object_code : (x : Setting) (e : TypedExpr) (t : Sort) (b0 b1 b2 : Building) (q r : ℕ) → t ≡ type_of e → HasRoom x b0 → Emits x e b0 b1 q → Attempts (Shows (sort.Optional t)) b1 b2 r rtype.Ref (ActsOn t q give) → EmitsObject x e b0 b2 r
-object_code x e t b0 b1 b2 q r is room cx made =
-    let P : Sort → Type 0 = λ z. Attempts (Shows (sort.Optional z)) b1 b2 r rtype.Ref (ActsOn z q give) in
-    let u = type_of e in
-    shown_as x (Shows (sort.Optional u)) (Shows boxed) rtype.Ref (λ n s. on_to (means x e n s) (coerced u)) b0 b2 r (λ v h k. (k.0, tt))
-    (part_attempts x (Shows u) (Shows (sort.Optional u)) (rtype_of u) rtype.Ref (means x e) (coerced u) (ActsOn u q give) b0 b1 b2 q r room cx (subst P is made) (λ v s regs k. record { v = v; shows = k; does = coerced_itself u v s k.1 }))
-
--- ---- what an assignment to an item means
-
--- of a value, a list and an index, the last one first
-abbrev put_item : List Value → Does Value
-put_item (j ∷ l ∷ v ∷ []) = item_changed l j v
-put_item vs = stop Stuck
-
-abbrev Puts : Value → Value → Value → Does (Unit {0})
-Puts v l j = set_list_item l j v
+-- ---- what follows a change
 
 abbrev going : {A : Type 0} → A → Does Flow
 going u = give Goes
@@ -112,74 +92,6 @@ change_then : (o : Outcome (Unit {0})) → on_to (on_to o (λ u. Gives (BoolVal 
 change_then (Gives u s) = refl
 change_then (Raises v s) = refl
 change_then (Stops w s) = refl
-
-index_then : (r : Outcome Value) (v l : Value) → on_to (on_to (on_to r (λ j. Gives (j ∷ l ∷ v ∷ []))) put_item) going ≡ on_to (on_to r (Puts v l)) going
-index_then (Gives j s) v l = change_then (Puts v l j s)
-index_then (Raises e s) v l = refl
-index_then (Stops w s) v l = refl
-
-list_then : (r : Outcome Value) (index : Does Value) (v : Value) → on_to (on_to (on_to (on_to r (λ l. Gives (l ∷ v ∷ []))) (λ vs s. on_to (index s) (λ j. Gives (j ∷ vs)))) put_item) going ≡ on_to (on_to r (λ l s. on_to (index s) (Puts v l))) going
-list_then (Gives l s) index v = index_then (index s) v l
-list_then (Raises e s) index v = refl
-list_then (Stops w s) index v = refl
-
-value_then : (r : Outcome Value) (list index : Does Value) → on_to (on_to (on_to (on_to (on_to r (λ v. Gives (v ∷ []))) (λ vs s. on_to (list s) (λ l. Gives (l ∷ vs)))) (λ vs s. on_to (index s) (λ j. Gives (j ∷ vs)))) put_item) going ≡ on_to (on_to r (λ v s. on_to (list s) (λ l s1. on_to (index s1) (Puts v l)))) going
-value_then (Gives v s) list index = list_then (list s) index v
-value_then (Raises e s) list index = refl
-value_then (Stops w s) list index = refl
-
-behind_value : (r : Outcome Value) (c : Value → Does Value) (f : Value → Does (Unit {0})) → on_to (on_to (on_to r c) f) going ≡ on_to r (λ v s. on_to (on_to (c v s) f) going)
-behind_value (Gives v s) c f = refl
-behind_value (Raises e s) c f = refl
-behind_value (Stops w s) c f = refl
-
-module _ (x : Setting) (a i e : TypedExpr) (is_list : type_of a ≡ sort.ListOf (type_of e)) where
-  abbrev classes : List ClassEntry
-  classes = x.source.classes.classes
-
-  -- the value is put into the item
-  abbrev putting : ℕ → Value → Does (Unit {0})
-  putting n v s = on_to (means x a n s) (λ l s1. on_to (means x i n s1) (Puts v l))
-
-  abbrev binding : ℕ → Value → Does (Unit {0})
-  binding n = bind (watch x.source) classes (calls_in x.source n) x.source.globals x.variables (ItemTarget a i ∷ []) (type_of e)
-
-  item_bound : (n : ℕ) (v : Value) (s : State) → binding n v s ≡ on_to (coerced (type_of e) v s) (putting n)
-  item_bound n v s =
-      let t = type_of e in
-      let other : Does (Unit {0}) = unpack (watch x.source) classes (calls_in x.source n) x.source.globals x.variables (ItemTarget a i ∷ []) v in
-      let put_at : Sort → Does (Unit {0}) = λ u z. on_to (coerced (item_sort u) v z) (λ w s1. on_to (means x a n s1) (λ l s2. on_to (means x i n s2) (λ j. set_item u l j w))) in
-      ap (λ u. (if fits classes t (item_sort u) then put_at u else other) s) is_list
-      ∙ ap (λ b. (if b then put_at (sort.ListOf t) else other) s) (fits_itself classes t)
-
-  -- all that an assignment computes, the last one first
-  abbrev operands : Values
-  operands = next_value (next_value (first_value (λ n s. on_to (means x e n s) (coerced (type_of e)))) (means x a)) (means x i)
-
-  means_so : (n : ℕ) (s : State) → means_assignment x (ItemTarget a i ∷ []) e n s ≡ on_to (on_to (operands n s) put_item) going
-  means_so n s =
-      (λ k. on_to (means x e n s) (λ v s1. on_to (item_bound n v s1 k) going))
-      ∙ sym (behind_value (means x e n s) (coerced (type_of e)) (putting n))
-      ∙ sym (value_then (on_to (means x e n s) (coerced (type_of e))) (means x a n) (means x i n))
-
-  -- ---- its code
-
-  acts : (l j v : Reg) (vs : List Value) (s : State) (regs : Regs) → ShowAll (sort.Int ∷ boxed ∷ boxed ∷ []) vs regs (j ∷ l ∷ v ∷ []) → ActsOnAll (boxed ∷ sort.Int ∷ boxed ∷ []) (l ∷ j ∷ v ∷ []) (goes ItemChange) regs s (put_item vs s)
-  acts l j v [] s regs h = absurd h
-  acts l j v (w ∷ []) s regs h = absurd h.1
-  acts l j v (w ∷ y ∷ []) s regs h = absurd h.1.1
-  acts l j v (w ∷ y ∷ z ∷ []) s regs h = record { values = y ∷ w ∷ z ∷ []; shows = (h.1.0, (h.0, (h.1.1.0, tt))); does = refl }
-  acts l j v (w ∷ y ∷ z ∷ q ∷ vs) s regs h = absurd h.1.1.1
-
-  pub item_code : (b0 b1 b2 b3 b4 : Building) (v l j : Reg) (r : ℕ) → type_of i ≡ sort.Int → HasRoom x b0 → EmitsObject x e b0 b1 v.0 → Emits x a b1 b2 l.0 → Emits x i b2 b3 j.0 → Attempts (Shows sort.Bool) b3 b4 r rtype.Bool (ActsOnAll (boxed ∷ sort.Int ∷ boxed ∷ []) (l ∷ j ∷ v ∷ []) (goes ItemChange)) → (gives : Option Sort) → Works x gives (means_assignment x (ItemTarget a i ∷ []) e) b0 b4 []
-  item_code b0 b1 b2 b3 b4 v l j r is_index room value list index changed gives =
-      let P : TypedExpr → Building → Building → ℕ → Sort → Type 0 = λ z b c r t. Computes x (Shows t) (rtype_of t) (means x z) b c r in
-      let one = first_computed x boxed (λ n s. on_to (means x e n s) (coerced (type_of e))) b0 b1 v room value in
-      let two = next_computed x (boxed ∷ []) boxed _ (means x a) b0 b1 b2 (v ∷ []) l room one (subst (P a b1 b2 l.0) is_list list) in
-      let three = next_computed x (boxed ∷ boxed ∷ []) sort.Int _ (means x i) b0 b2 b3 (l ∷ v ∷ []) j room two (subst (P i b2 b3 j.0) is_index index) in
-      let all : Computes x (Shows sort.Bool) rtype.Bool (λ n s. on_to (operands n s) put_item) b0 b4 r = all_attempts x (sort.Int ∷ boxed ∷ boxed ∷ []) (Shows sort.Bool) rtype.Bool operands put_item (ActsOnAll (boxed ∷ sort.Int ∷ boxed ∷ []) (l ∷ j ∷ v ∷ []) (goes ItemChange)) b0 b3 b4 (j ∷ l ∷ v ∷ []) r room three changed (acts l j v) in
-      works_of x gives (means_assignment x (ItemTarget a i ∷ []) e) (λ n s. on_to (on_to (operands n s) put_item) going) b0 b4 [] means_so
-      (alone_works x gives (Shows sort.Bool) rtype.Bool (λ n s. on_to (operands n s) put_item) b0 b4 r room all)
 
 -- ---- the parts of an update
 

@@ -10,3 +10,4 @@ pub mod CountLemmas
 pub mod ForLemmas
 pub mod ListLemmas
 pub mod ItemLemmas
+pub mod TargetLemmas

@@ -27,6 +27,9 @@ pieces_join (piece p code one rest) q = piece p code one (pieces_join rest q)
 pub value_piece : (x : Setting) (l : ℕ) (e : TypedExpr) (a b c : Building) → IsCodeOf x e a b → Lined x e a b → Around l b c → LinedPieces x l (value e ∷ []) a c
 value_piece x l e a b c code one p = piece (around_none l a) code (of_value one) (bare p)
 
+pub value_then : (x : Setting) (l : ℕ) (e : TypedExpr) (ps : List Piece) (a b c : Building) → IsCodeOf x e a b → Lined x e a b → LinedPieces x l ps b c → LinedPieces x l (value e ∷ ps) a c
+value_then x l e ps a b c code one rest = piece (around_none l a) code (of_value one) rest
+
 pub body_piece : (x : Setting) (l : ℕ) (ss : TypedSuite) (a b c : Building) → IsCodeOfSuite x ss a b → LinedSuite x ss a b → Around l b c → LinedPieces x l (body ss ∷ []) a c
 body_piece x l ss a b c code one p = piece (around_none l a) code (of_body one) (bare p)
 
@@ -169,12 +172,12 @@ loop_pieces x gives (on_line (tree.While test same) line) ss l b c is suits h =
     let Q : ℕ → Type 0 = λ k. LinedPieces x k (value test ∷ body same ∷ []) b c in
     stands (subst Q (sym is) (subst P (sym suits.0) h))
 loop_pieces x gives (on_line (tree.ForRange ts a e same) line) ss l b c is suits h =
-    let P : TypedSuite → Type 0 = λ z. LinedPieces x l (bound_pieces a e ++ body z ∷ []) b c in
-    let Q : ℕ → Type 0 = λ k. LinedPieces x k (bound_pieces a e ++ body same ∷ []) b c in
+    let P : TypedSuite → Type 0 = λ z. LinedPieces x l ((bound_pieces a e ++ all_target_pieces ts) ++ body z ∷ []) b c in
+    let Q : ℕ → Type 0 = λ k. LinedPieces x k ((bound_pieces a e ++ all_target_pieces ts) ++ body same ∷ []) b c in
     stands (subst Q (sym is) (subst P (sym suits.0) h))
 loop_pieces x gives (on_line (tree.ForList ts e same) line) ss l b c is suits h =
-    let P : TypedSuite → Type 0 = λ z. LinedPieces x l (value e ∷ body z ∷ []) b c in
-    let Q : ℕ → Type 0 = λ k. LinedPieces x k (value e ∷ body same ∷ []) b c in
+    let P : TypedSuite → Type 0 = λ z. LinedPieces x l (value e ∷ (all_target_pieces ts ++ body z ∷ [])) b c in
+    let Q : ℕ → Type 0 = λ k. LinedPieces x k (value e ∷ (all_target_pieces ts ++ body same ∷ [])) b c in
     stands (subst Q (sym is) (subst P (sym suits.0) h))
 loop_pieces x gives (on_line _ line) ss l b c is suits h = absurd suits
 
@@ -189,15 +192,17 @@ while_head x s e ss l b0 b1 b3 is before test =
     subst P (sym (typed_stmt-While s e ss is)) (pieces_behind before test)
 
 -- and before that of a `for`
-pub range_head : (x : Setting) (s : TStmt) (ts : List Target) (a : Option TExpr) (e : TExpr) (ss : List TStmt) (b0 b3 : Building) → s.kind ≡ kind.ForRange ts a e ss → LinedPieces x s.line (bound_pieces (maybe_typed a) (typed_expr e)) b0 b3 → LinedPieces x s.line (head_pieces (typed_stmt s)) b0 b3
-range_head x s ts a e ss b0 b3 is h =
+pub range_head : (x : Setting) (s : TStmt) (targets all : List Target) (a : Option TExpr) (e : TExpr) (ss : List TStmt) (b0 b3 : Building) → s.kind ≡ kind.ForRange all a e ss → targets ≡ all → LinedPieces x s.line (bound_pieces (maybe_typed a) (typed_expr e) ++ all_target_pieces (map typed_target targets)) b0 b3 → LinedPieces x s.line (head_pieces (typed_stmt s)) b0 b3
+range_head x s targets all a e ss b0 b3 is same h =
     let P : TypedStmt → Type 0 = λ z. LinedPieces x s.line (head_pieces z) b0 b3 in
-    subst P (sym (typed_stmt-ForRange s ts a e ss is)) h
+    let Q : List Target → Type 0 = λ z. LinedPieces x s.line (bound_pieces (maybe_typed a) (typed_expr e) ++ all_target_pieces (map typed_target z)) b0 b3 in
+    subst P (sym (typed_stmt-ForRange s all a e ss is)) (subst Q same h)
 
-pub list_head : (x : Setting) (s : TStmt) (ts : List Target) (e : TExpr) (ss : List TStmt) (b0 b3 : Building) → s.kind ≡ kind.ForList ts e ss → LinedPieces x s.line (value (typed_expr e) ∷ []) b0 b3 → LinedPieces x s.line (head_pieces (typed_stmt s)) b0 b3
-list_head x s ts e ss b0 b3 is h =
+pub list_head : (x : Setting) (s : TStmt) (targets all : List Target) (e : TExpr) (ss : List TStmt) (b0 b3 : Building) → s.kind ≡ kind.ForList all e ss → targets ≡ all → LinedPieces x s.line (value (typed_expr e) ∷ all_target_pieces (map typed_target targets)) b0 b3 → LinedPieces x s.line (head_pieces (typed_stmt s)) b0 b3
+list_head x s targets all e ss b0 b3 is same h =
     let P : TypedStmt → Type 0 = λ z. LinedPieces x s.line (head_pieces z) b0 b3 in
-    subst P (sym (typed_stmt-ForList s ts e ss is)) h
+    let Q : List Target → Type 0 = λ z. LinedPieces x s.line (value (typed_expr e) ∷ all_target_pieces (map typed_target z)) b0 b3 in
+    subst P (sym (typed_stmt-ForList s all e ss is)) (subst Q same h)
 
 -- ---- returned values
 

@@ -1,12 +1,11 @@
 -- A `for` over a list does in its code what it means.
-use Rattle.ir_builder_statements.proofs.Common.{◌≡◌, ℕ, suc, ◌+◌, ◌<◌, ◌≤◌, true, false, List, [], ◌∷◌, length, map, get_or, Option, Some, None, refl, sym, ap, ◌∙◌, subst, inl, inr, arith, le_refl, pos, slice_get, if◌then◌else◌, Bool, Value, Target, TExpr, Sort, TypedExpr, typed_expr, type_of, TypedTarget, typed_target, State, Outcome, Gives, Raises, Stops, Does, on_to, give, Reg, Goto, Building, Extends, held, Setting, rtype_of, HasType, HasRoom, means, Shows, Meaning, Attempts, Closes, room_on, extends_trans, extends_refl, type_kept, get_below, Holds, BoolType, Exit, LoopStart, left, planned, looping_to, EndsLoop, Begins, Works, open_on, stays_by, has_less, ListSuits}
+use Rattle.ir_builder_statements.proofs.Common.{◌≡◌, ℕ, suc, ◌+◌, ◌<◌, ◌≤◌, true, false, List, [], ◌∷◌, length, Option, Some, None, refl, sym, ap, ◌∙◌, subst, inl, inr, arith, le_refl, pos, slice_get, if◌then◌else◌, Bool, Value, TExpr, Sort, TypedExpr, typed_expr, type_of, TypedTarget, State, Outcome, Gives, Raises, Stops, Does, on_to, give, Reg, Goto, Building, Extends, held, Setting, rtype_of, HasType, HasRoom, means, Shows, Meaning, Attempts, Closes, room_on, extends_trans, extends_refl, type_kept, get_below, Holds, BoolType, Exit, LoopStart, left, planned, looping_to, EndsLoop, Begins, Works, open_on, stays_by, has_less}
 use Rattle.std.specs.Prelude.{◌⊎◌, nat_lt, cond, ◌-◌, ◌^◌, codes}
 use Rattle.std.proofs.lemmas.Bool.Decides.{nat_tests}
 use Rattle.value_core.specs.Value.{IntVal, BoolVal, ObjVal, Object, ListObj, DictObj, InstObj}
 use Rattle.value_core.specs.Characters.{place_of}
 use Rattle.value_core.specs.declared.exception.ExcClass.TheVariants.{IndexError}
 use Rattle.py_typed.specs.Sorts as sort
-use Rattle.py_typed.specs.Sorts.{sort as sort_of}
 use Rattle.py_typed.specs.TargetTypes.{item_sort}
 use Rattle.source_meaning.specs.State.{Stuck, raise_new, sure}
 use Rattle.source_meaning.specs.Operations.{with_list, as_list, with_place, at_place, counted, list_item, length_value}
@@ -20,10 +19,10 @@ use Rattle.ir_builder_frames.specs.Computing.{Arrives, Makes}
 use Rattle.ir_builder_frames.specs.Matching.{Matches, SameIn, Stands, IsThrown}
 use Rattle.ir_builder_frames.specs.Operands.{ActsOnAll}
 use Rattle.ir_builder_frames.specs.Watching.{watch}
-use Rattle.ir_builder_frames.proofs.ComingLemmas.{ends_of, ends_on, ends_from, ends_stuck, ends_map, ends_at}
+use Rattle.ir_builder_frames.proofs.ComingLemmas.{ends_of, ends_on, ends_from, ends_stuck, ends_needed, ends_map, ends_at}
 use Rattle.ir_builder_frames.proofs.HeldLemmas.{type_below, placed_part}
 use Rattle.ir_builder_frames.proofs.MatchLemmas.{match_kept, stands_from, thrown_from, computes_then}
-use Rattle.ir_builder_frames.proofs.WatchLemmas.{ends_watched}
+use Rattle.ir_builder_frames.proofs.WatchLemmas.{ends_watched, watched_as}
 use Rattle.ir_builder_operations.specs.Boxes.{boxed, taken_as}
 use Rattle.ir_builder_operations.specs.Operating.{ActsOn, ActsOnTwo}
 use Rattle.ir_builder_operations.specs.Rows.{compares, tested, list_length, of_one}
@@ -38,7 +37,8 @@ use Rattle.ir_builder_loops_and_jumps.specs.Runs.{Flows}
 use Rattle.ir_builder_loops_and_jumps.proofs.FlowLemmas.{flows_from}
 use Rattle.ir_builder_loops_and_jumps.proofs.LoopLemmas.{loop_works}
 use Rattle.ir_builder_statements.specs.Counting.{is_in_range, ComputesNew, FindsLess, CountsOn, StepsOn, Binds, goes_on, FindsNext, TakesItem}
-use Rattle.ir_builder_statements.proofs.ForLemmas.{lies_below, is_below, kept_in, Prepares, body_works, one_name}
+use Rattle.source_soundness.specs.Shapes.{has_shape}
+use Rattle.ir_builder_statements.proofs.ForLemmas.{lies_below, is_below, kept_in, seen, seen_so, Prepares, body_works}
 
 -- ---- what a list says
 
@@ -155,35 +155,38 @@ module _ (x : Setting) (q l : ℕ) (v : Value) (b0 : Building) (room : HasRoom x
   }
 
 -- the item is taken, looked at and bound
-abbrev taking : Setting → TypedTarget → Sort → Value → ℕ → Meaning (Unit {0})
-taking x target t v i n s = on_to (on_to (item v i s) (watch x.source t)) (λ w. means_bound x (target ∷ []) t w n)
+abbrev taking : Setting → List TypedTarget → Sort → Value → ℕ → Meaning (Unit {0})
+taking x targets t v i n s = on_to (on_to (item v i s) (watch x.source t)) (λ w. means_bound x targets t w n)
 
-item_first : (x : Setting) (target : TypedTarget) (t : Sort) (q l r : ℕ) (v : Value) (b0 b1 b2 : Building) → HasRoom x b0 → TakesItem t l q b0 b1 r → Binds x target t r b1 b2 → Prepares x (ListingOn q l v) (λ i. taking x target t v i) b0 b2
-item_first x target t q l r v b0 b1 b2 room a binds =
+item_first : (x : Setting) (targets : List TypedTarget) (t : Sort) (q l r : ℕ) (v : Value) (b0 b1 b2 : Building) → HasRoom x b0 → TakesItem t l q b0 b1 r → Binds x targets t r b1 b2 → Prepares x (ListingOn q l v) (λ i. taking x targets t v i) b0 b2
+item_first x targets t q l r v b0 b1 b2 room a binds =
     let k1 = a.extends.blocks_grow in
     let g1 = a.extends.regs_grow in
     record {
       extends = extends_trans b0 b1 b2 a.extends binds.extends;
-      runs = λ p fn h at n calls i regs below s held match.
+      runs = λ p fn h at n calls i regs below s held match le0.
           let top = room.top in
           let c = running fn (length b0.blocks) (length b0.ops) regs below (world None s) in
           let A = Arrives (Shows t) fn (length b1.blocks) (length b1.ops) below (length b0.regs) regs s r in
           let R : Unit {0} → State → Config → Type 0 = λ u s1 d. Stands fn (length b2.blocks) (length b2.ops) below None x (length b0.regs) regs s1 d in
           let T = IsThrown fn h below x (length b0.regs) regs in
           let found = list_item v (IntVal (pos i)) s in
-          let bind : Value → Does (Unit {0}) = λ w. means_bound x (target ∷ []) t w n in
+          let bind : Value → Does (Unit {0}) = λ w. means_bound x targets t w n in
           let got : Ends p s.turns c (on_to found (taken_as t)) A T = a.runs p fn h (placed_part p fn b0 b0 b1 b2 h (le_refl _) binds.extends at) x room regs below s match (on_to found (taken_as t)) record { v = v; left = (held.0.1, tt); w = IntVal (pos i); right = (held.0.0, (pos i, refl)); does = refl } in
-          let seen : Ends p s.turns c (on_to (on_to found (taken_as t)) (watch x.source t)) A T = ends_watched p x.source t s.turns c (on_to found (taken_as t)) A A T (λ w u d kind y. y) got in
+          let looked : Ends p s.turns c (on_to (on_to found (taken_as t)) (watch x.source t)) A T = ends_watched p x.source t s.turns c (on_to found (taken_as t)) A A T (λ w u d kind y. y) got in
           let bound : Ends p s.turns c (on_to (on_to (on_to found (taken_as t)) (watch x.source t)) bind) R T =
-          ends_on p s.turns c (on_to (on_to found (taken_as t)) (watch x.source t)) A T T bind R seen
+          ends_of p s.turns c (on_to (on_to (on_to found (taken_as t)) (watch x.source t)) bind) (on_to (on_to (on_to found (taken_as t)) (watch x.source t)) (seen x t bind)) R T (watched_as x.source t (on_to found (taken_as t)) bind (seen x t bind) (λ w u shape. seen_so x t bind w u shape))
+          (ends_on p s.turns c (on_to (on_to found (taken_as t)) (watch x.source t)) A T T (seen x t bind) R looked
           (λ w s1 d le y.
           let kept : SameIn x.frame (length b0.regs) y.now regs = λ j above lt o. y.kept j lt in
+          ends_needed p s1.turns d (has_shape x.source.classes.classes s1.store t w) (bind w) s1 R T
+          (λ shape.
           ends_at p s1.turns _ d (bind w s1) R T y.is
           (ends_map p s1.turns _ (bind w s1) (λ u s2 e. Stands fn (length b2.blocks) (length b2.ops) below None x (length b1.regs) y.now s2 e) R (IsThrown fn h below x (length b1.regs) y.now) T
           (λ u s2 e z. stands_from fn (length b2.blocks) (length b2.ops) below None x (length b0.regs) (length b1.regs) regs y.now s2 e g1 kept z)
           (λ u s2 e z. thrown_from fn h below x (length b0.regs) (length b1.regs) regs y.now u s2 e g1 kept z)
-          (binds.runs p fn h (placed_part p fn b0 b1 b2 b2 h k1 (extends_refl b2) at) n calls w y.now below s1 y.shows (match_kept x b0 regs y.now s s1 room (λ j lt. y.kept j (omega arith)) y.same match))))
-          (λ w s1 d z. z) in
+          (binds.runs p fn h (placed_part p fn b0 b1 b2 b2 h k1 (extends_refl b2) at) n calls w y.now below s1 y.shows shape (match_kept x b0 regs y.now s s1 room (λ j lt. y.kept j (omega arith)) y.same match) (omega arith)))))
+          (λ w s1 d z. z)) in
           by_item p s.turns c (item v i s) found s (watch x.source t) (taken_as t) bind R T (taken_on x.source t found) (item_by v i s) bound;
     }
   where
@@ -193,7 +196,7 @@ item_first x target t q l r v b0 b1 b2 room a binds =
 
 -- ---- the whole loop over a list
 
-module _ (x : Setting) (target : TypedTarget) (e : TypedExpr) (l q r : ℕ) (b0 c1 c2 b1 b3 b31 b4 : Building) (o : LoopStart) (room : HasRoom x b0) (list : ComputesNew x (type_of e) (means x e) b0 c1 l) (counter : Makes c1 c2 q rtype.Int (λ regs h. h ≡ Holds (IntVal (pos 0)))) (is_head : o.head ≡ length b1.blocks) (head : Closes c2 b1 (Goto o.head)) (splits : Splits (FindsNext q l b1) b3 o.test) (takes : TakesItem (item_sort (type_of e)) l q b3 b31 r) (binds : Binds x target (item_sort (type_of e)) r b31 b4) where
+module _ (x : Setting) (targets : List TypedTarget) (e : TypedExpr) (l q r : ℕ) (b0 c1 c2 b1 b3 b31 b4 : Building) (o : LoopStart) (room : HasRoom x b0) (list : ComputesNew x (type_of e) (means x e) b0 c1 l) (counter : Makes c1 c2 q rtype.Int (λ regs h. h ≡ Holds (IntVal (pos 0)))) (is_head : o.head ≡ length b1.blocks) (head : Closes c2 b1 (Goto o.head)) (splits : Splits (FindsNext q l b1) b3 o.test) (takes : TakesItem (item_sort (type_of e)) l q b3 b31 r) (binds : Binds x targets (item_sort (type_of e)) r b31 b4) where
   abbrev u : Sort
   u = item_sort (type_of e)
 
@@ -216,7 +219,7 @@ module _ (x : Setting) (target : TypedTarget) (e : TypedExpr) (l q r : ℕ) (b0 
   to_body = extends_trans b3 b31 b4 takes.extends binds.extends
 
   abbrev goes_over : Meaning Flow → ℕ → Value → ℕ → Does Flow
-  goes_over m k v = loop (suc k) (λ i. goes_on v i) (λ i s. on_to (taking x target u v i k s) (λ z. m k)) suc
+  goes_over m k v = loop (suc k) (λ i. goes_on v i) (λ i s. on_to (taking x targets u v i k s) (λ z. m k)) suc
 
   module _ (result : Option Sort) (m : Meaning Flow) (b5 b6 b7 b9 : Building) (next : ℕ) (xs x0 x1 : List Exit) (w : Works x result m b4 b5 xs) (is_next : next ≡ length b6.blocks) (closes : Closes b5 b6 (Goto next)) (steps : CountsOn sort.Int q b6 b7) (ends : EndsLoop b7 b9 o next xs x0 x1) where
     abbrev ys : List Exit
@@ -232,11 +235,11 @@ module _ (x : Setting) (target : TypedTarget) (e : TypedExpr) (l q r : ℕ) (b0 
         let room1 = room_on x b0 b1 (extends_trans b0 c2 b1 both_extend head.extends) room in
         let room3 = room_on x b1 b3 to_test room1 in
         let split : Splits (λ c z. Asks x (Listing q l v) (ListingOn q l v) (λ i k. goes_on v i) b1 c z) b3 o.test = record { middle = splits.middle; answered = list_asks x q l v b0 room list.0 rise b1 splits.middle o.test.condition.0 (omega arith) room1 splits.answered; block = splits.block; closes = splits.closes; start = splits.start } in
-        loop_works x result (Listing q l v) (ListingOn q l v) (λ i k. goes_on v i) (λ i k s. on_to (taking x target u v i k s) (λ z. m k)) suc (length b0.regs) c2 b1 b3 b5 b6 b7 b9 o next xs x0 x1 g0 (on_kept x q l v b0 room list.0 rise b3 (omega arith)) is_head head split
-        (body_works x result (ListingOn q l v) (λ i. taking x target u v i) m b3 b4 b5 xs (item_first x target u q l r v b3 b31 b4 room3 takes binds) w)
+        loop_works x result (Listing q l v) (ListingOn q l v) (λ i k. goes_on v i) (λ i k s. on_to (taking x targets u v i k s) (λ z. m k)) suc (length b0.regs) c2 b1 b3 b5 b6 b7 b9 o next xs x0 x1 g0 (on_kept x q l v b0 room list.0 rise b3 (omega arith)) is_head head split
+        (body_works x result (ListingOn q l v) (λ i. taking x targets u v i) m b3 b4 b5 xs (item_first x targets u q l r v b3 b31 b4 room3 takes binds) w)
         is_next closes (list_steps x q l v b0 room list.0 rise b6 b7 (omega arith) (room_on x b1 b6 to_step room1) steps) ends
 
-    list_works : Works x result (means_list x (target ∷ []) e m) b0 b9 ys
+    list_works : Works x result (means_list x targets e m) b0 b9 ys
     list_works =
         let any = loops (IntVal (pos 0)) in
         let k0 = both_extend.blocks_grow in let k1 = list.1.extends.blocks_grow in
@@ -267,7 +270,7 @@ module _ (x : Setting) (target : TypedTarget) (e : TypedExpr) (l q r : ℕ) (b0 
               ((loops v).runs p fn h to p3 jumps k calls 0 made.0 below s1 held match2 le1)));
         }
 
-  pub list_begins : Begins x (CountsOn sort.Int q) (means_list x (target ∷ []) e) b0 b4 o
+  pub list_begins : Begins x (CountsOn sort.Int q) (means_list x targets e) b0 b4 o
   list_begins =
       let n1 = head.blocks in let k0 = both_extend.blocks_grow in let k2 = splits.answered.extends.blocks_grow in let n3 = splits.closes.blocks in let k4 = to_body.blocks_grow in
       let is_block = splits.block in let is_start = splits.start in
@@ -280,11 +283,8 @@ module _ (x : Setting) (target : TypedTarget) (e : TypedExpr) (l q r : ℕ) (b0 
       }
 
 -- a loop over a list was begun
-pub list_begun : (x : Setting) (targets : List Target) (target : Target) (e : TExpr) (t : Sort) (l q : Reg) (r : ℕ) (b0 c1 c2 b1 b3 b31 b4 : Building) (o : LoopStart) → target ≡ get_or targets 0 target → ListSuits x.source x.variables None (map typed_target targets) (typed_expr e) → HasRoom x b0 → t ≡ item_sort (type_of (typed_expr e)) → ComputesNew x (type_of (typed_expr e)) (means x (typed_expr e)) b0 c1 l.0 → Makes c1 c2 q.0 rtype.Int (λ regs h. h ≡ Holds (IntVal (pos 0))) → o.head ≡ length b1.blocks → Closes c2 b1 (Goto o.head) → Splits (FindsNext q.0 l.0 b1) b3 o.test → TakesItem t l.0 q.0 b3 b31 r → Binds x (typed_target target) t r b31 b4 → Begins x (StepsOn (Some record { reg = q; native = false })) (means_list x (map typed_target targets) (typed_expr e)) b0 b4 o
-list_begun x targets target e t l q r b0 c1 c2 b1 b3 b31 b4 o is suits room same list counter is_head head splits takes binds =
-    let one = one_name x targets target (item_sort (type_of (typed_expr e))) is suits.3 in
-    let P : List TypedTarget → Type 0 = λ z. Begins x (StepsOn (Some record { reg = q; native = false })) (means_list x z (typed_expr e)) b0 b4 o in
+pub list_begun : (x : Setting) (targets : List TypedTarget) (e : TExpr) (t : Sort) (l q : Reg) (r : ℕ) (b0 c1 c2 b1 b3 b31 b4 : Building) (o : LoopStart) → HasRoom x b0 → t ≡ item_sort (type_of (typed_expr e)) → ComputesNew x (type_of (typed_expr e)) (means x (typed_expr e)) b0 c1 l.0 → Makes c1 c2 q.0 rtype.Int (λ regs h. h ≡ Holds (IntVal (pos 0))) → o.head ≡ length b1.blocks → Closes c2 b1 (Goto o.head) → Splits (FindsNext q.0 l.0 b1) b3 o.test → TakesItem t l.0 q.0 b3 b31 r → Binds x targets t r b31 b4 → Begins x (StepsOn (Some record { reg = q; native = false })) (means_list x targets (typed_expr e)) b0 b4 o
+list_begun x targets e t l q r b0 c1 c2 b1 b3 b31 b4 o room same list counter is_head head splits takes binds =
     let Q : Sort → Type 0 = λ z. TakesItem z l.0 q.0 b3 b31 r in
-    let R : Sort → Type 0 = λ z. Binds x (typed_target target) z r b31 b4 in
-    subst P (sym one.0)
-    (list_begins x (typed_target target) (typed_expr e) l.0 q.0 r b0 c1 c2 b1 b3 b31 b4 o room list counter is_head head splits (subst Q same takes) (subst R same binds))
+    let R : Sort → Type 0 = λ z. Binds x targets z r b31 b4 in
+    list_begins x targets (typed_expr e) l.0 q.0 r b0 c1 c2 b1 b3 b31 b4 o room list counter is_head head splits (subst Q same takes) (subst R same binds)

@@ -1,5 +1,5 @@
 -- What is asked of statements is asked of their parts.
-use Rattle.ir_builder_statements.proofs.Common.{◌≡◌, ℕ, ◌+◌, ◌<◌, true, List, ◌∷◌, length, map, drop, get_or, Option, None, refl, sym, ap, ◌∙◌, subst, TExpr, TStmt, Sort, typed_expr, type_of, typed_target, is_scalar, Suits, sort, Variable, TypedModule, TypedStmt, TypedSuite, TypedAct, on_line, typed_stmt, typed_act, typed_suite, typed_arm, maybe_typed, arms_of, typed_stmt_of, typed_stmt-While, typed_act-Expr, typed_act-Assign, typed_act-Aug, typed_act-If, typed_act-While, typed_act-Return, typed_act-Break, typed_act-Continue, State, Setting, means_loop, means_statement, means_suite, DoSuits, VariableUpdates, TestSuits, ReturnSuits, StatementSuits, ActSuits, SuiteSuits, ArmsSuit, LoopSuits, Bool, drop_more, BinOp, Ty, Target, RangeSuits, ListSuits, typed_act-ForRange, typed_act-ForList, TargetSuits, TargetUpdates}
+use Rattle.ir_builder_statements.proofs.Common.{◌≡◌, ℕ, ◌+◌, ◌<◌, true, List, ◌∷◌, length, map, drop, get_or, Option, None, refl, sym, ap, ◌∙◌, subst, TExpr, TStmt, Sort, typed_expr, type_of, typed_target, is_scalar, Suits, sort, Variable, TypedModule, TypedStmt, TypedSuite, TypedAct, on_line, typed_stmt, typed_act, typed_suite, typed_arm, maybe_typed, arms_of, typed_stmt_of, typed_stmt-While, typed_act-Expr, typed_act-Assign, typed_act-Aug, typed_act-If, typed_act-While, typed_act-Return, typed_act-Break, typed_act-Continue, State, Setting, means_loop, means_statement, means_suite, DoSuits, VariableUpdates, TestSuits, ReturnSuits, StatementSuits, ActSuits, SuiteSuits, ArmsSuit, LoopSuits, Bool, drop_more, BinOp, Ty, Target, RangeSuits, ListSuits, typed_act-ForRange, typed_act-ForList, TargetsSuit, TargetUpdates}
 use Rattle.py_typed.specs.declared.statement.THandler.{THandler}
 use Rattle.py_typed.specs.declared.statement.TStmtKind.{TStmtKind, fold-roll-TStmtKind, out-TStmtKind, roll-TStmtKind, roll-out-TStmtKind}
 use Rattle.py_typed.specs.declared.statement.TStmtKind as kind
@@ -51,9 +51,9 @@ module _ (m : TypedModule) (vs : List Variable) (gives : Option Sort) (looping :
     pub alone_suits : (e : TExpr) → s.kind ≡ kind.Expr e → DoSuits m vs None (typed_expr e)
     alone_suits e is = act_suits (kind.Expr e) (tree.Do (typed_expr e)) is (typed_act-Expr e)
 
-    pub assign_suits : (ts all : List Target) (e : TExpr) → s.kind ≡ kind.Assign all e → ts ≡ all → TargetSuits m vs None (map typed_target ts) (type_of (typed_expr e)) × Suits m vs (typed_expr e)
+    pub assign_suits : (ts all : List Target) (e : TExpr) → s.kind ≡ kind.Assign all e → ts ≡ all → TargetsSuit m vs None (map typed_target ts) (type_of (typed_expr e)) × Suits m vs (typed_expr e)
     assign_suits ts all e is same =
-        let P : List Target → Type 0 = λ z. TargetSuits m vs None (map typed_target z) (type_of (typed_expr e)) in
+        let P : List Target → Type 0 = λ z. TargetsSuit m vs None (map typed_target z) (type_of (typed_expr e)) in
         let k = act_suits (kind.Assign all e) (tree.Assign (map typed_target all) (typed_expr e)) is (typed_act-Assign all e) in
         (subst P (sym same) k.0, k.1)
 

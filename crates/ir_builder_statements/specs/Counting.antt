@@ -7,6 +7,7 @@ use Rattle.py_typed.specs.Sorts as sort
 use Rattle.py_typed.specs.Sorts.{Sort}
 use Rattle.py_typed.specs.Expressions.{TypedExpr, type_of}
 use Rattle.py_typed.specs.Statements.{TypedTarget}
+use Rattle.source_soundness.specs.Shapes.{has_shape}
 use Rattle.source_meaning.specs.State.{State, Outcome, Does, ◌>>=◌, on_to, give}
 use Rattle.source_meaning.specs.Operations.{with_list, counted, list_item}
 use Rattle.ir_core.specs.declared.code.Program.{Program}
@@ -80,10 +81,10 @@ abbrev pub HasCounter : Option Counter → Building → Type 0
 HasCounter None b = Unit {0}
 HasCounter (Some c) b = HasType b c.reg.0 (rtype_of (number_sort c.native))
 
--- the value of a type in a register is bound to a variable
-pub record Binds (x : Setting) (target : TypedTarget) (t : Sort) (r : ℕ) (old new : Building) : Type 0 where
+-- the value of a type in a register, which has that type's shape, is bound to targets
+pub record Binds (x : Setting) (targets : List TypedTarget) (t : Sort) (r : ℕ) (old new : Building) : Type 0 where
   pub extends : Extends old new
-  pub runs : (p : Program) (fn : ℕ) (h : Option ℕ) → Placed p fn old new h → (n : ℕ) → CallsWork p x.source n → (v : Value) (regs : Regs) (below : List Waiting) (s : State) → Shows t v (regs r) → Matches x regs s → Ends p s.turns (running fn (length old.blocks) (length old.ops) regs below (world None s)) (means_bound x (target ∷ []) t v n s) (λ u s1 d. Stands fn (length new.blocks) (length new.ops) below None x (length old.regs) regs s1 d) (IsThrown fn h below x (length old.regs) regs)
+  pub runs : (p : Program) (fn : ℕ) (h : Option ℕ) → Placed p fn old new h → (n : ℕ) → CallsWork p x.source n → (v : Value) (regs : Regs) (below : List Waiting) (s : State) → Shows t v (regs r) → has_shape x.source.classes.classes s.store t v ≡ true → Matches x regs s → s.turns ≤ n → Ends p s.turns (running fn (length old.blocks) (length old.ops) regs below (world None s)) (means_bound x targets t v n s) (λ u s1 d. Stands fn (length new.blocks) (length new.ops) below None x (length old.regs) regs s1 d) (IsThrown fn h below x (length old.regs) regs)
 
 -- the bounds of a range are in two registers that were not there, the first of which is counted up
 pub record Ranges (x : Setting) (start : Option TypedExpr) (stop : TypedExpr) (old new : Building) (c : Counter) (r : ℕ) : Type 0 where

@@ -4,3 +4,4 @@ pub mod Kinds
 pub mod Parts
 pub mod Lined
 pub mod Counting
+pub mod Targets

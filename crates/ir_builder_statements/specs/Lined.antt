@@ -44,8 +44,8 @@ all_target_pieces (target ∷ targets) = target_pieces target ++ all_target_piec
 -- of a loop before its body
 abbrev pub head_pieces : TypedStmt → List Piece
 head_pieces (on_line (While test suite) l) = value test ∷ []
-head_pieces (on_line (ForRange targets start stop suite) l) = bound_pieces start stop
-head_pieces (on_line (ForList targets e suite) l) = value e ∷ []
+head_pieces (on_line (ForRange targets start stop suite) l) = bound_pieces start stop ++ all_target_pieces targets
+head_pieces (on_line (ForList targets e suite) l) = value e ∷ all_target_pieces targets
 head_pieces s = []
 
 -- in the order in which their code stands
@@ -55,8 +55,8 @@ pieces_of (Assign targets e) = value e ∷ all_target_pieces targets
 pieces_of (Aug target op e t) = target_pieces target ++ value e ∷ []
 pieces_of (If arms other) = arm_pieces arms ++ body other ∷ []
 pieces_of (While test suite) = value test ∷ body suite ∷ []
-pieces_of (ForRange targets start stop suite) = bound_pieces start stop ++ body suite ∷ []
-pieces_of (ForList targets e suite) = value e ∷ body suite ∷ []
+pieces_of (ForRange targets start stop suite) = (bound_pieces start stop ++ all_target_pieces targets) ++ body suite ∷ []
+pieces_of (ForList targets e suite) = value e ∷ (all_target_pieces targets ++ body suite ∷ [])
 pieces_of (Return o) = returned_pieces o
 pieces_of _ = []
 

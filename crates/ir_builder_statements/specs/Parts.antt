@@ -82,10 +82,6 @@ ComputesReturned x o old new r =
 
 -- ---- items of lists
 
--- the value of an expression, as one of the expression's type, is in a register for objects
-abbrev pub EmitsObject : Setting → TypedExpr → Building → Building → ℕ → Type 0
-EmitsObject x e old new r = Computes x (Shows boxed) Ref (λ n s. on_to (means x e n s) (coerced (type_of e))) old new r
-
 -- of an old value of a type and an operand, by an operator in another type, a value of the old one's type
 abbrev pub changed_as : Sort → BinOp → Sort → Value → Value → Does Value
 changed_as own op t v w = combined t op v w >>= coerced own

@@ -1,11 +1,11 @@
 -- What is asked of a statement that is built: its form is one of those that are compiled, and its parts have the types of a well
 -- typed one.
-use Rattle.std.specs.Prelude.{◌≡◌, ◌⊎◌, Bool, true, List, [], ◌∷◌, Option, Some, None, slice_get}
+use Rattle.std.specs.Prelude.{◌≡◌, ◌≤◌, ◌⊎◌, Bool, true, false, List, [], ◌∷◌, length, Option, Some, None, slice_get}
 use Rattle.py_syntax.specs.declared.expression.BinOp.{BinOp}
 use Rattle.py_syntax.specs.declared.expression.BinOp.TheVariants.{Add}
 use Rattle.py_typed.specs.Sorts as sort
-use Rattle.py_typed.specs.Sorts.{Sort}
-use Rattle.py_typed.specs.Expressions.{TypedExpr, typed, Print, TypedExprs, no_exprs, expr_then, type_of}
+use Rattle.py_typed.specs.Sorts.{Sort, sorts_of}
+use Rattle.py_typed.specs.Expressions.{TypedExpr, typed, Local, Global, Print, TypedExprs, no_exprs, expr_then, type_of}
 use Rattle.py_typed.specs.Statements.{Variable, TypedModule, TypedTarget, LocalTarget, GlobalTarget, TypedStmt, on_line, TypedAct, Do, Assign, Aug, If, While, ForRange, ForList, Return, Break, Continue, Pass, TypedSuite, no_stmts, stmt_then, Arms, no_arms, arm_then, ItemTarget}
 use Rattle.py_typed.specs.Fits.{fits}
 use Rattle.py_typed.specs.TargetTypes.{item_sort}
@@ -14,7 +14,8 @@ use Rattle.ir_builder_operations.specs.Selecting.{is_whole}
 use Rattle.ir_builder_expressions.specs.declared.applying.Binary.TheVariants.{Arithmetic, Joined}
 use Rattle.ir_builder_expressions.specs.Parts.{is_scalar}
 use Rattle.ir_builder_expressions.specs.Applying.{BinarySuits}
-use Rattle.ir_builder_expressions.specs.Suiting.{Suits}
+use Rattle.source_soundness.specs.Watched.{bare}
+use Rattle.ir_builder_expressions.specs.Suiting.{NodeSuits, Suits}
 
 -- in a function with these variables, whose result is of a type; a module's own statements give none
 module _ (m : TypedModule) (vs : List Variable) (gives : Option Sort) where
@@ -43,9 +44,34 @@ module _ (m : TypedModule) (vs : List Variable) (gives : Option Sort) where
   TakesValue (ItemTarget a i) t = ItemSuits a i t
   TakesValue target t = IsVariable target t
 
-  abbrev pub TargetSuits : List TypedTarget → Sort → Type 0
-  TargetSuits (target ∷ []) t = TakesValue target t
-  TargetSuits targets t = ⊥
+  -- a value of a type, made one of the target's own type, goes to it
+  abbrev pub TargetTakes : TypedTarget → Sort → Type 0
+  TargetTakes target s = (u : Sort) × TakesValue target u × (fits m.classes.classes s u ≡ true) × (is_flat u ≡ true)
+
+  -- values of types to as many targets
+  abbrev pub TargetsTake : List TypedTarget → List Sort → Type 0
+  TargetsTake [] [] = Unit {0}
+  TargetsTake (target ∷ targets) (s ∷ ss) = TargetTakes target s × TargetsTake targets ss
+  TargetsTake targets ss = ⊥
+
+  -- one target takes a value that fits it
+  abbrev pub OneSuits : List TypedTarget → Sort → Type 0
+  OneSuits (target ∷ []) s = TargetTakes target s
+  OneSuits targets s = ⊥
+
+  -- no target stands alone, or the one that does has a type that the value does not fit
+  abbrev pub NoneFits : List TypedTarget → Sort → Type 0
+  NoneFits (target ∷ []) s = (u : Sort) × TakesValue target u × (fits m.classes.classes s u ≡ false)
+  NoneFits targets s = Unit {0}
+
+  -- else the parts of a tuple go to as many targets
+  abbrev pub PartsSuit : List TypedTarget → Sort → Type 0
+  PartsSuit targets s =
+      (ss : List Sort) × (s ≡ sort.TupleOf (sorts_of ss)) × NoneFits targets s × TargetsTake targets ss × (length targets ≤ 16)
+
+  -- what a value of a type is bound to, in an assignment or in a `for`
+  abbrev pub TargetsSuit : List TypedTarget → Sort → Type 0
+  TargetsSuit targets s = OneSuits targets s ⊎ PartsSuit targets s
 
   -- the operator of an update of what has the first type, done in the second type, by a value of the third: arithmetic, where the
   -- old value is a whole number, or two texts that are joined
@@ -53,9 +79,16 @@ module _ (m : TypedModule) (vs : List Variable) (gives : Option Sort) where
   UpdateSuits op u t s =
       ((is_whole u ≡ true) × BinarySuits (Arithmetic op) t u s) ⊎ ((op ≡ Add) × BinarySuits Joined t u s)
 
-  -- a variable is updated so, whatever its type is
+  -- a variable is read at a type
+  abbrev pub IsRead : TypedTarget → Sort → Type 0
+  IsRead (LocalTarget i) t = NodeSuits m vs (Local i) t
+  IsRead (GlobalTarget i) t = NodeSuits m vs (Global i) t
+  IsRead target t = ⊥
+
+  -- a variable is updated so, which is read at its type, or at the one under it where that is an Optional; what is made fits its type
   abbrev pub VariableUpdates : TypedTarget → BinOp → Sort → Sort → Type 0
-  VariableUpdates target op t s = (u : Sort) × IsVariable target u × UpdateSuits op u t s
+  VariableUpdates target op t s =
+      (u : Sort) × IsVariable target u × IsRead target (bare u) × UpdateSuits op (bare u) t s × (fits m.classes.classes t u ≡ true) × (is_flat u ≡ true)
 
   -- so is an item of a list
   abbrev pub ItemUpdates : TypedExpr → TypedExpr → BinOp → Sort → Sort → Type 0
@@ -66,26 +99,18 @@ module _ (m : TypedModule) (vs : List Variable) (gives : Option Sort) where
   TargetUpdates (ItemTarget a i) op t s = ItemUpdates a i op t s
   TargetUpdates target op t s = VariableUpdates target op t s
 
-  -- a value of a type is bound to a variable, whose type it fits
-  abbrev pub NameTakes : TypedTarget → Sort → Type 0
-  NameTakes target s = (u : Sort) × IsVariable target u × (fits m.classes.classes s u ≡ true) × (is_flat u ≡ true)
-
-  abbrev pub OneTakes : List TypedTarget → Sort → Type 0
-  OneTakes (target ∷ []) s = NameTakes target s
-  OneTakes targets s = ⊥
-
-  -- a range begins at a number of a type, or at 0, and its numbers, of the type of the bound, are bound to a variable
+  -- a range begins at a number of a type, or at 0, and its numbers, of the type of the bound, are bound to targets
   abbrev pub StartSuits : Option TypedExpr → Sort → Type 0
   StartSuits None t = Unit {0}
   StartSuits (Some e) t = (type_of e ≡ t) × Suits m vs e
 
   abbrev pub RangeSuits : List TypedTarget → Option TypedExpr → TypedExpr → Type 0
   RangeSuits targets start stop =
-      (is_whole (type_of stop) ≡ true) × StartSuits start (type_of stop) × Suits m vs stop × OneTakes targets (type_of stop)
+      (is_whole (type_of stop) ≡ true) × StartSuits start (type_of stop) × Suits m vs stop × TargetsSuit targets (type_of stop)
 
-  -- the items of a list are bound to a variable
+  -- the items of a list are bound to targets
   abbrev pub ListSuits : List TypedTarget → TypedExpr → Type 0
-  ListSuits targets e = (u : Sort) × (type_of e ≡ sort.ListOf u) × Suits m vs e × OneTakes targets (item_sort (type_of e))
+  ListSuits targets e = (u : Sort) × (type_of e ≡ sort.ListOf u) × Suits m vs e × TargetsSuit targets (item_sort (type_of e))
 
   abbrev pub ReturnSuits : Option TypedExpr → Type 0
   ReturnSuits None = gives ≡ Some sort.Nothing
@@ -102,7 +127,7 @@ module _ (m : TypedModule) (vs : List Variable) (gives : Option Sort) where
 
     pub ActSuits : Bool → TypedAct → Type 0
     ActSuits looping (Do e) = DoSuits e
-    ActSuits looping (Assign targets e) = TargetSuits targets (type_of e) × Suits m vs e
+    ActSuits looping (Assign targets e) = TargetsSuit targets (type_of e) × Suits m vs e
     ActSuits looping (Aug target op e t) = TargetUpdates target op t (type_of e) × Suits m vs e
     ActSuits looping (If arms other) = ArmsSuit looping arms × SuiteSuits looping other
     ActSuits looping (While test body) = TestSuits test × SuiteSuits true body

@@ -1,6 +1,6 @@
 //! The code of assignments to items of lists.
 ghost use Rattle.std.specs.Prelude.{◌≡◌, [], ◌∷◌, Option, None, IfOk, OnOk};
-ghost use Rattle.py_typed.specs.Sorts.{Sort, sort, Int, ListOf, Optional};
+ghost use Rattle.py_typed.specs.Sorts.{Sort, sort, ListOf, Optional};
 ghost use Rattle.py_typed.specs.Expressions.{typed_expr, type_of};
 ghost use Rattle.py_typed.specs.Statements.{ItemTarget};
 ghost use Rattle.source_meaning.specs.Operations.{arithmetic, combined};
@@ -10,56 +10,44 @@ ghost use Rattle.ir_builder_frames.specs.Lines.{OwnLines};
 ghost use Rattle.ir_builder_frames.specs.Matching.{HasRoom};
 ghost use Rattle.ir_builder_frames.specs.Placing.{HasType};
 ghost use Rattle.ir_builder_frames.specs.Settings.{rtype_of};
-ghost use Rattle.ir_builder_operations.specs.Boxes.{boxed};
 ghost use Rattle.ir_builder_operations.specs.Operating.{ActsOnTwo};
-ghost use Rattle.ir_builder_expressions.specs.Applying.{BinarySuits, arithmetic_of, binary_goes};
+ghost use Rattle.ir_builder_expressions.specs.Applying.{BinarySuits, arithmetic_of};
 ghost use Rattle.ir_builder_expressions.specs.Site.{setting_of};
 ghost use Rattle.ir_builder_expressions.specs.Suiting.{Suits};
-ghost use Rattle.ir_builder_loops_and_jumps.specs.Means.{means_assignment, means_update};
+ghost use Rattle.ir_builder_loops_and_jumps.specs.Means.{means_update};
 ghost use Rattle.ir_builder_loops_and_jumps.specs.Runs.{Works};
 ghost use Rattle.ir_builder_statements.specs.Suiting.{ItemSuits, ItemUpdates, UpdateSuits};
-ghost use Rattle.ir_builder_statements.specs.Parts.{EmitsObject, changed_as};
+ghost use Rattle.ir_builder_statements.specs.Parts.{changed_as};
+ghost use Rattle.ir_builder_statements.specs.Targets.{PutsEach};
 ghost use Rattle.ir_builder_statements.specs.Lined.{value as value_piece, LinedPieces};
 
 use crate::simple::emit_own;
 use ir_builder_expressions::{Binary, Site, emit_expression};
 use ir_builder_frames::Emitter;
-use ir_builder_operations::{Operation, emit_boxed, emit_coercion, emit_operation, emit_unboxed};
+use ir_builder_operations::{Operation, emit_boxed, emit_coercion, emit_item, emit_operation};
 use ir_core::{RType, Reg};
 use py_syntax::BinOp;
 use py_typed::{TExpr, Ty};
 use std::alloc::Global;
 use value_core::Memory;
 
-// Emits an expression, and answers a register that has its value as an object.
-fn emit_object(b: &mut Emitter, site: Site, e: &TExpr) -> Result<Reg, Memory>
-    requires suits { Suits (setting_of site).source (setting_of site).variables (typed_expr e.now) }
-    requires room { HasRoom (setting_of site) b.old }
-    ensures kept { Extends b.old b.new }
-    ensures emitted { IfOk result (λ r. EmitsObject (setting_of site.entry) (typed_expr e.now) b.old b.new r.0) }
-    ensures lined { OnOk result (LinedPieces (setting_of site.entry) site.entry.line (value_piece (typed_expr e.now) ∷ []) b.old b.new) }
-{
-    let x = emit_expression(b, site, e)?;
-    emit_boxed(b, site.alloc, &e.ty, x, site.line)
-}
-
-/// Assigns to the item of a list at an index: the value comes first, then the list and the index. All of it but these three has the
-/// line of the statement. At run time an index out of range raises IndexError.
-pub(crate) fn emit_item_assignment(
+/// Puts the value of a register into the item of a list at an index, whose type it has: it becomes an object, and then come the list
+/// and the index. All of it but these two has the line of the statement. At run time an index out of range raises IndexError.
+pub(crate) fn emit_item_set(
     b: &mut Emitter,
     site: Site,
     list: &TExpr,
     index: &TExpr,
-    e: &TExpr,
+    r: Reg,
 ) -> Result<(), Memory>
-    requires item { ItemSuits (setting_of site).source (setting_of site).variables None (typed_expr list.now) (typed_expr index.now) (type_of (typed_expr e.now)) }
-    requires suits { Suits (setting_of site).source (setting_of site).variables (typed_expr e.now) }
+    requires item { (u : Sort) × ItemSuits (setting_of site).source (setting_of site).variables None (typed_expr list.now) (typed_expr index.now) u × HasType b.old r.0 (rtype_of u) }
     requires room { HasRoom (setting_of site) b.old }
     ensures kept { Extends b.old b.new }
-    ensures works { OnOk result ((gives : Option Sort) → Works (setting_of site.entry) gives (means_assignment (setting_of site.entry) (ItemTarget (typed_expr list.now) (typed_expr index.now) ∷ []) (typed_expr e.now)) b.old b.new []) }
-    ensures lined { OnOk result (LinedPieces (setting_of site.entry) site.entry.line (value_piece (typed_expr e.now) ∷ value_piece (typed_expr list.now) ∷ value_piece (typed_expr index.now) ∷ []) b.old b.new) }
+    ensures puts { OnOk result (PutsEach (setting_of site.entry) (ItemTarget (typed_expr list.now) (typed_expr index.now) ∷ []) (r ∷ []) b.old b.new) }
+    ensures lined { OnOk result (LinedPieces (setting_of site.entry) site.entry.line (value_piece (typed_expr list.now) ∷ value_piece (typed_expr index.now) ∷ []) b.old b.new) }
 {
-    let item = emit_object(b, site, e)?;
+    let own = item_type(list);
+    let item = emit_boxed(b, site.alloc, own, r, site.line)?;
     let xs = emit_expression(b, site, list)?;
     let i = emit_expression(b, site, index)?;
     emit_operation(
@@ -72,8 +60,8 @@ pub(crate) fn emit_item_assignment(
     Ok(())
 }
 
-// The type of the items of a list.
-fn item_type(list: &TExpr) -> &Ty
+/// The type of the items of a list.
+pub(crate) fn item_type(list: &TExpr) -> &Ty
     requires { (u : Sort) × (type_of (typed_expr list.now) ≡ ListOf u) }
     ensures { type_of (typed_expr list.now) ≡ ListOf (sort result.now) }
 {
@@ -81,25 +69,6 @@ fn item_type(list: &TExpr) -> &Ty
         Ty::List(t) => t,
         _ => unreachable!(),
     }
-}
-
-/// The item of a list at an index, as a value of its own type.
-pub(crate) fn emit_item(
-    b: &mut Emitter,
-    alloc: Global,
-    own: &Ty,
-    list: Reg,
-    index: Reg,
-    line: usize,
-) -> Result<Reg, Memory>
-    requires list { HasType b.old list.0 RType.Ref }
-    requires index { HasType b.old index.0 RType.Int }
-    ensures kept { Extends b.old b.new }
-    ensures made { IfOk result (λ r. Attempts (Shows (sort own.now)) b.old b.new r.0 (rtype_of (sort own.now)) (ActsOnTwo boxed Int list.0 index.0 (binary_goes Binary.Item (sort own.now)))) }
-    ensures lined { OwnLines line b.old b.new }
-{
-    let item = emit_operation(b, alloc, Operation::Item, &[list, index], line)?;
-    emit_unboxed(b, alloc, own, item, line)
 }
 
 // The operation of an operator on numbers of a type.

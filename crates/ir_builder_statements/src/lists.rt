@@ -1,5 +1,5 @@
 //! What comes before the body of a `for` over a list.
-ghost use Rattle.std.specs.Prelude.{◌≡◌, ◌∷◌, [], map, None, IfOk, OnOk};
+ghost use Rattle.std.specs.Prelude.{◌≡◌, ◌∷◌, map, None, IfOk, OnOk};
 ghost use Rattle.py_typed.specs.Sorts.{sort};
 ghost use Rattle.py_typed.specs.Expressions.{typed_expr};
 ghost use Rattle.py_typed.specs.Statements.{typed_target};
@@ -13,15 +13,15 @@ ghost use Rattle.ir_builder_loops_and_jumps.specs.Around.{Begins, Splits};
 ghost use Rattle.ir_builder_loops_and_jumps.specs.Means.{means_list};
 ghost use Rattle.ir_builder_statements.specs.Suiting.{ListSuits};
 ghost use Rattle.ir_builder_statements.specs.Counting.{StepsOn, HasCounter, FindsNext};
-ghost use Rattle.ir_builder_statements.specs.Lined.{value as value_piece, LinedPieces};
+ghost use Rattle.ir_builder_statements.specs.Lined.{value as value_piece, all_target_pieces, LinedPieces};
 
-use crate::bindings::{emit_binding, emit_kept};
+use crate::bindings::emit_kept;
 use crate::counting::{Begun, Counter, emit_less, emit_number};
-use crate::items::emit_item;
+use crate::targets::emit_targets;
 use ir_builder_expressions::Site;
 use ir_builder_frames::Emitter;
 use ir_builder_loops_and_jumps::{LoopStart, Test};
-use ir_builder_operations::{Operation, emit_operation};
+use ir_builder_operations::{Operation, emit_item, emit_operation};
 use ir_core::{RType, Reg};
 use py_typed::{TExpr, Target, Ty};
 use std::alloc::Global;
@@ -61,7 +61,7 @@ fn emit_more(
 }
 
 /// Begins a loop over a list (Python Language Reference, "The for statement"): the list is evaluated once, and before each turn its
-/// next item, if there is one by then, is bound to the variable.
+/// next item, if there is one by then, is bound to the targets.
 pub(crate) fn begin_list(
     b: &mut Emitter,
     site: Site,
@@ -73,7 +73,7 @@ pub(crate) fn begin_list(
     ensures kept { Extends b.old b.new }
     ensures begins { IfOk result (λ o. Begins (setting_of site.entry) (StepsOn o.counter) (means_list (setting_of site.entry) (map typed_target targets.now) (typed_expr e.now)) b.old b.new o.start) }
     ensures counter { IfOk result (λ o. HasCounter o.counter b.new) }
-    ensures lined { OnOk result (LinedPieces (setting_of site.entry) site.entry.line (value_piece (typed_expr e.now) ∷ []) b.old b.new) }
+    ensures lined { OnOk result (LinedPieces (setting_of site.entry) site.entry.line (value_piece (typed_expr e.now) ∷ all_target_pieces (map typed_target targets.now)) b.old b.new) }
 {
     let t = item_type(&e.ty);
     let list = emit_kept(b, site, e)?;
@@ -81,7 +81,7 @@ pub(crate) fn begin_list(
     let head = b.step_on()?;
     let test = emit_more(b, site.alloc, index, list, site.line)?;
     let item = emit_item(b, site.alloc, t, list, index, site.line)?;
-    emit_binding(b, site, &targets[0], t, item)?;
+    emit_targets(b, site, targets, t, item)?;
     Ok(Begun {
         start: LoopStart { head, test },
         counter: Some(Counter {

@@ -1,5 +1,5 @@
 //! What comes before the body of a `for` over a range.
-ghost use Rattle.std.specs.Prelude.{◌≡◌, true, map, Option, None, IfOk, OnOk};
+ghost use Rattle.std.specs.Prelude.{◌≡◌, ◌++◌, true, map, Option, None, IfOk, OnOk};
 ghost use Rattle.py_typed.specs.Sorts.{sort};
 ghost use Rattle.py_typed.specs.Expressions.{typed_expr, type_of};
 ghost use Rattle.py_typed.specs.Statements.{typed_target, maybe_typed};
@@ -13,10 +13,11 @@ ghost use Rattle.ir_builder_loops_and_jumps.specs.Around.{Begins};
 ghost use Rattle.ir_builder_loops_and_jumps.specs.Means.{means_start, means_range};
 ghost use Rattle.ir_builder_statements.specs.Suiting.{StartSuits, RangeSuits};
 ghost use Rattle.ir_builder_statements.specs.Counting.{number_sort, ComputesNew, StepsOn, HasCounter, Ranges};
-ghost use Rattle.ir_builder_statements.specs.Lined.{returned_pieces, bound_pieces, LinedPieces};
+ghost use Rattle.ir_builder_statements.specs.Lined.{returned_pieces, bound_pieces, all_target_pieces, LinedPieces};
 
-use crate::bindings::{emit_binding, emit_kept};
+use crate::bindings::emit_kept;
 use crate::counting::{Begun, Counter, emit_less, emit_number};
+use crate::targets::emit_targets;
 use ir_builder_expressions::Site;
 use ir_builder_frames::Emitter;
 use ir_builder_loops_and_jumps::LoopStart;
@@ -72,7 +73,7 @@ fn emit_bounds(
 }
 
 /// Begins a loop over a range (Python Language Reference, "The for statement"; Python Library Reference, "Ranges"): its bounds are
-/// evaluated once, and before each turn the number is bound to the variable.
+/// evaluated once, and before each turn the number is bound to the targets.
 pub(crate) fn begin_range(
     b: &mut Emitter,
     site: Site,
@@ -85,12 +86,12 @@ pub(crate) fn begin_range(
     ensures kept { Extends b.old b.new }
     ensures begins { IfOk result (λ o. Begins (setting_of site.entry) (StepsOn o.counter) (means_range (setting_of site.entry) (map typed_target targets.now) (maybe_typed start.now) (typed_expr stop.now)) b.old b.new o.start) }
     ensures counter { IfOk result (λ o. HasCounter o.counter b.new) }
-    ensures lined { OnOk result (LinedPieces (setting_of site.entry) site.entry.line (bound_pieces (maybe_typed start.now) (typed_expr stop.now)) b.old b.new) }
+    ensures lined { OnOk result (LinedPieces (setting_of site.entry) site.entry.line (bound_pieces (maybe_typed start.now) (typed_expr stop.now) ++ all_target_pieces (map typed_target targets.now)) b.old b.new) }
 {
     let (counter, end) = emit_bounds(b, site, start, stop)?;
     let head = b.step_on()?;
     let test = emit_less(b, site.alloc, counter, end, site.line)?;
-    emit_binding(b, site, &targets[0], &stop.ty, counter.reg)?;
+    emit_targets(b, site, targets, &stop.ty, counter.reg)?;
     Ok(Begun {
         start: LoopStart { head, test },
         counter: Some(counter),

@@ -4,6 +4,7 @@ ghost use Rattle.py_typed.specs.Sorts.{Sort, sort};
 ghost use Rattle.py_typed.specs.Expressions.{typed_expr, type_of};
 ghost use Rattle.py_typed.specs.Statements.{typed_target, maybe_typed, variable};
 ghost use Rattle.source_meaning.specs.Operations.{coerced};
+ghost use Rattle.source_soundness.specs.Watched.{bare};
 ghost use Rattle.ir_builder_frames.specs.Building.{Extends};
 ghost use Rattle.ir_builder_frames.specs.Settings.{rtype_of};
 ghost use Rattle.ir_builder_frames.specs.Placing.{HasType};
@@ -16,61 +17,42 @@ ghost use Rattle.ir_builder_expressions.specs.Emitting.{EmitsTwo};
 ghost use Rattle.ir_builder_expressions.specs.Lined.{LinedParts};
 ghost use Rattle.ir_builder_loops_and_jumps.specs.Means.{means_assignment, means_update, means_return, returned_type};
 ghost use Rattle.ir_builder_loops_and_jumps.specs.Runs.{Works};
-ghost use Rattle.ir_builder_statements.specs.Suiting.{IsVariable, TargetSuits, UpdateSuits, VariableUpdates, TargetUpdates, ReturnSuits};
+ghost use Rattle.ir_builder_statements.specs.Suiting.{IsRead, TargetsSuit, UpdateSuits, VariableUpdates, TargetUpdates, ReturnSuits};
 ghost use Rattle.ir_builder_statements.specs.Kinds.{GivesResult};
 ghost use Rattle.ir_builder_statements.specs.Parts.{ComputesReturned, update_binary, reading_of, TurnsInto};
 ghost use Rattle.ir_builder_frames.specs.Lines.{OwnLines};
 ghost use Rattle.ir_builder_statements.specs.Lined.{value as value_piece, returned_pieces, target_pieces, all_target_pieces, LinedPieces};
 
-use crate::items::{emit_item_assignment, emit_item_update};
+use crate::items::emit_item_update;
+use crate::targets::emit_targets;
 use crate::variables::{emit_set, reading, variable_type};
 use ir_builder_expressions::{Binary, Site, emit_expression, emit_two_parts};
 use ir_builder_frames::Emitter;
-use ir_builder_operations::emit_coercion;
+use ir_builder_operations::{emit_coercion, emit_conversion};
 use ir_core::{Last, Lit, RType, Reg};
 use py_syntax::{BinOp, Span};
 use py_typed::{TExpr, Target, Ty};
 use std::alloc::Global;
 use value_core::Memory;
 
-// Assigns to a variable.
-fn emit_variable_assignment(
-    b: &mut Emitter,
-    site: Site,
-    target: &Target,
-    e: &TExpr,
-) -> Result<(), Memory>
-    requires variable { IsVariable (setting_of site).source (setting_of site).variables None (typed_target target.now) (type_of (typed_expr e.now)) }
-    requires suits { Suits (setting_of site).source (setting_of site).variables (typed_expr e.now) }
-    requires room { HasRoom (setting_of site) b.old }
-    ensures kept { Extends b.old b.new }
-    ensures works { OnOk result ((gives : Option Sort) → Works (setting_of site.entry) gives (means_assignment (setting_of site.entry) (typed_target target.now ∷ []) (typed_expr e.now)) b.old b.new []) }
-    ensures lined { OnOk result (LinedPieces (setting_of site.entry) site.entry.line (value_piece (typed_expr e.now) ∷ []) b.old b.new) }
-{
-    let r = emit_expression(b, site, e)?;
-    emit_set(b, site, target, r)
-}
-
-/// Assigns to a variable or to an item of a list (Python Language Reference, "Assignment statements"). The parts of the target are
-/// evaluated behind the value. At run time an index out of range raises IndexError.
+/// Assigns to variables and items of lists (Python Language Reference, "Assignment statements"). The parts of the targets are
+/// evaluated behind the value. At run time OverflowError is raised where an `int` has no place in 64 bits, and IndexError where an
+/// index is out of range.
 pub(crate) fn emit_assignment(
     b: &mut Emitter,
     site: Site,
     targets: &[Target],
     e: &TExpr,
 ) -> Result<(), Memory>
-    requires target { TargetSuits (setting_of site).source (setting_of site).variables None (map typed_target targets.now) (type_of (typed_expr e.now)) }
+    requires targets { TargetsSuit (setting_of site).source (setting_of site).variables None (map typed_target targets.now) (type_of (typed_expr e.now)) }
     requires suits { Suits (setting_of site).source (setting_of site).variables (typed_expr e.now) }
     requires room { HasRoom (setting_of site) b.old }
     ensures kept { Extends b.old b.new }
     ensures works { OnOk result ((gives : Option Sort) → Works (setting_of site.entry) gives (means_assignment (setting_of site.entry) (map typed_target targets.now) (typed_expr e.now)) b.old b.new []) }
     ensures lined { OnOk result (LinedPieces (setting_of site.entry) site.entry.line (value_piece (typed_expr e.now) ∷ all_target_pieces (map typed_target targets.now)) b.old b.new) }
 {
-    let target = &targets[0];
-    match target {
-        Target::At(list, index) => emit_item_assignment(b, site, list, index, e),
-        _ => emit_variable_assignment(b, site, target, e),
-    }
+    let r = emit_expression(b, site, e)?;
+    emit_targets(b, site, targets, &e.ty, r)
 }
 
 // The operation of an update in a type.
@@ -104,35 +86,46 @@ pub(crate) fn emit_own(
     }
 }
 
-// The result of an operation in a type on the value of a variable of another type and on an operand. The variable is read with the
-// line of the statement.
+// The type of a value that is not None.
+fn bare_type(t: &Ty) -> &Ty
+    ensures { sort result.now ≡ bare (sort t.now) }
+{
+    match t {
+        Ty::Optional(inner) => inner,
+        _ => t,
+    }
+}
+
+// The result of an operation in a type on the value of a variable, read at another type, and on an operand. The variable is read with
+// the line of the statement.
 fn emit_updated(
     b: &mut Emitter,
     site: Site,
     target: &Target,
-    own: &Ty,
+    read: &Ty,
     op: BinOp,
     e: &TExpr,
     t: &Ty,
 ) -> Result<Reg, Memory>
-    requires variable { IsVariable (setting_of site).source (setting_of site).variables None (typed_target target.now) (sort own.now) }
-    requires fits { UpdateSuits (setting_of site).source (setting_of site).variables None op (sort own.now) (sort t.now) (type_of (typed_expr e.now)) }
+    requires variable { IsRead (setting_of site).source (setting_of site).variables None (typed_target target.now) (sort read.now) }
+    requires fits { UpdateSuits (setting_of site).source (setting_of site).variables None op (sort read.now) (sort t.now) (type_of (typed_expr e.now)) }
     requires suits { Suits (setting_of site).source (setting_of site).variables (typed_expr e.now) }
     requires room { HasRoom (setting_of site) b.old }
     ensures kept { Extends b.old b.new }
-    ensures emitted { IfOk result (λ r. EmitsTwo (setting_of site.entry) (update_binary op (sort t.now)) (sort t.now) (reading_of (typed_target target.now) (sort own.now) (record { line = site.entry.line; col = e.now.span.col })) (typed_expr e.now) b.old b.new r.0) }
-    ensures lined { OnOk result (LinedParts (setting_of site.entry) site.entry.line (reading_of (typed_target target.now) (sort own.now) (record { line = site.entry.line; col = e.now.span.col }) ∷ typed_expr e.now ∷ []) b.old b.new) }
+    ensures emitted { IfOk result (λ r. EmitsTwo (setting_of site.entry) (update_binary op (sort t.now)) (sort t.now) (reading_of (typed_target target.now) (sort read.now) (record { line = site.entry.line; col = e.now.span.col })) (typed_expr e.now) b.old b.new r.0) }
+    ensures lined { OnOk result (LinedParts (setting_of site.entry) site.entry.line (reading_of (typed_target target.now) (sort read.now) (record { line = site.entry.line; col = e.now.span.col }) ∷ typed_expr e.now ∷ []) b.old b.new) }
 {
     let place = Span {
         line: site.line,
         ..e.span
     };
-    let before = reading(target, own, place);
+    let before = reading(target, read, place);
     emit_two_parts(b, site, updating(op, t), t, &before, e)
 }
 
 // Changes a variable by an operation in a type: it is read, then the operand is evaluated, and the result is turned into the
-// variable's own type. All of it but the operand has the line of the statement.
+// variable's own type. A variable that may be None is not, and is read as a value of the type under its own. All of it but the operand
+// has the line of the statement.
 fn emit_variable_update(
     b: &mut Emitter,
     site: Site,
@@ -149,8 +142,9 @@ fn emit_variable_update(
     ensures lined { OnOk result (LinedPieces (setting_of site.entry) site.entry.line (value_piece (typed_expr e.now) ∷ []) b.old b.new) }
 {
     let own = variable_type(site, target);
-    let result = emit_updated(b, site, target, own, op, e, t)?;
-    let value = emit_own(b, site.alloc, t, own, result, site.line)?;
+    let read = bare_type(own);
+    let result = emit_updated(b, site, target, read, op, e, t)?;
+    let value = emit_conversion(b, site.alloc, t, own, result, site.line)?;
     emit_set(b, site, target, value)
 }
 

@@ -8,7 +8,7 @@ ghost use Rattle.ir_builder_frames.specs.Kinds.{AreAlike};
 ghost use Rattle.ir_builder_frames.specs.Among.{IsAmong};
 ghost use Rattle.ir_builder_expressions.specs.Site.{setting_of};
 ghost use Rattle.ir_builder_expressions.specs.Parts.{is_scalar};
-ghost use Rattle.ir_builder_statements.specs.Suiting.{IsVariable};
+ghost use Rattle.ir_builder_statements.specs.Suiting.{IsVariable, IsRead};
 ghost use Rattle.ir_builder_statements.specs.Parts.{HasFlag, SetsLocal, SetsGlobal, TakesGlobal, TakesRegister, SetsVariable, reading_of};
 ghost use Rattle.ir_builder_frames.specs.Lines.{OwnLines};
 
@@ -50,7 +50,7 @@ pub(crate) fn variable_type<'a>(site: Site<'a>, target: &Target) -> &'a Ty
 /// The expression that reads a variable of a type.
 pub(crate) fn reading(target: &Target, t: &Ty, span: Span) -> TExpr
     requires simple { is_scalar (sort t.now) ≡ true }
-    requires variable { (m : TypedModule) × (vs : List Variable) × IsVariable m vs None (typed_target target.now) (sort t.now) }
+    requires variable { (m : TypedModule) × (vs : List Variable) × IsRead m vs None (typed_target target.now) (sort t.now) }
     ensures same { sort result.ty ≡ sort t.now }
     ensures reads { typed_expr result ≡ reading_of (typed_target target.now) (sort t.now) span }
 {

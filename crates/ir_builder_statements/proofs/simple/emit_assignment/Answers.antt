@@ -1,51 +1,26 @@
-use Rattle.ir_builder_statements.proofs.Common.{◌≡◌, ◌++◌, ℕ, Building, [], ◌∷◌, List, map, Option, sym, subst, Sort, TypedTarget, TypedExpr, typed_expr, typed_target, type_of, on_ok_map, Setting, setting_of, means_assignment, Works}
-use Rattle.ir_builder_statements.specs.Lined.{Piece, value, all_target_pieces, LinedPieces}
-use Rattle.ir_builder_statements.proofs.AssignLemmas.{only_named, only_item, no_pieces}
+use Rattle.ir_builder_statements.proofs.Common.{subst, sym, map, extends_trans, Sort, typed_expr, typed_target, type_of, type_at, sort, rtype_of, HasType, on_ok_map, room_on, Setting, setting_of, TargetsSuit, None}
+use Rattle.ir_builder_statements.specs.Counting.{Binds}
+use Rattle.ir_builder_statements.proofs.TargetLemmas.{assigned_works}
+use Rattle.ir_builder_statements.proofs.LinedLemmas.{value_then}
 use Rattle.ir_builder_statements.proofs.simple.emit_assignment.Goals as goal
 
-pub emit_item_assignment-requires : goal.emit_item_assignment-requires
-emit_item_assignment-requires c =
+pub emit_targets-requires : goal.emit_targets-requires
+emit_targets-requires c =
     let x : Setting = setting_of c.args.site in
-    record { item = (only_item x.source x.variables c.args.targets.now c.index-targets-0.result (type_of (typed_expr c.args.e.now)) c.index-targets-0.is _ _ c.in-At.is c.requires.target).1; suits = c.requires.suits; room = c.requires.room }
+    let P : Sort → Type 0 = λ z. TargetsSuit x.source x.variables None (map typed_target c.args.targets.now) z in
+    let Q : Sort → Type 0 = λ z. HasType c.emit_expression.new.b c.in_ok-r.r.0 (rtype_of z) in
+    record { targets = subst P (type_at c.args.e.now) c.requires.targets; value = subst Q (type_at c.args.e.now) c.in_ok-r.ensures.emitted.type; room = room_on x _ _ c.in_ok-r.ensures.kept c.requires.room }
 
-pub emit_variable_assignment-requires : goal.emit_variable_assignment-requires
-emit_variable_assignment-requires c =
+pub returns-clause-works : goal.returns-clause-works
+returns-clause-works c =
     let x : Setting = setting_of c.args.site in
-    record { variable = (only_named x.source x.variables c.args.targets.now c.index-targets-0.result (type_of (typed_expr c.args.e.now)) c.index-targets-0.is c.in_default.not-At c.requires.target).1; suits = c.requires.suits; room = c.requires.room }
+    let P : Sort → Type 0 = λ z. Binds x (map typed_target c.args.targets.now) z c.in_ok-r.r.0 c.emit_expression.new.b c.emit_targets.new.b in
+    on_ok_map _ _ _ (λ q. assigned_works x (map typed_target c.args.targets.now) (typed_expr c.args.e.now) _ _ _ c.in_ok-r.r.0 c.requires.room c.in_ok-r.ensures.emitted (subst P (sym (type_at c.args.e.now)) q)) c.emit_targets.ensures.binds
 
--- what holds of the target that stands alone holds of all of them
-assigned : (x : Setting) (ts us : List TypedTarget) (e : TypedExpr) (b c : Building) → ts ≡ us → ((gives : Option Sort) → Works x gives (means_assignment x us e) b c []) → (gives : Option Sort) → Works x gives (means_assignment x ts e) b c []
-assigned x ts us e b c same h gives = let P : List TypedTarget → Type 0 = λ z. Works x gives (means_assignment x z e) b c [] in subst P (sym same) (h gives)
-
-pieces_so : (x : Setting) (l : ℕ) (ts us : List TypedTarget) (e : TypedExpr) (b c : Building) → ts ≡ us → LinedPieces x l (value e ∷ all_target_pieces us) b c → LinedPieces x l (value e ∷ all_target_pieces ts) b c
-pieces_so x l ts us e b c same h = let P : List TypedTarget → Type 0 = λ z. LinedPieces x l (value e ∷ all_target_pieces z) b c in subst P (sym same) h
-
-pub returns-in-At-clause-works : goal.returns-in-At-clause-works
-returns-in-At-clause-works c =
-    let x : Setting = setting_of c.args.site in
+pub returns-clause-lined : goal.returns-clause-lined
+returns-clause-lined c =
     let e = typed_expr c.args.e.now in
-    let one = only_item x.source x.variables c.args.targets.now c.index-targets-0.result (type_of e) c.index-targets-0.is _ _ c.in-At.is c.requires.target in
-    on_ok_map _ _ _ (assigned x (map typed_target c.args.targets.now) _ e _ _ one.0) c.emit_item_assignment.ensures.works
+    on_ok_map _ _ _ (value_then (setting_of c.args.site) c.args.site.line e _ _ _ _ (type_of e, c.in_ok-r.r.0, c.in_ok-r.ensures.emitted) c.in_ok-r.ensures.lined) c.emit_targets.ensures.lined
 
-pub returns-in-At-clause-lined : goal.returns-in-At-clause-lined
-returns-in-At-clause-lined c =
-    let x : Setting = setting_of c.args.site in
-    let e = typed_expr c.args.e.now in
-    let one = only_item x.source x.variables c.args.targets.now c.index-targets-0.result (type_of e) c.index-targets-0.is _ _ c.in-At.is c.requires.target in
-    on_ok_map _ _ _ (pieces_so x c.args.site.line (map typed_target c.args.targets.now) _ e _ _ one.0) c.emit_item_assignment.ensures.lined
-
-pub returns-in_default-clause-works : goal.returns-in_default-clause-works
-returns-in_default-clause-works c =
-    let x : Setting = setting_of c.args.site in
-    let e = typed_expr c.args.e.now in
-    let one = only_named x.source x.variables c.args.targets.now c.index-targets-0.result (type_of e) c.index-targets-0.is c.in_default.not-At c.requires.target in
-    on_ok_map _ _ _ (assigned x (map typed_target c.args.targets.now) _ e _ _ one.0) c.emit_variable_assignment.ensures.works
-
-pub returns-in_default-clause-lined : goal.returns-in_default-clause-lined
-returns-in_default-clause-lined c =
-    let x : Setting = setting_of c.args.site in
-    let e = typed_expr c.args.e.now in
-    let target = typed_target c.index-targets-0.result in
-    let one = only_named x.source x.variables c.args.targets.now c.index-targets-0.result (type_of e) c.index-targets-0.is c.in_default.not-At c.requires.target in
-    let P : List Piece → Type 0 = λ z. LinedPieces x c.args.site.line (value e ∷ (z ++ [])) c.args.b.now c.emit_variable_assignment.new.b in
-    on_ok_map _ _ _ (λ h. pieces_so x c.args.site.line (map typed_target c.args.targets.now) (target ∷ []) e _ _ one.0 (subst P (sym (no_pieces x.source x.variables target (type_of e) one.1)) h)) c.emit_variable_assignment.ensures.lined
+pub returns-clause-kept : goal.returns-clause-kept
+returns-clause-kept c = extends_trans _ _ _ c.in_ok-r.ensures.kept c.emit_targets.ensures.kept

@@ -57,7 +57,7 @@ pub emit_statement-emit_assignment-requires : goal.emit_statement-emit_assignmen
 emit_statement-emit_assignment-requires t c =
     let x : Setting = setting_of c.args.site in
     let k = assign_suits x.source x.variables (option_map sort (option_copied c.args.gives)) c.args.looping c.args.s.now c.requires.suits c.as_slice-targets.result.now c.in-Assign.targets c.in-Assign.e c.in-Assign.is c.as_slice-targets.ensures in
-    record { target = k.0; suits = k.1; room = c.requires.room }
+    record { targets = k.0; suits = k.1; room = c.requires.room }
 
 pub emit_statement-emit_update-requires : goal.emit_statement-emit_update-requires
 emit_statement-emit_update-requires t c =

@@ -39,7 +39,7 @@ returns-in-ForRange-clause-begins c =
 
 pub returns-in-ForRange-clause-lined : goal.returns-in-ForRange-clause-lined
 returns-in-ForRange-clause-lined c =
-    on_ok_map _ _ _ (range_head (setting_of c.args.site) c.args.s.now c.in-ForRange.targets c.in-ForRange.start c.in-ForRange.stop _ _ _ c.in-ForRange.is) c.begin_range.ensures.lined
+    on_ok_map _ _ _ (range_head (setting_of c.args.site) c.args.s.now c.as_slice-targets.result.now c.in-ForRange.targets c.in-ForRange.start c.in-ForRange.stop _ _ _ c.in-ForRange.is c.as_slice-targets.ensures) c.begin_range.ensures.lined
 
 pub begin_list-requires-clause-suits : goal.begin_list-requires-clause-suits
 begin_list-requires-clause-suits c =
@@ -54,4 +54,4 @@ returns-in-ForList-clause-begins c =
 
 pub returns-in-ForList-clause-lined : goal.returns-in-ForList-clause-lined
 returns-in-ForList-clause-lined c =
-    on_ok_map _ _ _ (list_head (setting_of c.args.site) c.args.s.now c.in-ForList.targets c.in-ForList.e _ _ _ c.in-ForList.is) c.begin_list.ensures.lined
+    on_ok_map _ _ _ (list_head (setting_of c.args.site) c.args.s.now c.as_slice-targets-in-ForList.result.now c.in-ForList.targets c.in-ForList.e _ _ _ c.in-ForList.is c.as_slice-targets-in-ForList.ensures) c.begin_list.ensures.lined
