@@ -50,8 +50,6 @@ pub enum Form {
     Raise,
     Assert,
     For,
-    /// An assignment to several targets.
-    SeveralTargets,
     /// The name `super`.
     NameSuper,
     /// The name of a class of exceptions.
@@ -103,7 +101,6 @@ impl Form {
             Form::Raise => "raise",
             Form::Assert => "assert",
             Form::For => "for",
-            Form::SeveralTargets => "several targets",
             Form::NameSuper => "the name super",
             Form::ExceptionClass => "exception class",
             Form::DictDisplay => "dict display",

@@ -1,14 +1,14 @@
 -- The names that most proofs of this crate cite, passed on from one place. Declares nothing.
-pub use Rattle.ir_builder_expressions.specs.Applying.{BinarySuits, IsSized, IsTestable, absence_by, index_of, sized_of, testable_of}
+pub use Rattle.ir_builder_expressions.specs.Applying.{BinarySuits, absence_by, index_of}
 pub use Rattle.ir_builder_expressions.specs.Parts.{is_bool, is_i64, is_int, is_pair, is_scalar, is_text}
 pub use Rattle.ir_builder_expressions.specs.Suiting.{AllSuit, ArgumentsSuit, ComparisonsSuit, NodeSuits, ReadsAs, Suits, behind_sort, count_of}
 pub use Rattle.ir_builder_expressions.specs.declared.applying.Binary.TheVariants.{Arithmetic}
 pub use Rattle.ir_builder_frames.specs.Settings.{parameter_sorts}
 pub use Rattle.ir_builder_operations.specs.Converting.{is_flat}
 pub use Rattle.ir_builder_operations.specs.Selecting.{is_arithmetic, is_whole}
-pub use Rattle.ir_builder_supported.specs.Expressions.{are_pairs, chain_forms, expression_forms, is_asked, is_counted, is_form, is_indexed, is_testable, or_parts, part_forms, row_forms}
+pub use Rattle.ir_builder_supported.specs.Expressions.{are_pairs, chain_forms, expression_forms, is_asked, is_form, is_indexed, or_parts, part_forms, row_forms}
 pub use Rattle.ir_builder_supported.specs.Forms.{is_none, is_result, is_value}
-pub use Rattle.ir_builder_supported.specs.Statements.{act_forms, alone_forms, arms_forms, class_form, def_lines, function_lines, functions_forms, has_type, is_assigned, is_bound, is_function, is_taken, is_updated, statement_forms, suite_forms, takes_result, target_forms, targets_forms, maybe_forms}
+pub use Rattle.ir_builder_supported.specs.Statements.{act_forms, alone_forms, arms_forms, class_form, def_lines, function_lines, functions_forms, is_function, is_list, statement_forms, suite_forms, target_forms, targets_forms, maybe_forms}
 pub use Rattle.py_check_names.specs.Outline.{suite_definitions}
 pub use Rattle.py_check_names.specs.Walked.{trees}
 pub use Rattle.ir_builder_forms.specs.Least.{least, lesser}

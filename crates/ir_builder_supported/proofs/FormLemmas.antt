@@ -1,7 +1,5 @@
 -- Rows of forms: the least of two rows, and rows with nothing.
-use Rattle.py_typed.specs.declared.types.Ty.{Ty}
-use Rattle.ir_builder_supported.specs.Statements.{is_one}
-use Rattle.ir_builder_supported.proofs.Common.{◌≤◌, ◌<◌, ◌∙◌, sym, ap, length, map, sort, sorts_of, arith, ◌≡◌, refl, Bool, true, false, List, [], ◌∷◌, ◌++◌, Option, Some, None, ◌&&◌, and_left, and_right, Unbuilt, lesser, least, or_parts}
+use Rattle.ir_builder_supported.proofs.Common.{◌≡◌, refl, Bool, true, false, List, [], ◌∷◌, ◌++◌, Option, Some, None, ◌&&◌, and_left, and_right, Unbuilt, lesser, least, or_parts}
 use Rattle.std.proofs.lemmas.Grind.{common_steps}
 
 -- the least of two rows is found in the one and then in the other
@@ -35,21 +33,3 @@ compiled false here parts e = absurd (cc)
 -- two parts that stand one behind the other
 pub both : {A B : Type 0} {a b : Bool} {xs ys : List Unbuilt} → (a ≡ true → xs ≡ [] → A) → (b ≡ true → ys ≡ [] → B) → (a && b) ≡ true → xs ++ ys ≡ [] → A × B
 both f g h p = (f (and_left _ _ h) (none_left _ _ p), g (and_right _ _ h) (none_right _ _ p))
-
--- several types are not one
-pub several : (ts : List Ty) → 2 ≤ length ts → false ≡ is_one (sorts_of (map sort ts))
-several [] le = absurd (omega arith)
-several (a ∷ []) le = absurd (omega arith)
-several (a ∷ b ∷ ts) le = refl
-
--- and one is
-pub single : (ts : List Ty) → 1 ≤ length ts → length ts < 2 → true ≡ is_one (sorts_of (map sort ts))
-single [] le less = absurd (omega arith)
-single (a ∷ []) le less = refl
-single (a ∷ b ∷ ts) le less = absurd (omega arith)
-
--- what a loop has before its body, and then its body
-pub loop_found : (found mid res : Option Unbuilt) (b is : Bool) (here there : Unbuilt) (parts own body : List Unbuilt) → mid ≡ least found (or_parts b here parts) → res ≡ least mid own → b ≡ is → here ≡ there → own ≡ body → res ≡ least found (or_parts is there parts ++ body)
-loop_found found mid res b is here there parts own body e f g h i =
-    f ∙ ap (λ z. least z own) (e ∙ ap (λ z. least found (or_parts z here parts)) g ∙ ap (λ z. least found (or_parts is z parts)) h)
-    ∙ ap (λ z. least (least found (or_parts is there parts)) z) i ∙ sym (least_append found (or_parts is there parts) body)

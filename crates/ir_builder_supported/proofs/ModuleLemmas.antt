@@ -32,11 +32,11 @@ at_place test i (y ∷ ys) zero n x is h e =
     subst (λ j. test j x ≡ true) (sym (omega arith)) (subst (λ z. test i z ≡ true) (same_Some y x e) (and_left (test i y) (all_at (suc i) test ys) h))
 at_place test i (y ∷ ys) (suc k) n x is h e = at_place test (suc i) ys k n x (omega arith) (and_right (test i y) (all_at (suc i) test ys) h) e
 
-is_form_of : (globals : List Variable) (lines : List ℕ) (n : ℕ) (fs : List TypedFunc) (k : ℕ) (f : TypedFunc) → functions_forms globals lines n fs ≡ [] → slice_get fs k ≡ Some f → (is_function f ≡ true) × (suite_forms f.locals globals f.body ≡ [])
-is_form_of globals lines n [] k f p e = absurd (cc)
-is_form_of globals lines n (g ∷ more) zero f p e =
-    subst (λ h. (is_function h ≡ true) × (suite_forms h.locals globals h.body ≡ [])) (same_Some g f e) (compiled (is_function g) _ _ (none_left _ _ p))
-is_form_of globals lines n (g ∷ more) (suc k) f p e = is_form_of globals lines (suc n) more k f (none_right _ _ p) e
+is_form_of : (lines : List ℕ) (n : ℕ) (fs : List TypedFunc) (k : ℕ) (f : TypedFunc) → functions_forms lines n fs ≡ [] → slice_get fs k ≡ Some f → (is_function f ≡ true) × (suite_forms f.body ≡ [])
+is_form_of lines n [] k f p e = absurd (cc)
+is_form_of lines n (g ∷ more) zero f p e =
+    subst (λ h. (is_function h ≡ true) × (suite_forms h.body ≡ [])) (same_Some g f e) (compiled (is_function g) _ _ (none_left _ _ p))
+is_form_of lines n (g ∷ more) (suc k) f p e = is_form_of lines (suc n) more k f (none_right _ _ p) e
 
 none_is : {A : Type 0} (o : Option A) → is_none o ≡ true → o ≡ None
 none_is None h = refl
@@ -62,7 +62,7 @@ module _ (m : TypedModule) where
     sym (one_type f.ret s.ret (and_right (same_row (parameter_types f) s.params) (is_same_type f.ret s.ret) h)),
   )
 
-  module _ (lines : List ℕ) (typed : is_well_typed is_identifier m ≡ true) (forms : functions_forms m.globals lines 0 m.funcs ≡ []) where
+  module _ (lines : List ℕ) (typed : is_well_typed is_identifier m ≡ true) (forms : functions_forms lines 0 m.funcs ≡ []) where
     function_parts : (n : ℕ) (f : TypedFunc) → slice_get m.funcs n ≡ Some f → Parts n f
     function_parts n f is =
         let h = at_place (func_typed is_identifier m) 0 m.funcs n n f (omega arith) (and_right _ _ (and_left _ _ typed)) is in
@@ -75,11 +75,14 @@ module _ (m : TypedModule) where
           body = and_right _ _ h;
         }
 
-    formed : (n : ℕ) (f : TypedFunc) → slice_get m.funcs n ≡ Some f → (is_function f ≡ true) × (suite_forms f.locals m.globals f.body ≡ [])
-    formed n f is = is_form_of m.globals lines 0 m.funcs n f forms is
+    formed : (n : ℕ) (f : TypedFunc) → slice_get m.funcs n ≡ Some f → (is_function f ≡ true) × (suite_forms f.body ≡ [])
+    formed n f is = is_form_of lines 0 m.funcs n f forms is
 
     no_method : (n : ℕ) (f : TypedFunc) → slice_get m.funcs n ≡ Some f → f.class ≡ None
     no_method n f is = none_is f.class (and_left (is_none f.class) _ (formed n f is).0)
+
+    globals_typed : variables_typed is_identifier m m.globals ≡ true
+    globals_typed = and_left _ _ (and_left _ _ (and_left _ _ (and_left _ _ (and_left _ _ (and_left _ _ typed)))))
 
     all_signed : (vs : List Variable) (init : Option ℕ) → AllSigned m vs init
     all_signed vs init n f s is function found =
@@ -94,14 +97,13 @@ module _ (m : TypedModule) where
           parameters = leb-true f.params (length f.locals) (and_left (nat_le f.params (length f.locals)) _ (and_right (is_none f.class) _ form.0));
           identifiers = and_left _ _ (and_left _ _ p.variables);
           differ = sym (one_test (names_of f.locals)) ∙ and_right _ _ (and_left _ _ p.variables);
-          body = suite_suits m f.locals (init_class f) (all_signed f.locals (init_class f)) (Some f.ret) [] false false f.body p.body form.1;
+          body = suite_suits m f.locals (init_class f) (all_signed f.locals (init_class f)) (and_right _ _ p.variables) (and_right _ _ globals_typed) (Some f.ret) [] false false f.body p.body form.1;
         }
 
-    module_suits : suite_forms [] m.globals m.top ≡ [] → ModuleSuits m
+    module_suits : suite_forms m.top ≡ [] → ModuleSuits m
     module_suits top =
         let six = and_left _ _ typed in
         let two = and_left _ _ (and_left _ _ (and_left _ _ (and_left _ _ six))) in
-        let globals = and_left _ _ two in
         let others = names_of m.globals in
         let functions = flat_map (own_name is_identifier m) m.funcs in
         let classes = map (λ (c : ClassEntry). c.name) m.classes.classes in
@@ -111,12 +113,12 @@ module _ (m : TypedModule) where
           differ =
               sym (one_test (map (λ (f : TypedFunc). f.name) m.funcs))
               ∙ subst (λ l. all_differ l ≡ true) (all_named m.funcs no_method) (differ_left functions classes (differ_right others (functions ++ classes) (and_right _ _ two)));
-          identifiers = and_left _ _ (and_left _ _ globals);
-          globals_differ = sym (one_test others) ∙ and_right _ _ (and_left _ _ globals);
-          top = suite_suits m [] None (all_signed [] None) None [] false false m.top (and_right _ _ typed) top;
+          identifiers = and_left _ _ (and_left _ _ globals_typed);
+          globals_differ = sym (one_test others) ∙ and_right _ _ (and_left _ _ globals_typed);
+          top = suite_suits m [] None (all_signed [] None) refl (and_right _ _ globals_typed) None [] false false m.top (and_right _ _ typed) top;
         }
 
 pub compiled_suits : CompiledSuits
 compiled_suits tree m typed none =
     let behind = none_right (flat_map class_form (suite_definitions tree)) _ (no_form _ none) in
-    module_suits m _ typed (none_right (suite_forms [] m.globals m.top) _ behind) (none_left (suite_forms [] m.globals m.top) _ behind)
+    module_suits m _ typed (none_right (suite_forms m.top) _ behind) (none_left (suite_forms m.top) _ behind)

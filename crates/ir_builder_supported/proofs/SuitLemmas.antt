@@ -1,6 +1,6 @@
 -- A well typed expression in which nothing is said to be not compiled suits, where the signature of each function is that of its
 -- definition.
-use Rattle.ir_builder_supported.proofs.Common.{◌≡◌, refl, sym, ◌∙◌, ap, subst, ℕ, Bool, true, false, List, [], ◌∷◌, ◌++◌, Option, Some, None, ⊎_elim, or_cases, ℤ, pos, negsuc, if◌then◌else◌, is_some, CmpOp, Span, IsTestable, absence_by, testable_of, behind_sort, is_asked, is_testable, slice_get, option_map, Sort, sorts_of, Signature, is_same_type, are_same_types, is_nothing, TypedExpr, typed, TypedNode, Int, Str, Flag, Local, Neg, Not, Truth, Arith, Concat, Compare, And, Or, Cond, At, Call, Input, Len, ToStr, Coerce, TypedExprs, no_exprs, expr_then, Comparisons, no_comparisons, comparison_then, type_of, Variable, TypedFunc, TypedModule, is_in, facts, stands, parts_typed, are_values, chain_typed, rule, types_of, is_type, indexed, is_literal, reads_as, declared, call_fits, and_left, and_right, one_type, parameter_sorts, is_bool, is_int, is_text, is_scalar, is_result, is_whole, Suits, NodeSuits, ArgumentsSuit, ComparisonsSuit, are_pairs, is_form, expression_forms, part_forms, row_forms, chain_forms, BinarySuits, IsSized, index_of, sized_of, is_pair, AllSuit, ReadsAs, count_of, is_flat, is_indexed, is_counted, is_value, Nothing, Append, ListOf, TupleOf, TupleAt, Pop, Global, is_number, Sorts, listed_sorts, is_printable, is_result_type, tuple_sort, are_value_types, row_fits, nat_lt, not, list_any, arith, inl, inr, length, suc, ◌<◌, ◌≤◌, ltb-true, slice_get_within, ◌&&◌}
+use Rattle.ir_builder_supported.proofs.Common.{◌≡◌, refl, sym, ◌∙◌, ap, subst, ℕ, Bool, true, false, List, [], ◌∷◌, ◌++◌, Option, Some, None, ⊎_elim, or_cases, ℤ, pos, negsuc, if◌then◌else◌, is_some, CmpOp, Span, absence_by, behind_sort, is_asked, slice_get, option_map, Sort, sorts_of, Signature, is_same_type, are_same_types, is_nothing, TypedExpr, typed, TypedNode, Int, Str, Flag, Local, Neg, Not, Truth, Arith, Concat, Compare, And, Or, Cond, At, Call, Input, Len, ToStr, Coerce, TypedExprs, no_exprs, expr_then, Comparisons, no_comparisons, comparison_then, type_of, Variable, TypedFunc, TypedModule, is_in, facts, stands, parts_typed, are_values, chain_typed, rule, types_of, is_type, indexed, is_literal, reads_as, declared, call_fits, and_left, and_right, one_type, parameter_sorts, is_bool, is_int, is_text, is_scalar, is_result, is_whole, Suits, NodeSuits, ArgumentsSuit, ComparisonsSuit, are_pairs, is_form, expression_forms, part_forms, row_forms, chain_forms, BinarySuits, index_of, is_pair, AllSuit, ReadsAs, count_of, is_flat, is_indexed, is_value, Nothing, Append, ListOf, TupleOf, TupleAt, Pop, Global, is_number, Sorts, listed_sorts, is_printable, is_result_type, tuple_sort, are_value_types, row_fits, nat_lt, not, list_any, arith, inl, inr, length, suc, ◌<◌, ◌≤◌, ltb-true, slice_get_within, ◌&&◌}
 use Rattle.ir_builder_supported.proofs.FormLemmas.{none_left, none_right, compiled, both}
 use Rattle.value_core.specs.Arithmetic.{lies_within}
 use Rattle.py_syntax.specs.declared.expression.CmpOp.TheVariants as compare
@@ -15,7 +15,7 @@ bool_is : (t : Sort) → is_bool t ≡ true → t ≡ sort.Bool
 bool_is sort.Bool h = refl
 bool_is _ h = absurd (cc)
 
-pub int_is : (t : Sort) → is_int t ≡ true → t ≡ sort.Int
+int_is : (t : Sort) → is_int t ≡ true → t ≡ sort.Int
 int_is sort.Int h = refl
 int_is _ h = absurd (cc)
 
@@ -31,19 +31,12 @@ value_result : (t : Sort) → is_value t ≡ true → is_result t ≡ true
 value_result sort.Nothing h = refl
 value_result _ h = h
 
-scalar_result : (t : Sort) → is_scalar t ≡ true → is_result t ≡ true
-scalar_result sort.Int h = refl
-scalar_result sort.I64 h = refl
-scalar_result sort.Bool h = refl
-scalar_result sort.Str h = refl
-scalar_result _ h = absurd (cc)
-
 whole_result : (t : Sort) → is_whole t ≡ true → is_result t ≡ true
 whole_result sort.Int h = refl
 whole_result sort.I64 h = refl
 whole_result _ h = absurd (cc)
 
-number_scalar : (t : Sort) → is_number t ≡ true → is_scalar t ≡ true
+pub number_scalar : (t : Sort) → is_number t ≡ true → is_scalar t ≡ true
 number_scalar sort.Int h = refl
 number_scalar sort.I64 h = refl
 number_scalar sort.Bool h = refl
@@ -89,17 +82,6 @@ item_result sort.Str i t f h g = ap is_result h.0
 item_result (sort.ListOf s) i t f h g = value_result t (sym (ap is_value h.0) ∙ g)
 item_result _ i t f h g = absurd (cc)
 
-length_suits : (s : Sort) → is_counted s ≡ true → IsSized (sized_of s) s
-length_suits sort.Str h = refl
-length_suits (sort.ListOf t) h = (t, refl)
-length_suits (sort.TupleOf ts) h = (ts, refl)
-length_suits _ h = absurd (cc)
-
-testable_suits : (s : Sort) → is_testable s ≡ true → IsTestable (testable_of s) s
-testable_suits (sort.ListOf t) h = (t, refl)
-testable_suits (sort.TupleOf ts) h = (ts, refl)
-testable_suits s h = h
-
 there : (o : Option Sort) (t : Sort) → is_type o t ≡ true → (s : Sort) × (o ≡ Some s)
 there None t h = absurd (cc)
 there (Some s) t h = (s, refl)
@@ -127,7 +109,7 @@ module _ (m : TypedModule) (vs : List Variable) (init : Option ℕ) where
   abbrev pub AllSigned : Type 0
   AllSigned = (f : ℕ) (g : TypedFunc) (s : Signature) → slice_get m.funcs f ≡ Some g → is_function (Some g) ≡ true → slice_get m.classes.signatures f ≡ Some s → (s.params ≡ parameter_sorts g) × (s.ret ≡ g.ret)
 
-  result_type : (testing : Bool) (known : List ℕ) (e : TypedExpr) → stands m vs init testing known e ≡ true → is_result_type (length m.classes.classes) (type_of e) ≡ true
+  pub result_type : (testing : Bool) (known : List ℕ) (e : TypedExpr) → stands m vs init testing known e ≡ true → is_result_type (length m.classes.classes) (type_of e) ≡ true
   result_type testing known (typed n t place) h = and_right _ _ (and_left _ _ h)
 
   -- what is compiled has the type of a value that is compiled, or gives None
@@ -151,8 +133,8 @@ module _ (m : TypedModule) (vs : List Variable) (init : Option ℕ) where
     node_result testing known (Arith op a b) t p r f q = whole_result t (and_left _ _ f)
     node_result testing known (Concat a b) t p r f q = ap is_result (text_is t f)
     node_result testing known (Compare e more) t p r f q = ap is_result (bool_is t (and_left _ _ f))
-    node_result testing known (And a b) t p r f q = scalar_result t f
-    node_result testing known (Or a b) t p r f q = scalar_result t f
+    node_result testing known (And a b) t p r f q = value_result t (and_left _ _ f)
+    node_result testing known (Or a b) t p r f q = value_result t (and_left _ _ f)
     node_result testing known (Cond a test b) t p r f q = value_result t f
     node_result testing known (ListOf es) t p r f q = value_result t f
     node_result testing known (TupleOf es) t p r f q = value_result t f
@@ -265,7 +247,7 @@ module _ (m : TypedModule) (vs : List Variable) (init : Option ℕ) where
       well_typed_node testing known (Global i) t p r g f q = declared_as (slice_get m.globals i) t r
       well_typed_node testing known (Neg e) t p r g f q = ((f, and_left _ _ r), well_typed_suits false known e p q)
       well_typed_node testing known (Not e) t p r g f q = ((bool_is t f, one_type (type_of e) sort.Bool (and_left _ _ r)), well_typed_suits true known e p q)
-      well_typed_node testing known (Truth e) t p r g f q = ((bool_is t (and_left _ _ f), testable_suits (type_of e) (and_right (is_bool t) _ f)), well_typed_suits false known e p q)
+      well_typed_node testing known (Truth e) t p r g f q = ((bool_is t (and_left _ _ f), and_right (is_bool t) _ f), well_typed_suits false known e p q)
       well_typed_node testing known (Arith op a b) t p r g f q =
           let parts = both (well_typed_suits false known a) (well_typed_suits false known b) p q in
           let numbers = and_left _ _ r in
@@ -282,10 +264,10 @@ module _ (m : TypedModule) (vs : List Variable) (init : Option ℕ) where
           (or_cases (is_asked more) (is_scalar (type_of e) && are_pairs (type_of e) more) (and_right (is_bool t) _ f))
       well_typed_node testing known (And a b) t p r g f q =
           let parts = both (well_typed_suits testing known a) (well_typed_suits testing (facts true a ++ known) b) p q in
-          (f, one_type (type_of a) t (and_left _ _ r), one_type (type_of b) t (and_right _ _ r), parts.0, parts.1)
+          (and_right (is_value t) _ f, one_type (type_of a) t (and_left _ _ r), one_type (type_of b) t (and_right _ _ r), parts.0, parts.1)
       well_typed_node testing known (Or a b) t p r g f q =
           let parts = both (well_typed_suits testing known a) (well_typed_suits testing (facts false a ++ known) b) p q in
-          (f, one_type (type_of a) t (and_left _ _ r), one_type (type_of b) t (and_right _ _ r), parts.0, parts.1)
+          (and_right (is_value t) _ f, one_type (type_of a) t (and_left _ _ r), one_type (type_of b) t (and_right _ _ r), parts.0, parts.1)
       well_typed_node testing known (Cond a test b) t p r g f q =
           let two = and_left _ _ p in
           let behind = none_right _ _ q in (
@@ -307,7 +289,7 @@ module _ (m : TypedModule) (vs : List Variable) (init : Option ℕ) where
           let h = call_suits signed c (types_of m vs init es) t (and_left _ _ r) (and_right _ _ r) in
           (h.0, h.1, h.2, subst (λ ts. ArgumentsSuit m vs ts es) h.3 (well_typed_arguments known es p q))
       well_typed_node testing known Input t p r g f q = text_is t f
-      well_typed_node testing known (Len e) t p r g f q = ((one_type t sort.Int (and_right _ _ r), length_suits (type_of e) f), well_typed_suits false known e p q)
+      well_typed_node testing known (Len e) t p r g f q = ((one_type t sort.Int (and_right _ _ r), f), well_typed_suits false known e p q)
       well_typed_node testing known (ToStr e) t p r g f q = ((one_type t sort.Str (and_right _ _ r), f), well_typed_suits false known e p q)
       well_typed_node testing known (Append a b) t p r g f q =
           let parts = both (well_typed_suits false known a) (well_typed_suits false known b) p q in

@@ -7,8 +7,9 @@ use Rattle.py_typed.specs.Expressions.{TypedExpr, typed, TypedNode, Int, Str, Fl
 use Rattle.ir_builder_forms.specs.declared.form.Unbuilt.{Unbuilt}
 use Rattle.ir_builder_operations.specs.Selecting.{is_arithmetic, is_whole}
 use Rattle.ir_builder_comparisons.specs.Comparing.{is_ordering}
-use Rattle.ir_builder_expressions.specs.Applying.{absence_in}
+use Rattle.ir_builder_expressions.specs.Applying.{absence_in, is_counted}
 use Rattle.ir_builder_expressions.specs.Parts.{is_bool, is_int, is_text, is_scalar, is_pair}
+use Rattle.ir_builder_expressions.specs.Truths.{is_testable}
 use Rattle.ir_builder_supported.specs.Forms.{is_value, is_result, unbuilt, node_form}
 
 -- something, unless it is compiled; then what is not of its parts
@@ -29,22 +30,11 @@ is_asked more = is_some (absence_in more)
 abbrev pub are_compared : Sort → Comparisons → Bool
 are_compared s more = is_asked more || (is_scalar s && are_pairs s more)
 
--- the types of what has items that are read by an index, of what has a length, and of what has a truth
+-- the types of what has items that are read by an index
 abbrev pub is_indexed : Sort → Bool
 is_indexed sort.Str = true
 is_indexed (sort.ListOf t) = true
 is_indexed t = false
-
-abbrev pub is_counted : Sort → Bool
-is_counted sort.Str = true
-is_counted (sort.ListOf t) = true
-is_counted (sort.TupleOf ts) = true
-is_counted t = false
-
-abbrev pub is_testable : Sort → Bool
-is_testable (sort.ListOf t) = true
-is_testable (sort.TupleOf ts) = true
-is_testable t = is_scalar t
 
 -- whether an expression of a type is of a form that is compiled, whatever its parts are
 abbrev pub is_form : TypedNode → Sort → Bool
@@ -60,8 +50,8 @@ is_form (Truth e) t = is_bool t && is_testable (type_of e)
 is_form (Arith op a b) t = is_whole t && is_arithmetic op
 is_form (Concat a b) t = is_text t
 is_form (Compare e more) t = is_bool t && are_compared (type_of e) more
-is_form (And a b) t = is_scalar t
-is_form (Or a b) t = is_scalar t
+is_form (And a b) t = is_value t && is_testable t
+is_form (Or a b) t = is_value t && is_testable t
 is_form (Cond a test b) t = is_value t
 is_form (ListOf es) t = is_value t
 is_form (TupleOf es) t = is_value t

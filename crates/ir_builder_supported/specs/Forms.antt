@@ -7,7 +7,7 @@ use Rattle.py_typed.specs.Sorts as sort
 use Rattle.py_typed.specs.Sorts.{Sort, Sorts, no_sorts, sort_then}
 use Rattle.py_typed.specs.Fits.{is_nothing}
 use Rattle.py_typed.specs.Expressions.{TypedExpr, typed, TypedNode, Local, Global, Truth, Compare, ListOf, DictOf, TupleOf, Attr, At, TupleAt, Call, Make, MakeExc, Method, SuperInit, Len, Append, Pop, Comparisons, no_comparisons, comparison_then, type_of}
-use Rattle.py_typed.specs.Statements.{Variable, TypedFunc, TypedTarget, LocalTarget, GlobalTarget, AttrTarget, ItemTarget}
+use Rattle.py_typed.specs.Statements.{Variable, TypedFunc}
 use Rattle.ir_builder_forms.specs.declared.form.Form.{Form}
 use Rattle.ir_builder_forms.specs.declared.form.Form.TheVariants as form
 use Rattle.ir_builder_forms.specs.declared.form.TypeKind.{TypeKind}
@@ -93,24 +93,6 @@ node_form e t = form.Value (kind t)
 -- on the line where it begins
 abbrev pub expression_at : TypedExpr → Unbuilt
 expression_at (typed e t place) = unbuilt place.line (node_form e t)
-
--- ---- assignments
-
--- what is assigned to or updated, where it is no name; else another form
-abbrev pub target_form : TypedTarget → Form → Form
-target_form (LocalTarget i) other = other
-target_form (GlobalTarget i) other = other
-target_form (AttrTarget e name) other = form.Attribute
-target_form (ItemTarget e i) other = form.Index (kind (type_of e))
-
--- a name that stands alone and is not assigned the value as it is takes the part of a tuple, as several targets take the parts
-abbrev pub targets_form : List TypedTarget → Form
-targets_form (t ∷ []) = target_form t form.SeveralTargets
-targets_form ts = form.SeveralTargets
-
--- an update whose operation is done in a type
-abbrev pub update_form : TypedTarget → Sort → Form
-update_form t s = target_form t (form.Value (kind s))
 
 -- ---- functions
 

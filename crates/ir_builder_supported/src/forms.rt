@@ -1,33 +1,24 @@
 //! Whether a type, an operation or a node is one of those that are compiled, whatever stands in it.
-ghost use Rattle.std.specs.Prelude.{◌≡◌, ◌&&◌, is_some, map, slice_get};
+ghost use Rattle.std.specs.Prelude.{◌≡◌, is_some, map};
 ghost use Rattle.py_typed.specs.Sorts.{sort, sorts_of};
 ghost use Rattle.py_typed.specs.Expressions.{typed_expr, typed_node, typed_comparison, comparisons_of};
-ghost use Rattle.py_typed.specs.Statements.{typed_target, typed_func, variable};
+ghost use Rattle.py_typed.specs.Statements.{typed_func, variable};
 ghost use Rattle.ir_builder_comparisons.specs.Comparing as comparing;
-ghost use Rattle.py_typed.specs.TargetTypes.{item_sort};
-ghost use Rattle.ir_builder_operations.specs.Converting as converting;
 ghost use Rattle.ir_builder_operations.specs.Selecting as selecting;
 ghost use Rattle.ir_builder_expressions.specs.Applying as applying;
 ghost use Rattle.ir_builder_expressions.specs.Parts as sorts;
+ghost use Rattle.ir_builder_expressions.specs.Truths as truths;
 ghost use Rattle.ir_builder_supported.specs.Expressions as form;
 ghost use Rattle.ir_builder_supported.specs.Forms as spec;
 ghost use Rattle.ir_builder_supported.specs.Statements as statement;
 
 use py_syntax::{BinOp, CmpOp};
-use py_typed::{
-    TExpr, TFunc, TKind, Target, Ty, Var, is_nothing, is_number, is_same_type, is_text,
-};
+use py_typed::{TExpr, TFunc, TKind, Ty, Var, is_nothing, is_number, is_text};
 
 fn is_int(t: &Ty) -> bool
     ensures { result ≡ sorts.is_int (sort t.now) }
 {
     matches!(t, Ty::Int)
-}
-
-fn is_i64(t: &Ty) -> bool
-    ensures { result ≡ sorts.is_i64 (sort t.now) }
-{
-    matches!(t, Ty::I64)
 }
 
 fn is_bool(t: &Ty) -> bool
@@ -160,19 +151,29 @@ fn is_indexed(t: &Ty) -> bool
 
 /// Whether values of a type have a length.
 fn is_counted(t: &Ty) -> bool
-    ensures { result ≡ form.is_counted (sort t.now) }
+    ensures { result ≡ applying.is_counted (sort t.now) }
 {
     matches!(t, Ty::Str | Ty::List(_) | Ty::Tuple(_))
 }
 
-/// Whether values of a type have a truth that is compiled: numbers, bools and texts, lists and tuples.
-fn is_testable(t: &Ty) -> bool
-    ensures { result ≡ form.is_testable (sort t.now) }
+/// Whether values of a type are never None and have a truth that is compiled: numbers, bools and texts, lists and tuples.
+fn is_plain(t: &Ty) -> bool
+    ensures { result ≡ truths.is_plain (sort t.now) }
 {
     matches!(
         t,
         Ty::Int | Ty::I64 | Ty::Bool | Ty::Str | Ty::List(_) | Ty::Tuple(_)
     )
+}
+
+/// Whether values of a type have a truth that is compiled: those, and what is one of them or None.
+fn is_testable(t: &Ty) -> bool
+    ensures { result ≡ truths.is_testable (sort t.now) }
+{
+    match t {
+        Ty::Optional(inner) => is_plain(inner),
+        _ => is_plain(t),
+    }
 }
 
 /// Whether an expression is of a form that is compiled, whatever its parts are.
@@ -192,7 +193,7 @@ pub(crate) fn is_form(e: &TExpr) -> bool
         | TKind::TupleAt(_, _)
         | TKind::Pop(_)
         | TKind::Coerce(_) => is_value(&e.ty),
-        TKind::And(_, _) | TKind::Or(_, _) => is_scalar(&e.ty),
+        TKind::And(_, _) | TKind::Or(_, _) => is_value(&e.ty) && is_testable(&e.ty),
         TKind::Neg(_) => is_whole(&e.ty),
         TKind::Truth(a) => is_bool(&e.ty) && is_testable(&a.ty),
         TKind::Arith(op, _, _) => is_whole(&e.ty) && is_arithmetic(*op),
@@ -214,151 +215,11 @@ pub(crate) fn is_form(e: &TExpr) -> bool
     }
 }
 
-/// Whether the variable of a number is there, and has a type.
-fn has_type(variables: &[Var], i: usize, t: &Ty) -> bool
-    ensures { result ≡ statement.has_type (sort t.now) (slice_get (map variable variables.now) i) }
+/// Whether a type is one of lists.
+pub(crate) fn is_list(t: &Ty) -> bool
+    ensures { result ≡ statement.is_list (sort t.now) }
 {
-    match variables.get(i) {
-        None => false,
-        Some(v) => is_same_type(&v.ty, t),
-    }
-}
-
-/// Whether a type is that of lists of values of another type.
-fn is_list_of(t: &Ty, list: &Ty) -> bool
-    ensures { result ≡ statement.is_list_of (sort t.now) (sort list.now) }
-{
-    match list {
-        Ty::List(item) => is_same_type(item, t),
-        _ => false,
-    }
-}
-
-/// Whether one name is assigned to, of a function or of a module with these variables, and has the type of the value, or an item of a
-/// list of such values.
-pub(crate) fn is_assigned(locals: &[Var], globals: &[Var], targets: &[Target], t: &Ty) -> bool
-    ensures { result ≡ statement.is_assigned (map variable locals.now) (map variable globals.now) (map typed_target targets.now) (sort t.now) }
-{
-    match targets {
-        [Target::Local(i)] => has_type(locals, *i, t),
-        [Target::Global(i)] => has_type(globals, *i, t),
-        [Target::At(list, _)] => is_list_of(t, &list.ty),
-        _ => false,
-    }
-}
-
-/// Whether a variable of a type takes what an operation gives that is done in another.
-fn is_taken(own: &Ty, t: &Ty) -> bool
-    ensures { result ≡ statement.is_taken (sort own.now) (sort t.now) }
-{
-    is_same_type(own, t) || (is_int(own) && is_i64(t))
-}
-
-/// Whether the variable of a number takes what an operation of a type gives.
-fn takes_result(variables: &[Var], i: usize, t: &Ty) -> bool
-    ensures { result ≡ statement.takes_result (sort t.now) (slice_get (map variable variables.now) i) }
-{
-    match variables.get(i) {
-        None => false,
-        Some(v) => is_taken(&v.ty, t),
-    }
-}
-
-/// Whether a type is that of lists whose items take what an operation of a type gives.
-fn takes_item_result(t: &Ty, list: &Ty) -> bool
-    ensures { result ≡ statement.takes_item_result (sort t.now) (sort list.now) }
-{
-    match list {
-        Ty::List(item) => is_taken(item, t),
-        _ => false,
-    }
-}
-
-/// Whether a target is one name, of a function or of a module with these variables, or an item of a list, that takes what an operation
-/// of a type gives.
-fn is_updated_target(locals: &[Var], globals: &[Var], target: &Target, t: &Ty) -> bool
-    ensures { result ≡ statement.is_updated (map variable locals.now) (map variable globals.now) (typed_target target.now) (sort t.now) }
-{
-    match target {
-        Target::Local(i) => takes_result(locals, *i, t),
-        Target::Global(i) => takes_result(globals, *i, t),
-        Target::At(list, _) => takes_item_result(t, &list.ty),
-        _ => false,
-    }
-}
-
-/// Whether this target is updated by this operation, whose result is of this type.
-pub(crate) fn is_updated(
-    locals: &[Var],
-    globals: &[Var],
-    target: &Target,
-    op: BinOp,
-    t: &Ty,
-) -> bool
-    ensures { result ≡ (statement.is_updated (map variable locals.now) (map variable globals.now) (typed_target target.now) (sort t.now) && (sorts.is_scalar (sort t.now) && selecting.is_arithmetic op)) }
-{
-    is_updated_target(locals, globals, target, t) && (is_scalar(t) && is_arithmetic(op))
-}
-
-/// Whether no Optional stands under another one at once.
-fn is_flat(t: &Ty) -> bool
-    ensures { result ≡ converting.is_flat (sort t.now) }
-{
-    match t {
-        Ty::Optional(inner) => !matches!(&**inner, Ty::Optional(_)),
-        _ => true,
-    }
-}
-
-/// Whether this is one type.
-fn is_one(ts: &[Ty]) -> bool
-    ensures { result ≡ statement.is_one (sorts_of (map sort ts.now)) }
-{
-    match ts {
-        [_] => true,
-        _ => false,
-    }
-}
-
-/// Whether a type is one of tuples of one part.
-fn is_lone(t: &Ty) -> bool
-    ensures { result ≡ statement.is_lone (sort t.now) }
-{
-    match t {
-        Ty::Tuple(ts) => is_one(ts.as_slice()),
-        _ => false,
-    }
-}
-
-/// Whether a value of a type that fits is bound to the variable of a number, and not the part of a tuple.
-fn is_bound_to(variables: &[Var], i: usize, t: &Ty) -> bool
-    ensures { result ≡ statement.is_bound_to (sort t.now) (slice_get (map variable variables.now) i) }
-{
-    match variables.get(i) {
-        None => false,
-        Some(v) => is_flat(&v.ty) && (is_same_type(&v.ty, t) || !is_lone(t)),
-    }
-}
-
-/// Whether the numbers or items of a loop, of this type, are bound to one name, of a function or of a module with these variables.
-pub(crate) fn is_bound(locals: &[Var], globals: &[Var], targets: &[Target], t: &Ty) -> bool
-    ensures { result ≡ statement.is_bound (map variable locals.now) (map variable globals.now) (map typed_target targets.now) (sort t.now) }
-{
-    match targets {
-        [Target::Local(i)] => is_bound_to(locals, *i, t),
-        [Target::Global(i)] => is_bound_to(globals, *i, t),
-        _ => false,
-    }
-}
-
-/// The type of the items of a list.
-pub(crate) fn item_type(t: &Ty) -> &Ty
-    ensures { sort result.now ≡ item_sort (sort t.now) }
-{
-    match t {
-        Ty::List(item) | Ty::Dict(_, item) => item,
-        _ => t,
-    }
+    matches!(t, Ty::List(_))
 }
 
 fn hold_values(variables: &[Var]) -> bool

@@ -1,7 +1,6 @@
 //! What is not compiled, and on which line it stands.
 //!
-//! Each function takes the first found so far, and gives the first with those of what it goes over. Those that go over statements
-//! take the variables of the function and of the module too.
+//! Each function takes the first found so far, and gives the first with those of what it goes over.
 #![tactic(auto, using(crate::proofs::FormLemmas::rows))]
 
 ghost use Rattle.std.specs.Prelude.{◌≡◌, ◌++◌, map, slice_get, Some, IfOk};
@@ -10,16 +9,16 @@ ghost use Rattle.ir_builder_forms.specs.Least.{lesser, least};
 ghost use Rattle.py_syntax.specs.Statements.{module_tree, stmt_tree, body_tree};
 ghost use Rattle.py_check_names.specs.Walked.{trees};
 ghost use Rattle.py_typed.specs.Expressions.{typed_expr, exprs_of, comparisons_of, typed_comparison};
-ghost use Rattle.py_typed.specs.Statements.{typed_stmt, typed_target, typed_suite, typed_arm, arms_of, maybe_typed, variable, typed_func, typed_module};
-ghost use Rattle.ir_builder_supported.specs.Expressions.{or_parts, expression_forms, row_forms, chain_forms};
+ghost use Rattle.py_typed.specs.Statements.{typed_stmt, typed_target, ItemTarget, typed_suite, typed_arm, arms_of, maybe_typed, typed_func, typed_module};
+ghost use Rattle.ir_builder_supported.specs.Expressions.{expression_forms, row_forms, chain_forms};
 ghost use Rattle.ir_builder_supported.specs.Statements.{alone_forms, maybe_forms, target_forms, targets_forms, statement_forms, suite_forms, arms_forms, function_forms, functions_forms, class_form, uncompiled_form, def_line, def_lines, lines_held, function_lines, line_or_none};
 
-use crate::forms::{is_assigned, is_bound, is_form, is_function, is_updated, item_type};
-use crate::naming::{expression_at, function_form, targets_form, unbuilt, update_form};
+use crate::forms::{is_form, is_function, is_list};
+use crate::naming::{expression_at, function_form, kind, unbuilt};
 use ir_builder_forms::{Form, Unbuilt, lesser};
 use py_check_names::definitions_in;
 use py_syntax::{CmpOp, Module, Stmt, StmtKind};
-use py_typed::{Checked, TExpr, TFunc, TKind, TStmt, TStmtKind, Target, Var};
+use py_typed::{Checked, TExpr, TFunc, TKind, TStmt, TStmtKind, Target};
 use std::alloc::Global;
 use value_core::{Many, Memory};
 
@@ -34,10 +33,9 @@ pub fn uncompiled_form(
 {
     let definitions = definitions_in(alloc, parsed.body.as_slice())?;
     let lines = function_lines(alloc, definitions.as_slice())?;
-    let globals = checked.globals.as_slice();
     let found = in_classes(definitions.as_slice(), None);
-    let found = in_suite(checked.top.as_slice(), &[], globals, found);
-    Ok(in_functions(lines.as_slice(), checked.funcs.as_slice(), globals, found))
+    let found = in_suite(checked.top.as_slice(), found);
+    Ok(in_functions(lines.as_slice(), checked.funcs.as_slice(), found))
 }
 
 /// In an expression.
@@ -130,164 +128,72 @@ fn in_maybe(e: &Option<TExpr>, found: Option<Unbuilt>) -> Option<Unbuilt>
     }
 }
 
-/// In what is assigned to: in the parts that say which item it is.
-fn in_target(target: &Target, found: Option<Unbuilt>) -> Option<Unbuilt>
-    ensures { result ≡ least found (target_forms (typed_target target.now)) }
+/// In what is assigned to by a statement on a line: an attribute is not compiled.
+fn in_target(target: &Target, line: usize, found: Option<Unbuilt>) -> Option<Unbuilt>
+    ensures { result ≡ least found (target_forms line (typed_target target.now)) }
 {
     match target {
-        Target::At(list, index) => in_expression(index, in_expression(list, found)),
-        _ => found,
+        Target::Local(_) | Target::Global(_) => found,
+        Target::Attr(_, _) => Some(lesser(unbuilt(line, Form::Attribute), found)),
+        Target::At(items, index) => in_item(items, index, line, found),
     }
 }
 
-fn in_targets(targets: &[Target], found: Option<Unbuilt>) -> Option<Unbuilt>
-    ensures { result ≡ least found (targets_forms (map typed_target targets.now)) }
+/// In an item that is assigned to: in the parts that say which it is, where it is one of a list; else that itself.
+fn in_item(items: &TExpr, index: &TExpr, line: usize, found: Option<Unbuilt>) -> Option<Unbuilt>
+    ensures { result ≡ least found (target_forms line (ItemTarget (typed_expr items.now) (typed_expr index.now))) }
+{
+    if is_list(&items.ty) {
+        in_expression(index, in_expression(items, found))
+    } else {
+        Some(lesser(unbuilt(line, Form::Index(kind(&items.ty))), found))
+    }
+}
+
+fn in_targets(targets: &[Target], line: usize, found: Option<Unbuilt>) -> Option<Unbuilt>
+    ensures { result ≡ least found (targets_forms line (map typed_target targets.now)) }
 {
     let mut found = found;
     for target in targets {
-        found = in_target(target, found);
+        found = in_target(target, line, found);
     }
     found
 }
 
-/// In an expression, where what it stands in is compiled; else that itself.
-fn in_part(compiled: bool, e: &TExpr, here: Unbuilt, found: Option<Unbuilt>) -> Option<Unbuilt>
-    ensures { result ≡ least found (or_parts compiled here (expression_forms (typed_expr e.now))) }
-{
-    if compiled {
-        in_expression(e, found)
-    } else {
-        Some(lesser(here, found))
-    }
-}
-
-/// In a value and in what it is assigned to, where the assignment is compiled; else that itself.
-fn in_assignment(
-    compiled: bool,
-    targets: &[Target],
-    e: &TExpr,
-    here: Unbuilt,
-    found: Option<Unbuilt>,
-) -> Option<Unbuilt>
-    ensures { result ≡ least found (or_parts compiled here (expression_forms (typed_expr e.now) ++ targets_forms (map typed_target targets.now))) }
-{
-    if compiled {
-        in_targets(targets, in_expression(e, found))
-    } else {
-        Some(lesser(here, found))
-    }
-}
-
-/// In what is updated and in the operand, where the update is compiled; else that itself.
-fn in_update(
-    compiled: bool,
-    target: &Target,
-    e: &TExpr,
-    here: Unbuilt,
-    found: Option<Unbuilt>,
-) -> Option<Unbuilt>
-    ensures { result ≡ least found (or_parts compiled here (target_forms (typed_target target.now) ++ expression_forms (typed_expr e.now))) }
-{
-    if compiled {
-        in_expression(e, in_target(target, found))
-    } else {
-        Some(lesser(here, found))
-    }
-}
-
-/// In the bounds of a range, where the loop over it is compiled; else that itself.
-fn in_range(
-    compiled: bool,
-    start: &Option<TExpr>,
-    stop: &TExpr,
-    here: Unbuilt,
-    found: Option<Unbuilt>,
-) -> Option<Unbuilt>
-    ensures { result ≡ least found (or_parts compiled here (maybe_forms (maybe_typed start.now) ++ expression_forms (typed_expr stop.now))) }
-{
-    if compiled {
-        in_expression(stop, in_maybe(start, found))
-    } else {
-        Some(lesser(here, found))
-    }
-}
-
 #[cycle(statement)]
-fn in_suite(
-    body: &[TStmt],
-    locals: &[Var],
-    globals: &[Var],
-    found: Option<Unbuilt>,
-) -> Option<Unbuilt>
-    ensures { result ≡ least found (suite_forms (map variable locals.now) (map variable globals.now) (typed_suite body.now)) }
+fn in_suite(body: &[TStmt], found: Option<Unbuilt>) -> Option<Unbuilt>
+    ensures { result ≡ least found (suite_forms (typed_suite body.now)) }
 {
     let mut found = found;
     for s in body {
-        found = in_statement(s, locals, globals, found);
+        found = in_statement(s, found);
     }
     found
 }
 
 #[cycle(statement)]
-fn in_statement(
-    s: &TStmt,
-    locals: &[Var],
-    globals: &[Var],
-    found: Option<Unbuilt>,
-) -> Option<Unbuilt>
-    ensures { result ≡ least found (statement_forms (map variable locals.now) (map variable globals.now) (typed_stmt s.now)) }
+fn in_statement(s: &TStmt, found: Option<Unbuilt>) -> Option<Unbuilt>
+    ensures { result ≡ least found (statement_forms (typed_stmt s.now)) }
 {
     match &s.kind {
         TStmtKind::Expr(e) => in_alone(e, found),
-        TStmtKind::Assign(targets, e) => in_assignment(
-            is_assigned(locals, globals, targets.as_slice(), &e.ty),
-            targets.as_slice(),
-            e,
-            unbuilt(s.line, targets_form(targets.as_slice())),
-            found,
-        ),
-        TStmtKind::Aug(target, op, e, t) => in_update(
-            is_updated(locals, globals, target, *op, t),
-            target,
-            e,
-            unbuilt(s.line, update_form(target, t)),
-            found,
-        ),
-        TStmtKind::If(arms, other) => in_suite(
-            other.as_slice(),
-            locals,
-            globals,
-            in_arms(arms.as_slice(), locals, globals, found),
-        ),
-        TStmtKind::While(test, body) => {
-            in_suite(body.as_slice(), locals, globals, in_expression(test, found))
+        TStmtKind::Assign(targets, e) => {
+            in_expression(e, in_targets(targets.as_slice(), s.line, found))
         }
+        TStmtKind::Aug(target, _, e, _) => in_expression(e, in_target(target, s.line, found)),
+        TStmtKind::If(arms, other) => in_suite(other.as_slice(), in_arms(arms.as_slice(), found)),
+        TStmtKind::While(test, body) => in_suite(body.as_slice(), in_expression(test, found)),
         TStmtKind::Return(e) => in_maybe(e, found),
         TStmtKind::Break | TStmtKind::Continue | TStmtKind::Pass => found,
         TStmtKind::Del(_, _) => Some(lesser(unbuilt(s.line, Form::Del), found)),
-        TStmtKind::ForRange(targets, start, stop, body) => in_suite(
-            body.as_slice(),
-            locals,
-            globals,
-            in_range(
-                is_bound(locals, globals, targets.as_slice(), &stop.ty),
-                start,
-                stop,
-                unbuilt(s.line, targets_form(targets.as_slice())),
-                found,
-            ),
-        ),
-        TStmtKind::ForList(targets, e, body) => in_suite(
-            body.as_slice(),
-            locals,
-            globals,
-            in_part(
-                is_bound(locals, globals, targets.as_slice(), item_type(&e.ty)),
-                e,
-                unbuilt(s.line, targets_form(targets.as_slice())),
-                found,
-            ),
-        ),
+        TStmtKind::ForRange(targets, start, stop, body) => {
+            let found = in_maybe(start, in_targets(targets.as_slice(), s.line, found));
+            in_suite(body.as_slice(), in_expression(stop, found))
+        }
+        TStmtKind::ForList(targets, e, body) => {
+            let found = in_targets(targets.as_slice(), s.line, found);
+            in_suite(body.as_slice(), in_expression(e, found))
+        }
         TStmtKind::ForDict(_, _, _) => Some(lesser(unbuilt(s.line, Form::For), found)),
         TStmtKind::Try(_, _, _) => Some(lesser(unbuilt(s.line, Form::Try), found)),
         TStmtKind::Raise(_) => Some(lesser(unbuilt(s.line, Form::Raise), found)),
@@ -296,27 +202,22 @@ fn in_statement(
 }
 
 #[cycle(statement)]
-fn in_arms(
-    arms: &[(TExpr, Many<TStmt>)],
-    locals: &[Var],
-    globals: &[Var],
-    found: Option<Unbuilt>,
-) -> Option<Unbuilt>
-    ensures { result ≡ least found (arms_forms (map variable locals.now) (map variable globals.now) (arms_of (map typed_arm arms.now))) }
+fn in_arms(arms: &[(TExpr, Many<TStmt>)], found: Option<Unbuilt>) -> Option<Unbuilt>
+    ensures { result ≡ least found (arms_forms (arms_of (map typed_arm arms.now))) }
 {
     let mut found = found;
     for (test, body) in arms {
-        found = in_suite(body.as_slice(), locals, globals, in_expression(test, found));
+        found = in_suite(body.as_slice(), in_expression(test, found));
     }
     found
 }
 
 /// In the body of a function, where the function is compiled; else the function, on the line of its definition.
-fn in_function(f: &TFunc, line: usize, globals: &[Var], found: Option<Unbuilt>) -> Option<Unbuilt>
-    ensures { result ≡ least found (function_forms (map variable globals.now) line (typed_func f.now)) }
+fn in_function(f: &TFunc, line: usize, found: Option<Unbuilt>) -> Option<Unbuilt>
+    ensures { result ≡ least found (function_forms line (typed_func f.now)) }
 {
     if is_function(f) {
-        in_suite(f.body.as_slice(), f.locals.as_slice(), globals, found)
+        in_suite(f.body.as_slice(), found)
     } else {
         Some(lesser(unbuilt(line, function_form(f)), found))
     }
@@ -400,17 +301,12 @@ fn line_of(lines: &[usize], n: usize) -> usize
 }
 
 /// In functions, which stand on these lines by their numbers.
-fn in_functions(
-    lines: &[usize],
-    functions: &[TFunc],
-    globals: &[Var],
-    found: Option<Unbuilt>,
-) -> Option<Unbuilt>
-    ensures { result ≡ least found (functions_forms (map variable globals.now) lines.now 0 (map typed_func functions.now)) }
+fn in_functions(lines: &[usize], functions: &[TFunc], found: Option<Unbuilt>) -> Option<Unbuilt>
+    ensures { result ≡ least found (functions_forms lines.now 0 (map typed_func functions.now)) }
 {
     let mut found = found;
     for (n, f) in functions.iter().enumerate() {
-        found = in_function(f, line_of(lines, n), globals, found);
+        found = in_function(f, line_of(lines, n), found);
     }
     found
 }

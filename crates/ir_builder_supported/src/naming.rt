@@ -2,13 +2,13 @@
 ghost use Rattle.std.specs.Prelude.{◌≡◌, map};
 ghost use Rattle.py_typed.specs.Sorts.{sort};
 ghost use Rattle.py_typed.specs.Expressions.{typed_expr, typed_node, typed_comparison, comparisons_of};
-ghost use Rattle.py_typed.specs.Statements.{typed_target, typed_func, variable};
+ghost use Rattle.py_typed.specs.Statements.{typed_func, variable};
 ghost use Rattle.ir_builder_supported.specs.Forms as spec;
 
 use crate::forms::is_value;
 use ir_builder_forms::{Form, TypeKind, Unbuilt};
 use py_syntax::CmpOp;
-use py_typed::{TExpr, TFunc, TKind, Target, Ty, Var};
+use py_typed::{TExpr, TFunc, TKind, Ty, Var};
 
 /// A form on a line.
 pub(crate) fn unbuilt(line: usize, form: Form) -> Unbuilt
@@ -17,7 +17,8 @@ pub(crate) fn unbuilt(line: usize, form: Form) -> Unbuilt
     Unbuilt { line, form }
 }
 
-fn kind(t: &Ty) -> TypeKind
+/// The kind of a type, by which a form is named that hangs on it.
+pub(crate) fn kind(t: &Ty) -> TypeKind
     ensures { result ≡ spec.kind (sort t.now) }
 {
     match t {
@@ -105,34 +106,6 @@ pub(crate) fn expression_at(e: &TExpr) -> Unbuilt
     ensures { result ≡ spec.expression_at (typed_expr e.now) }
 {
     unbuilt(e.span.line, node_form(e))
-}
-
-/// What is assigned to or updated, where it is no name; else another form.
-fn target_form(target: &Target, other: Form) -> Form
-    ensures { result ≡ spec.target_form (typed_target target.now) other }
-{
-    match target {
-        Target::Local(_) | Target::Global(_) => other,
-        Target::Attr(_, _) => Form::Attribute,
-        Target::At(e, _) => Form::Index(kind(&e.ty)),
-    }
-}
-
-/// What an assignment is called that is not compiled.
-pub(crate) fn targets_form(targets: &[Target]) -> Form
-    ensures { result ≡ spec.targets_form (map typed_target targets.now) }
-{
-    match targets {
-        [target] => target_form(target, Form::SeveralTargets),
-        _ => Form::SeveralTargets,
-    }
-}
-
-/// What an update is called that is not compiled, whose operation is done in this type.
-pub(crate) fn update_form(target: &Target, t: &Ty) -> Form
-    ensures { result ≡ spec.update_form (typed_target target.now) (sort t.now) }
-{
-    target_form(target, Form::Value(kind(t)))
 }
 
 fn variable_form(parameters: usize, v: &Var) -> Form

@@ -1,4 +1,4 @@
-use Rattle.ir_builder_supported.proofs.Common.{◌≡◌, ℕ, ◌+◌, ◌*◌, max, List, map, drop, TStmt, size-TStmt, variable, typed_suite, typed_arm, arms_of, least, suite_forms, arms_forms}
+use Rattle.ir_builder_supported.proofs.Common.{◌≡◌, ℕ, ◌+◌, ◌*◌, max, List, map, drop, TStmt, size-TStmt, typed_suite, typed_arm, arms_of, least, suite_forms, arms_forms}
 use denote.Param.Weighed.{most}
 use Rattle.py_typed.specs.declared.expression.TExpr.{TExpr}
 use Rattle.ir_builder_supported.proofs.lines.+statement.Given as goal
@@ -18,8 +18,8 @@ decreases-in_arms l = most arm_size l.arms.now * 3 + 2
 
 abbrev pub invariant-in_suite-loop-s : goal.invariant-in_suite-loop-s
 invariant-in_suite-loop-s l =
-    least l.found (suite_forms (map variable l.locals) (map variable l.globals) (typed_suite (drop l.s-index l.body))) ≡ least l.fn.found (suite_forms (map variable l.locals) (map variable l.globals) (typed_suite l.body))
+    least l.found (suite_forms (typed_suite (drop l.s-index l.body))) ≡ least l.fn.found (suite_forms (typed_suite l.body))
 
 abbrev pub invariant-in_arms-loop-test : goal.invariant-in_arms-loop-test
 invariant-in_arms-loop-test l =
-    least l.found (arms_forms (map variable l.locals) (map variable l.globals) (arms_of (map typed_arm (drop l.test-index l.arms)))) ≡ least l.fn.found (arms_forms (map variable l.locals) (map variable l.globals) (arms_of (map typed_arm l.arms)))
+    least l.found (arms_forms (arms_of (map typed_arm (drop l.test-index l.arms)))) ≡ least l.fn.found (arms_forms (arms_of (map typed_arm l.arms)))
