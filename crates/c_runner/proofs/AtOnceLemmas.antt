@@ -1,7 +1,8 @@
 -- Calls that are answered at once.
-use Rattle.std.proofs.Common.{◌≡◌, ap, ◌∙◌, ℕ, true, List, [], Option, Some, None}
+use Rattle.std.proofs.Common.{◌≡◌, ap, ◌∙◌, ℕ, Bool, true, false, cond, List, [], Option, Some, None}
 use Rattle.std.specs.Prelude.{ℤ, Result, Ok, Err, IfSome, map}
 use Rattle.std.specs.Option.{option_and_then, option_map}
+use Rattle.value_core.specs.Arithmetic.{is_short}
 use Rattle.c_core.specs.declared.code.CArg.{CArg}
 use Rattle.c_core.specs.declared.code.Code.{Code}
 use Rattle.c_core.specs.declared.fault.Fault.{Fault}
@@ -9,16 +10,18 @@ use Rattle.c_core.specs.declared.fault.Fault.TheVariants as fault
 use Rattle.c_core.specs.declared.primitive.Primitive.TheVariants as prim
 use Rattle.c_core.specs.declared.primitive.Int64Prim.{Int64Prim}
 use Rattle.c_core.specs.declared.primitive.Int64Prim.TheVariants as int64
+use Rattle.c_core.specs.declared.primitive.ListPrim.TheVariants as list
 use Rattle.c_core.specs.declared.primitive.TaggedPrim.{TaggedPrim}
 use Rattle.c_core.specs.declared.primitive.TaggedPrim.TheVariants as tagged
-use Rattle.c_core.specs.Machine.{MachineState, refs_in}
-use Rattle.c_core.specs.Step.{Next, Goes, Effect, Says, applied, called, if_calm, if_some, next_line, primitive_step, with_cells, with_target}
+use Rattle.c_core.specs.Machine as machine
+use Rattle.c_core.specs.Machine.{MachineState, BigInt, ShortInt, refs_in}
+use Rattle.c_core.specs.Step.{Next, Goes, Effect, MakesInt, Says, Shares, applied, called, if_calm, if_some, next_line, primitive_step, tagged_effect, unboxed, with_cells, with_target}
 use Rattle.c_core.proofs.ReleaseLemmas.{release-nothing}
-use Rattle.c_runner_deeds.specs.Deeds.{performed, tagged_done, then_tried, two_done, two_ints}
+use Rattle.c_runner_deeds.specs.Deeds.{list_length_done, performed, tagged_done, then_tried, two_done, two_ints}
 use Rattle.c_runner_deeds.specs.Parts.{int64_effect, two_effect, two_natives}
 use Rattle.c_runner_deeds.specs.States.{Rest, state_of, Seen}
 use Rattle.c_runner_deeds.proofs.CallLemmas.{int64_called}
-use Rattle.c_runner_deeds.proofs.DeedLemmas.{tagged_called}
+use Rattle.c_runner_deeds.proofs.DeedLemmas.{list_called, tagged_called}
 use Rattle.cell_heap.specs.declared.word.Word.{Word}
 use Rattle.cell_heap.specs.Contents.{number_of, word_of}
 
@@ -99,3 +102,18 @@ module _ (rest : Rest) (old : Seen) (code : Code) (x : Option ℕ) (args : List 
   short_called tagged.Le e = short_said tagged.Le (λ f. cc) e
   short_called tagged.Str e = short_said tagged.Str (λ f. cc) e
   short_called tagged.Unbox e = short_said tagged.Unbox (λ f. cc) e
+
+  pub length_called : list_length_done old.cells (map word_of old.top.vars) args ≡ Ok (Says (word_of w)) → called true s code x args (prim.List list.Len) ≡ answered
+  length_called e =
+      calm_on (primitive_step true s code x args (prim.List list.Len))
+      ∙ list_called s x code args list.Len (λ f. cc) (λ f. cc) (λ f. cc) (λ f. cc)
+      ∙ ap (λ d. performed x d s) e
+      ∙ said
+
+-- a short `int` in a cell is its word
+pub unboxed_too : (c : ℕ) (n : ℤ) (w : machine.Word) → tagged_effect n ≡ Says w → unboxed c n ≡ Says w
+unboxed_too c n w e = by (is_short n) e
+  where
+    by : (b : Bool) → cond b (Says (ShortInt n)) (MakesInt n) ≡ Says w → cond b (Says (ShortInt n)) (Shares (BigInt c)) ≡ Says w
+    by true f = f
+    by false f = absurd (cc)

@@ -1,20 +1,24 @@
-//! Calls that are answered at once: of primitives on two numbers that have no cell, native integers or short `int`s, where the answer has
-//! none either. They are most calls of most programs, and need none of what other calls may come to.
+//! Calls that are answered at once, by a word that has no cell: of primitives on two numbers that have none either, native integers or
+//! short `int`s, of the one that finds the `int` in a cell, and of a list's length. They are most calls of most programs, and need none of
+//! what other calls may come to.
 ghost use Rattle.std.specs.Prelude.{◌≡◌, [], ℕ, Option, Some, Ok, map, IfSome, true};
 ghost use Rattle.std.specs.Option.{option_and_then};
 ghost use Rattle.c_core.specs.declared.code.Code as machine_code;
-ghost use Rattle.c_core.specs.Step.{Goes, Says, called, next_line, with_target, native_or, tagged_effect};
-ghost use Rattle.c_runner_deeds.specs.Deeds.{int_at, two_ints, two_done, tagged_done};
+ghost use Rattle.c_core.specs.Step.{Goes, Says, called, next_line, with_target, native_or, tagged_effect, tagged_or, unboxed};
+ghost use Rattle.c_runner_deeds.specs.Deeds.{int_at, list_length_done, one_boxed, then_done, two_ints, two_done, tagged_done};
 ghost use Rattle.c_runner_deeds.specs.Parts.{native_at, two_natives, two_effect};
 ghost use Rattle.c_runner_deeds.specs.States.{Rest, state_of, seen};
 ghost use Rattle.c_runner_deeds.specs.Ours.{maybe_refs};
 ghost use Rattle.cell_heap.specs.Contents.{word_of};
 ghost use Rattle.cell_heap.specs.Numbered.{numbered};
 
-use c_core::{CArg, Int64Prim, Prim, TaggedPrim};
+use c_core::{CArg, Int64Prim, ListPrim, Prim, TaggedPrim};
 use c_runner_deeds::{State, truth};
 use cell_heap::Word;
-use value_core::{Arith, i64_add, i64_floor_div, i64_modulo, i64_mul, i64_sub, is_short};
+use value_core::{
+    Arith, i64_add, i64_floor_div, i64_modulo, i64_mul, i64_sub, int_floor_div, int_modulo,
+    int_mul, is_short,
+};
 
 /// The word that a call of a primitive answers, where the call can be answered at once.
 pub(crate) fn answer_at_once(state: &State, primitive: Prim, args: &[CArg]) -> Option<Word>
@@ -28,7 +32,8 @@ pub(crate) fn answer_at_once(state: &State, primitive: Prim, args: &[CArg]) -> O
     }
     match primitive {
         Prim::Int64(operation) => native_answer(state, operation, args),
-        Prim::Tagged(operation) => short_answer(state, operation, args),
+        Prim::Tagged(operation) => tagged_answer(state, operation, args),
+        Prim::List(ListPrim::Len) => length_answer(state, args),
         _ => None,
     }
 }
@@ -103,6 +108,40 @@ fn native_word(number: Result<i64, Arith>) -> Option<Word>
     }
 }
 
+/// The word that a primitive on `int`s answers, where it is a truth or a short `int`, and so is each `int` that it is called with.
+fn tagged_answer(state: &State, operation: TaggedPrim, args: &[CArg]) -> Option<Word>
+    ensures says { IfSome result (λ word. tagged_done operation (numbered state.now.cells) (map word_of state.now.top.vars) args.now ≡ Ok (Says (word_of word))) }
+    ensures plain { maybe_refs result ≡ [] }
+{
+    match operation {
+        TaggedPrim::Unbox => unboxed_answer(state, args),
+        _ => short_answer(state, operation, args),
+    }
+}
+
+/// The short `int` that stands in a cell, where it is one.
+fn unboxed_answer(state: &State, args: &[CArg]) -> Option<Word>
+    ensures says { IfSome result (λ word. then_done (λ q. unboxed q.0 q.1) (one_boxed (numbered state.now.cells) (map word_of state.now.top.vars) args.now)
+        ≡ Ok (Says (word_of word))) }
+    ensures plain { maybe_refs result ≡ [] }
+{
+    match state.one_boxed(args) {
+        Err(_) => None,
+        Ok((_, n)) => short_word(n),
+    }
+}
+
+/// How many items a list has, where that is a short `int`.
+fn length_answer(state: &State, args: &[CArg]) -> Option<Word>
+    ensures says { IfSome result (λ word. list_length_done (numbered state.now.cells) (map word_of state.now.top.vars) args.now ≡ Ok (Says (word_of word))) }
+    ensures plain { maybe_refs result ≡ [] }
+{
+    match state.one_list(args) {
+        Err(_) => None,
+        Ok((_, items)) => short_word(items.len() as i128),
+    }
+}
+
 /// The word that a primitive on two short `int`s answers, where it is a truth or a short `int` itself.
 fn short_answer(state: &State, operation: TaggedPrim, args: &[CArg]) -> Option<Word>
     ensures says { IfSome result (λ word. tagged_done operation (numbered state.now.cells) (map word_of state.now.top.vars) args.now ≡ Ok (Says (word_of word))) }
@@ -151,10 +190,24 @@ fn of_shorts(operation: TaggedPrim, a: i64, b: i64) -> Option<Word>
     match operation {
         TaggedPrim::Add => short_word(i128::from(a) + i128::from(b)),
         TaggedPrim::Subtract => short_word(i128::from(a) - i128::from(b)),
+        TaggedPrim::Multiply => computed_word(int_mul(i128::from(a), i128::from(b))),
+        TaggedPrim::FloorDivide => computed_word(int_floor_div(i128::from(a), i128::from(b))),
+        TaggedPrim::Remainder => computed_word(int_modulo(i128::from(a), i128::from(b))),
         TaggedPrim::Eq => Some(truth(a == b)),
         TaggedPrim::Lt => Some(truth(a < b)),
         TaggedPrim::Le => Some(truth(a <= b)),
         _ => None,
+    }
+}
+
+/// The word of an `int` that was computed, where it is a short one.
+fn computed_word(number: Result<i128, Arith>) -> Option<Word>
+    ensures says { IfSome result (λ word. tagged_or number ≡ Says (word_of word)) }
+    ensures plain { maybe_refs result ≡ [] }
+{
+    match number {
+        Ok(n) => short_word(n),
+        Err(_) => None,
     }
 }
 

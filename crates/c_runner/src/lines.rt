@@ -1,12 +1,15 @@
 //! Lines that are done at once, one after the other: they take no memory, end no run, and change no more than the place and the variables
 //! of the frame that runs, and the turns that are left.
-ghost use Rattle.std.specs.Prelude.{◌≡◌, [], ◌+◌, ◌^◌, ◌<◌, ◌≤◌, true, cond, Some, map, slice_get, IfSome};
+ghost use Rattle.std.specs.Prelude.{◌≡◌, [], ◌+◌, ◌^◌, ◌<◌, ◌≤◌, true, cond, Some, length, map, slice_get, IfSome};
 ghost use Rattle.std.specs.Option.{option_map, option_and_then};
+ghost use Rattle.c_core.specs.declared.code.CFunc.{CFunc};
+ghost use Rattle.c_core.specs.declared.code.Code as machine_code;
+ghost use Rattle.c_core.specs.declared.code.Line.{Line};
 ghost use Rattle.c_core.specs.Functions.{label_places};
 ghost use Rattle.c_core.specs.Laws.{Reaches};
 ghost use Rattle.c_core.specs.Step as machine_step;
-ghost use Rattle.c_core.specs.Step.{if_calm, step_at, turned};
-ghost use Rattle.c_runner.specs.AtOnce.{Done, Wrote, Went};
+ghost use Rattle.c_core.specs.Step.{if_calm, turned};
+ghost use Rattle.c_runner.specs.AtOnce.{Did, Done, Jumped, Wrote, Went};
 ghost use Rattle.c_runner.specs.AtOnce as at_once;
 ghost use Rattle.c_runner_deeds.specs.Parts.{is_there};
 ghost use Rattle.c_runner_deeds.specs.States.{Rest, state_of, seen};
@@ -39,42 +42,115 @@ pub(crate) fn do_lines(state: &mut State, code: &Code, table: &Tables, most: usi
         let Some(line) = lines.get(state.top.place) else {
             return done;
         };
-        let target = target_at(&table.lines, func, state.top.place);
-        if !do_line(state, code, function, line, target) {
+        let more = do_line(state, code, table, function, line, most - done);
+        if more == 0 {
             return done;
         }
-        done += 1;
+        done += more;
     }
     done
 }
 
-/// Does a line of a function, if it can be done at once, and says whether it did.
-fn do_line(state: &mut State, code: &Code, function: &CFunc, line: &Line, target: Target) -> bool
-    requires place { state.old.top.place + 1 < 2 ^ 64 }
+/// Does a line of a function, if it can be done at once, and with a jump also the label that it leads to, if there may be so many lines.
+/// It says how many it did.
+fn do_line(
+    state: &mut State,
+    code: &Code,
+    table: &Tables,
+    function: &CFunc,
+    line: &Line,
+    most: usize,
+) -> usize
+    requires table { table.now ≡ table_of code.now }
     requires function { slice_get code.now.funcs state.old.top.func ≡ Some function.now }
-    requires target { target ≡ target_of code.now (label_places function.now.lines) line.now }
-    ensures { Done (λ s. step_at true code.now s (Some line.now)) result (seen state.old) (seen state.new) }
+    requires line { slice_get function.now.lines state.old.top.place ≡ Some line.now }
+    requires short { length function.now.lines < 2 ^ 64 }
+    requires most { 1 ≤ most }
+    ensures did { Did code.now result (seen state.old) (seen state.new) }
+    ensures most { result ≤ most }
 {
     match line {
+        Line::Goto(_) => {
+            let target = target_here(state, table);
+            jump(state, target.first, most)
+        }
+        Line::If(x, _, _) => {
+            let target = target_here(state, table);
+            let place = place_chosen(state, *x, target);
+            jump(state, place, most)
+        }
+        Line::IfError(x, _, _) => {
+            let target = target_here(state, table);
+            let place = place_by_error(state, *x, target);
+            jump(state, place, most)
+        }
+        Line::Call(x, _, args) => {
+            let target = target_here(state, table);
+            match target.callee {
+                None => 0,
+                Some(callee) => match callee {
+                    Callee::Primitive(primitive) => {
+                        let word = answer_at_once(state, primitive, args.as_slice());
+                        counted(write(state, *x, word))
+                    }
+                    Callee::Function(_) => 0,
+                },
+            }
+        }
         Line::Move(x, y) => {
             let word = word_there(state, *y);
-            write(state, Some(*x), word)
+            counted(write(state, Some(*x), word))
         }
-        Line::Lit(x, literal) => write(state, Some(*x), literal_word(function, *x, *literal)),
-        Line::Call(x, _, args) => match target.callee {
-            None => false,
-            Some(callee) => match callee {
-                Callee::Primitive(primitive) => {
-                    let word = answer_at_once(state, primitive, args.as_slice());
-                    write(state, *x, word)
-                }
-                Callee::Function(_) => false,
-            },
-        },
-        Line::Turn => spend_turn(state),
-        _ => {
-            let place = place_behind(state, line, target);
-            go_to(state, place)
+        Line::Lit(x, literal) => {
+            let word = literal_word(function, *x, *literal);
+            counted(write(state, Some(*x), word))
+        }
+        Line::Label => {
+            let place = Some(state.top.place + 1);
+            counted(go_to(state, place))
+        }
+        Line::Inc(x) | Line::Dec(x) | Line::XDec(x) => {
+            let place = place_uncounted(state, *x);
+            counted(go_to(state, place))
+        }
+        Line::Turn => counted(spend_turn(state)),
+        Line::Virtual(_, _, _, _) | Line::TraitCall(_, _, _, _, _) | Line::Return(_) => 0,
+    }
+}
+
+/// How many lines were done, where one line was done or not.
+fn counted(is_done: bool) -> usize
+    ensures { result ≡ cond is_done 1 0 }
+{
+    if is_done { 1 } else { 0 }
+}
+
+/// What the next line of the frame's function names.
+fn target_here(state: &State, table: &Tables) -> Target
+    ensures { (code : machine_code.Code) (g : CFunc) (l : Line) → table.now ≡ table_of code →
+        slice_get code.funcs state.now.top.func ≡ Some g → slice_get g.lines state.now.top.place ≡ Some l →
+        result ≡ target_of code (label_places g.lines) l }
+{
+    target_at(&table.lines, state.top.func, state.top.place)
+}
+
+/// Goes on at a place, if there is one, or behind the label there, if there may be two lines. It says how many lines these are.
+fn jump(state: &mut State, place: Option<usize>, most: usize) -> usize
+    requires place { IfSome place (λ q. q + 1 < 2 ^ 64) }
+    requires most { 1 ≤ most }
+    ensures jumped { Jumped place result (seen state.old) (seen state.new) }
+    ensures most { result ≤ most }
+{
+    match place {
+        None => 0,
+        Some(place) => {
+            if most == 1 {
+                state.top.place = place;
+                1
+            } else {
+                state.top.place = place + 1;
+                2
+            }
         }
     }
 }
@@ -148,21 +224,6 @@ fn spend_turn(state: &mut State) -> bool
     state.turns -= 1;
     state.top.place += 1;
     true
-}
-
-/// Where the run goes on behind a line that only leads there.
-fn place_behind(state: &State, line: &Line, target: Target) -> Option<usize>
-    requires { state.now.top.place + 1 < 2 ^ 64 }
-    ensures { result ≡ at_once.place_behind state.now.top.place (map word_of state.now.top.vars) target line.now }
-{
-    match line {
-        Line::Label => Some(state.top.place + 1),
-        Line::Goto(_) => target.first,
-        Line::If(x, _, _) => place_chosen(state, *x, target),
-        Line::IfError(x, _, _) => place_by_error(state, *x, target),
-        Line::Inc(x) | Line::Dec(x) | Line::XDec(x) => place_uncounted(state, *x),
-        _ => None,
-    }
 }
 
 /// The first place of a line where a variable is 1, and the second one where it is 0.
