@@ -70,3 +70,7 @@ def describe(numbers: List[int], text: str) -> None:
     print("mean", mean(numbers, [1, 2, 3]), "spread", spread(numbers))
     name = longest(words_of(text))
     print("none" if name is None else name, common_divisor(12, 18))
+
+
+describe([3, 9, 4, 1], "a list of the longest\twords")
+describe([], "")
