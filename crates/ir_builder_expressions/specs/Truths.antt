@@ -43,8 +43,8 @@ testable_of _ = testable.Scalar
 abbrev pub has_items : Value → Does Bool
 has_items l = with_list l (λ k vs. give (is_filled vs))
 
--- a list is true where it has items, and a tuple always; what may be None is true where it is not None and its value is true; of any other
--- type a value is as true as it is by itself
+-- a list is true where it has items, and a tuple always; of what may be None, None is false, and anything else is as true as a value of
+-- the type under it; of any other type a value is as true as it is by itself
 abbrev pub truth_by : Sort → Value → Does Bool
 truth_by (sort.ListOf t) v = has_items v
 truth_by (sort.TupleOf ts) v = give true

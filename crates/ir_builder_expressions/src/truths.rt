@@ -113,8 +113,8 @@ fn emit_optional_truth(
     Ok(choice.target)
 }
 
-/// The truth of a value of a type: numbers other than 0, and texts and lists that are not empty, are true, tuples always are, and what
-/// may be None is where it is not None and its value is true. Nothing is raised.
+/// The truth of a value of a type: numbers other than 0, and texts and lists that are not empty, are true, and tuples always are. Of what
+/// may be None, None is false, and anything else is as true as a value of the type under it. Nothing is raised.
 pub(crate) fn emit_truth_of(
     b: &mut Emitter,
     alloc: Global,
